@@ -6,4 +6,3 @@ pub mod ImageLaws
 pub mod Past
 pub mod Orders
 pub mod MemDisk
-pub mod FaultlessDisk

@@ -3,13 +3,12 @@
 //! Between two syncs each written range, and the part past the old end, may hold any bytes after a crash; bytes
 //! outside stay. After a sync that succeeds a crash leaves what a read gives. The clauses of the trait `Disk` say so
 //! for each moment of each call. What a disk needs for a write is taken before, by `room`, so a write never runs out
-//! of memory. `MemDisk` is such a disk in memory, which takes orders to stop in a write or to fail in a call;
-//! `FaultlessDisk` takes none. The model of a disk is dtx's own.
+//! of memory. `MemDisk` is such a disk in memory, which takes orders to stop in a write or to fail in a call.
+//! The model of a disk is dtx's own.
 #![tactic(auto)]
 
 mod armable;
 mod disk;
-mod faultless_disk;
 mod mem_disk;
 mod order;
 mod orders;
@@ -19,6 +18,5 @@ mod surface;
 pub use armable::Armable;
 pub use disk::Disk;
 pub use dtx_ports::Failed;
-pub use faultless_disk::FaultlessDisk;
 pub use mem_disk::MemDisk;
 pub use order::{How, Order, Stop};

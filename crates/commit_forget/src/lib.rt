@@ -11,4 +11,4 @@ mod rows;
 pub use commit_point::on_commit_point;
 pub use neighbors::{all_acked, beyond_of, is_beyond, is_neighbor};
 pub use next::{Beyond, Beyonds, Next};
-pub use rows::{is_asked_again, is_mixed, on_ack, on_decision, on_forgotten};
+pub use rows::{is_asked_again, is_mixed, knows_commit, on_ack, on_decision, on_forgotten};

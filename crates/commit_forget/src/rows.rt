@@ -94,7 +94,8 @@ fn known_decision(row: &Standing, known: Decision, decision: Decision) -> Next
     }
 }
 
-fn knows_commit(decision: Option<Decision>) -> bool
+/// Whether it is the decision to commit.
+pub fn knows_commit(decision: Option<Decision>) -> bool
     ensures { result ≡ knows_commit_of decision }
 {
     matches!(decision, Some(Decision::Commit(_)))

@@ -7,9 +7,6 @@ use std::alloc::{AllocError, Global};
 /// The code of ORA-00900, invalid SQL statement.
 pub const INVALID_SQL: u16 = 900;
 
-/// The code of ORA-00001, unique constraint violated.
-pub const UNIQUE_VIOLATED: u16 = 1;
-
 /// The rows that a query found, behind the names of what it asked for.
 pub struct RowSet {
     /// A head for each column, in order.

@@ -24,7 +24,7 @@ mod text_err;
 mod value;
 
 pub use advice::Advice;
-pub use answer::{Answer, Done, INVALID_SQL, Notice, Refusal, RowSet, UNIQUE_VIOLATED};
+pub use answer::{Answer, Done, INVALID_SQL, Notice, Refusal, RowSet};
 pub use duplicate::Duplicate;
 pub use identifier::is_identifier;
 pub use limits::{

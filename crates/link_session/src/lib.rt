@@ -12,7 +12,7 @@ mod opens;
 mod reply;
 
 pub use calls::{Admit, Calls};
-pub use opening::{Opening, Openings};
+pub use opening::Opening;
 pub use opens::Opens;
 pub use reply::ReplyFields;
 

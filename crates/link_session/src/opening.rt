@@ -16,6 +16,3 @@ pub struct Opening {
     /// The commit point strength that Opened told.
     pub strength: u8,
 }
-
-/// The Opens that a node answered since it started, in order.
-pub type Openings = Listing<Opening>;

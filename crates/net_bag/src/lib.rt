@@ -7,7 +7,6 @@
 
 mod bag;
 mod flights;
-mod kind_name;
 mod lose_next;
 mod packet;
 mod parcel;
@@ -16,4 +15,4 @@ mod route;
 pub use bag::{Bag, Sent};
 pub use flights::Numbers;
 pub use lose_next::LoseNext;
-pub use packet::{Fate, Packet, Packets};
+pub use packet::{Fate, Packet};

@@ -2,7 +2,6 @@
 ghost use Rattle.std.specs.Prelude.{◌≡◌};
 ghost use Rattle.net_bag.specs.Net.{is_order_for};
 
-use crate::kind_name::{kind_name, same_kind};
 use std::marker::Model;
 use wire_msg::{KindName, Msg};
 
@@ -30,7 +29,7 @@ impl LoseNext {
     pub(crate) fn fits(&self, msg: &Msg) -> bool
         ensures { result ≡ is_order_for msg.now self.now }
     {
-        same_kind(self.kind, kind_name(&msg.kind))
+        self.kind.is(msg.kind.name())
             && self.from == msg.from.node
             && self.to == msg.to.node
     }

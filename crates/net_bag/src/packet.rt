@@ -31,9 +31,6 @@ pub struct Packet {
     pub fate: Fate,
 }
 
-/// Messages in the order in which they were sent: the first has the number 1.
-pub type Packets = Listing<Packet>;
-
 impl Duplicate for Packet {
     fn copy(&self, alloc: Global) -> Result<Packet, AllocError> {
         let msg = self.msg.copy(alloc)?;

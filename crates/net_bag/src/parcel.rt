@@ -5,7 +5,6 @@ ghost use Rattle.net_bag.specs.Net.{fated, flies as flies_of, goes_over as goes_
 ghost use Rattle.net_bag.specs.Texts.{packet_text};
 
 use crate::Fate;
-use crate::kind_name::kind_name;
 use dtx_values::{Bytes, Listing, Name};
 use std::alloc::{AllocError, Global};
 use std::marker::Model;
@@ -42,7 +41,7 @@ impl Parcel {
     {
         Parcel {
             bytes,
-            kind: kind_name(&msg.kind),
+            kind: msg.kind.name(),
             from: msg.from.node,
             to: msg.to.node,
             fate,

@@ -7,9 +7,9 @@ ghost use Rattle.node_commit.specs.Branches.{at_live};
 
 use crate::leaving::drops;
 use crate::looking::live_of;
-use node_deeds::{Deed, live_told, post, told_kind};
+use node_deeds::{Deed, post};
 use node_memory::Memory;
-use reco::Told;
+use reco::{Told, live_told};
 use std::alloc::{AllocError, Global};
 use tran_ids::BranchId;
 
@@ -27,7 +27,7 @@ pub fn on_ask(
         None => Ok(Deed::nothing(alloc)),
         Some(live) => {
             let told = live_told(live, &from);
-            let says = post(alloc, live.me, from, told_kind(told))?;
+            let says = post(alloc, live.me, from, told.kind())?;
             match told {
                 Told::RollBackFirst => drops(memory, alloc, branch, says),
                 _ => Ok(Deed::saying(alloc, says)),

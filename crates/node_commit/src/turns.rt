@@ -14,6 +14,7 @@ use crate::recovery::on_ask;
 use dtx_values::{Bytes, Listing};
 use node_deeds::{Deed, on_ask_kept, on_commit_point_kept, on_prepare_kept, post};
 use node_memory::Memory;
+use reco::Told;
 use redo_record::Decision;
 use session_tree::Vote;
 use std::alloc::{AllocError, Global};
@@ -219,7 +220,7 @@ pub fn ask_turn(
         Some(_) => on_ask(memory, alloc, &to, from),
         None => match memory.standing_at(&to) {
             Some(row) => on_ask_kept(alloc, row, from),
-            None => answer(memory, alloc, to, from, Kind::RolledBack),
+            None => answer(memory, alloc, to, from, Told::RolledBack.kind()),
         },
     }
 }

@@ -5,10 +5,10 @@ ghost use Rattle.sql_check.specs.Refusals.{dtx};
 ghost use Rattle.sql_check.specs.Words.{one};
 ghost use Rattle.dtx_values.specs.declared.answer.Answer.TheVariants.{Refused};
 ghost use Rattle.node_rules.specs.Sessions.{commit_complete as commit_complete_of, tran_refusal as tran_refusal_of};
-ghost use Rattle.node_rules.specs.Commit.{knows_commit as knows_commit_of};
 ghost use Rattle.node_rules.specs.Client.{given_up_code as given_up_code_of};
 
 use crate::refusals::{of_branch, unanswered};
+use commit_forget::knows_commit;
 use dtx_values::{Answer, Done, Listing};
 use node_rules::{Ended, Finished};
 use redo_record::{Decision, Standing};
@@ -34,12 +34,6 @@ pub fn tran_refusal(alloc: Global, code: u16, root: BranchId) -> Result<Answer, 
     ensures { IfOk result (λ answer. answer ≡ tran_refusal_of code root) }
 {
     Ok(Answer::Refused(of_branch(alloc, code, root)?))
-}
-
-fn knows_commit(decision: Option<Decision>) -> bool
-    ensures { result ≡ knows_commit_of decision }
-{
-    matches!(decision, Some(Decision::Commit(_)))
 }
 
 /// The code of the answer to a COMMIT that is given up at a root that is not live, by the root's row: ORA-02053 where the

@@ -7,8 +7,8 @@ ghost use Rattle.node_deeds.specs.Gives.{Gives};
 
 use crate::Deed;
 use crate::posts::post;
-use crate::recovery::ask_answer;
 use commit_forget::is_asked_again;
+use reco::kept_told;
 use redo_record::{Decision, Standing};
 use std::alloc::{AllocError, Global};
 use tran_ids::BranchId;
@@ -48,10 +48,10 @@ pub fn on_prepare_kept(alloc: Global, row: &Standing, from: BranchId) -> Result<
     }
 }
 
-/// Ask at a kept branch. Fails where memory runs out.
+/// Ask at a kept branch: it tells its neighbours what it knows. Fails where memory runs out.
 pub fn on_ask_kept(alloc: Global, row: &Standing, from: BranchId) -> Result<Deed, AllocError>
     ensures { IfOk result (λ deed. (k : Kept) → Gives (on_ask_kept_of k row.now from) k deed) }
 {
-    let says = post(alloc, row.me, from, ask_answer(row, &from))?;
+    let says = post(alloc, row.me, from, kept_told(row, &from).kind())?;
     Ok(Deed::saying(alloc, says))
 }

@@ -13,7 +13,6 @@ mod kept;
 mod posts;
 mod prepare;
 mod records;
-mod recovery;
 mod refusals;
 mod replying;
 mod sending;
@@ -28,7 +27,6 @@ pub use kept::{on_ask_kept, on_commit_point_kept, on_prepare_kept};
 pub use posts::{post, to_each, to_one};
 pub use prepare::{abandon_says, drop_says, prepares, to_children};
 pub use records::{decided_record, sealed_record};
-pub use recovery::{live_told, told_kind};
 pub use refusals::{BRANCH_GONE, NO_ANSWER, needs_rollback, nothing_to_purge};
 pub use replying::{
     gone_reply, heard_answer, is_gone, opened_says, replies, reply_fields, says_again,

@@ -2,7 +2,6 @@
 ghost use Rattle.std.specs.Prelude.{◌≡◌, ◌≤◌, ◌<◌, ◌^◌, length, IfOk};
 ghost use Rattle.std.specs.Option.{option_copied};
 ghost use Rattle.dtx_values.specs.Limits.{branch_limit};
-ghost use Rattle.session_tree.specs.Tree.{count as count_of};
 ghost use Rattle.node_rules.specs.Calls.{reply_fields as reply_fields_of, replies as replies_of, opened_says as opened_says_of, says_again as says_again_of, gone_reply as gone_reply_of, is_gone as is_gone_of, heard_answer as heard_answer_of};
 ghost use Rattle.node_deeds.specs.Gives.{branch_with};
 
@@ -12,23 +11,10 @@ use dtx_values::{Answer, Duplicate, Listing, Name};
 use link_session::{Opening, ReplyFields};
 use node_rules::Work;
 use reco::Posts;
-use session_tree::{Live, weight};
+use session_tree::{Live, count, weight};
 use std::alloc::{AllocError, Global};
 use tran_ids::BranchId;
 use wire_msg::Kind;
-
-// The branches of the subtree, as far as Replies have told.
-fn count(live: &Live) -> usize
-    requires { length live.now.edges ≤ branch_limit }
-    ensures { result ≡ count_of live.now }
-{
-    let edges = live.edges.as_slice();
-    let mut total = 1;
-    for edge in edges {
-        total += usize::from(edge.count);
-    }
-    total
-}
 
 /// What a Reply of a live branch says with this answer: the branch's weight, and the branches of its subtree.
 pub fn reply_fields(live: &Live, answer: Answer) -> ReplyFields

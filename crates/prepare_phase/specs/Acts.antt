@@ -130,9 +130,3 @@ after_answer_in l from v _ = l
 -- the branch from then on
 unfoldable pub after_answer : Live → BranchId → Vote → Live
 after_answer l from v = after_answer_in l from v l.phase
-
--- ---- the COMMIT is given up
-
--- a live root rolls back; no other branch has a COMMIT of its own
-abbrev pub give_up_act : Live → Act
-give_up_act l = if is_none l.parent then acts.Abandon else acts.Rest

@@ -9,6 +9,6 @@ mod prepares;
 mod records;
 
 pub use asked::{Asked, AskedChildren};
-pub use phase::{give_up, on_answer, on_prepare};
+pub use phase::{on_answer, on_prepare};
 pub use prepares::asked_by;
 pub use records::{decided_of, is_alone, sealed_of, site_neighbors};

@@ -2,7 +2,7 @@
 ghost use Rattle.std.specs.Prelude.{◌≡◌, ◌≤◌, length, map};
 ghost use Rattle.std.specs.List.{list_any};
 ghost use Rattle.dtx_values.specs.Limits.{branch_limit};
-ghost use Rattle.prepare_phase.specs.Acts.{root_act as root_act_of, collected_act, after_act, with_prepare_sent, collecting, first_act as first_act_of, prepare_act, after_prepare, is_awaited as is_awaited_of, all_answered as all_answered_of, answer_act as answer_act_of, answers_first as answers_first_of, is_first_answer as is_first_answer_of, has_voted, voted, heard_act, after_answer, give_up_act};
+ghost use Rattle.prepare_phase.specs.Acts.{root_act as root_act_of, collected_act, after_act, with_prepare_sent, collecting, first_act as first_act_of, prepare_act, after_prepare, is_awaited as is_awaited_of, all_answered as all_answered_of, answer_act as answer_act_of, answers_first as answers_first_of, is_first_answer as is_first_answer_of, has_voted, voted, heard_act, after_answer};
 
 use dtx_values::Listing;
 use session_tree::{Act, Edge, Live, Phase, Vote, Walk, step, weight};
@@ -46,17 +46,6 @@ pub fn on_answer(alloc: Global, live: &mut Live, from: &BranchId, vote: Vote) ->
             act
         }
         _ => Act::Rest,
-    }
-}
-
-/// What a live branch does whose COMMIT is given up: a root rolls back, since nobody has decided while it is live.
-pub fn give_up(live: &Live) -> Act
-    ensures { result ≡ give_up_act live.now }
-{
-    if live.parent.is_none() {
-        Act::Abandon
-    } else {
-        Act::Rest
     }
 }
 

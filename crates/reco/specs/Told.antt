@@ -1,8 +1,7 @@
 -- What a branch answers one that asks for the decision. (Database Administrator's Guide, "Distributed Transactions
 -- Concepts": automatic resolution of in-doubt transactions, the recoverer process RECO.)
-use Rattle.std.specs.Prelude.{if◌then◌else◌, List, Option, Some, None}
+use Rattle.std.specs.Prelude.{if◌then◌else◌, Option, Some, None}
 use Rattle.tran_ids.specs.declared.branch.BranchId.{BranchId}
-use Rattle.tran_ids.specs.Listed.{item_at}
 use Rattle.redo_record.specs.declared.decision.Decision.{Decision}
 use Rattle.redo_record.specs.declared.decision.Decision.TheVariants as decisions
 use Rattle.redo_record.specs.declared.durable.Standing.{Standing}
@@ -27,16 +26,6 @@ kept_told s from = if is_neighbor s from then told_by s.decision else tolds.Roll
 -- a live branch that its parent asks rolls back; another that asks hears that nothing is known
 abbrev pub live_told : Live → BranchId → Told
 live_told l from = if is_branch from l.parent then tolds.RollBackFirst else tolds.InDoubt
-
--- a branch that is live, kept or gone
-abbrev pub told_where : Option Live → Option Standing → BranchId → Told
-told_where (Some l) s from = live_told l from
-told_where None (Some s) from = kept_told s from
-told_where None None from = tolds.RolledBack
-
--- what a node tells of one of its branches
-unfoldable pub told : List Standing → List Live → BranchId → BranchId → Told
-told kept lives to from = told_where (item_at (λ l. l.me) lives to) (item_at (λ s. s.me) kept to) from
 
 -- the message that tells it
 abbrev pub told_kind : Told → Kind

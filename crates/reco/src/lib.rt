@@ -8,7 +8,7 @@ mod post;
 mod recovery;
 mod told;
 
-pub use answers::on_ask;
+pub use answers::{kept_told, live_told};
 pub use asking::{Asking, Askings};
 pub use post::{Post, Posts};
 pub use recovery::asks;

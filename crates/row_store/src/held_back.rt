@@ -122,13 +122,6 @@ impl HeldBack {
         self.used
     }
 
-    /// Whether a branch is in doubt.
-    pub(crate) fn has(&self, branch: &BranchId) -> bool
-        ensures { result ≡ is_in_doubt self.now branch.now }
-    {
-        self.doubts.contains_key(branch)
-    }
-
     /// Adds a branch with its changes behind the others.
     pub(crate) fn push(&mut self, branch: &BranchId, changes: HeldChanges) -> Result<(), AllocError>
         requires { is_in_doubt self.old branch.now ≡ false }

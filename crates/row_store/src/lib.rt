@@ -24,6 +24,6 @@ mod store_err;
 mod table_places;
 
 pub use lengths::{changes_len, extents};
-pub use pending::{ChangeSet, ChangeSets, Doubt, Doubts, Owned, OwnedList};
+pub use pending::{ChangeSet, ChangeSets, Doubt, Owned};
 pub use store::Store;
 pub use store_err::StoreErr;

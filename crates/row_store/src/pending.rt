@@ -41,9 +41,6 @@ impl Drop for Owned {
     }
 }
 
-/// The changes of all live branches, in order of each branch's first.
-pub type OwnedList = Listing<Owned>;
-
 /// What a branch in doubt holds back.
 pub struct Doubt {
     /// The branch.
@@ -65,6 +62,3 @@ impl Drop for Doubt {
         drop(undo);
     }
 }
-
-/// The branches in doubt, in the order in which they were sealed.
-pub type Doubts = Listing<Doubt>;

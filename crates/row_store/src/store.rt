@@ -232,13 +232,6 @@ impl Store {
         self.doubts.push(branch, HeldChanges::of(made))
     }
 
-    /// Whether a branch is in doubt.
-    pub fn is_in_doubt(&self, branch: &BranchId) -> bool
-        ensures { result ≡ is_in_doubt_of self.now.doubts branch.now }
-    {
-        self.doubts.has(branch)
-    }
-
     /// Makes the changes of a branch in doubt, which is then in doubt no longer. Nothing where it is not in doubt.
     pub fn commit_doubt(&mut self, branch: &BranchId)
         ensures { self.new ≡ doubt_committed self.old branch.now }

@@ -1,6 +1,5 @@
 //! The messages of a run, each with its end.
 ghost use Rattle.std.specs.Prelude.{◌≡◌, ◌<◌, ◌^◌, ◌++◌, ◌∷◌, IfOk, OnOk};
-ghost use Rattle.wire_msg.specs.Names.{name_of_kind};
 ghost use Rattle.run_marks.specs.Data.ends;
 ghost use Rattle.run_marks.specs.Rows.{rows_of};
 ghost use Rattle.run_marks.specs.Marks.{sent_arrow, with_sent, with_end, ended, with_taken, arrows_after, is_flying, flying_in, shown_from, arrows_of, rows_with_flights};
@@ -12,37 +11,12 @@ use book::{Happening, Took, Turn};
 use std::alloc::{AllocError, Global};
 use wire_msg::{Kind, KindName, Msg};
 
-/// The name of a message's kind.
-pub(crate) fn kind_name(kind: &Kind) -> KindName
-    ensures { result ≡ name_of_kind kind.now }
-{
-    match kind {
-        Kind::Open { .. } => KindName::Open,
-        Kind::Opened { .. } => KindName::Opened,
-        Kind::Exec { .. } => KindName::Exec,
-        Kind::Reply { .. } => KindName::Reply,
-        Kind::Prepare { .. } => KindName::Prepare,
-        Kind::Prepared => KindName::Prepared,
-        Kind::ReadOnly => KindName::ReadOnly,
-        Kind::Ready => KindName::Ready,
-        Kind::Abort => KindName::Abort,
-        Kind::CommitPoint => KindName::CommitPoint,
-        Kind::Committed { .. } => KindName::Committed,
-        Kind::RolledBack => KindName::RolledBack,
-        Kind::InDoubt => KindName::InDoubt,
-        Kind::Ack => KindName::Ack,
-        Kind::Forgotten => KindName::Forgotten,
-        Kind::Rollback => KindName::Rollback,
-        Kind::Ask => KindName::Ask,
-    }
-}
-
 fn arrow(number: u64, row: u32, msg: &Msg) -> Arrow
     ensures { result ≡ record { number = number; kind = name_of_kind msg.now.kind; from = msg.now.from.node; to = msg.now.to.node; sent = row; end = ends.InFlight row } }
 {
     Arrow {
         number,
-        kind: kind_name(&msg.kind),
+        kind: msg.kind.name(),
         from: msg.from.node,
         to: msg.to.node,
         sent: row,

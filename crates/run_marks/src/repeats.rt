@@ -2,7 +2,6 @@
 ghost use Rattle.std.specs.Prelude.{◌≡◌, ◌++◌, OnOk};
 ghost use Rattle.run_marks.specs.Marks.{repeat_of, repeats_in, repeats_after};
 
-use crate::arrows::kind_name;
 use crate::mark::Repeat;
 use crate::walk::Marked;
 use book::{Happening, Took};
@@ -14,7 +13,7 @@ fn repeat(row: u32, number: u64, msg: &Msg) -> Repeat
 {
     Repeat {
         number,
-        kind: kind_name(&msg.kind),
+        kind: msg.kind.name(),
         from: msg.from.node,
         to: msg.to.node,
         row,

@@ -6,11 +6,9 @@
 mod act;
 mod edge;
 mod live;
-mod site_walk;
 mod tree;
 
 pub use act::{Act, Walk};
 pub use edge::{Edge, Edges, Vote};
 pub use live::{Live, Lives, Phase};
-pub use site_walk::site;
-pub use tree::{add_edge, room, step, weight};
+pub use tree::{add_edge, count, room, step, weight};

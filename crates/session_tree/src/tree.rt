@@ -67,8 +67,8 @@ pub fn step(live: &Live) -> Walk
     }
 }
 
-// The branches of the subtree, as far as Replies have told.
-fn count(live: &Live) -> usize
+/// The branches of the subtree, as far as Replies have told.
+pub fn count(live: &Live) -> usize
     requires { length live.now.edges ≤ branch_limit }
     ensures { result ≡ count_of live.now }
 {

@@ -88,11 +88,12 @@ fn is_among<C: Called>(item: &C, others: &[C]) -> bool
 pub(crate) fn are_distinct<C: Called>(items: &[C]) -> bool
     ensures { result ≡ names.are_distinct C.called items.now }
 {
-    for index in 0..items.len() {
-        let (_, others) = items.split_at(index + 1);
-        if is_among(&items[index], others) {
+    let mut rest = items;
+    while let [first, others @ ..] = rest {
+        if is_among(first, others) {
             return false;
         }
+        rest = others;
     }
     true
 }

@@ -1,5 +1,4 @@
 pub mod BranchLemmas
 pub mod ListedLemmas
 pub mod NumberLemmas
-pub mod TextLemmas
 pub mod NumberedLemmas

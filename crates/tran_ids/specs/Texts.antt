@@ -1,8 +1,7 @@
 -- How ids are printed: LOCAL_TRAN_ID and GLOBAL_TRAN_ID of DBA_2PC_PENDING. (Database Administrator's Guide,
 -- "Managing Distributed Transactions", on viewing information about distributed transactions. What the numbers in an
 -- id mean is dtx's own.)
-use Rattle.std.specs.Prelude.{ℕ, ◌+◌, ◌-◌, ◌==◌, List, [], ◌++◌, codes, take, drop, position, slice_get, unwrap_or, Option}
-use Rattle.std.specs.Option.{option_map}
+use Rattle.std.specs.Prelude.{ℕ, ◌-◌, List, [], ◌++◌, codes, slice_get, unwrap_or}
 use Rattle.tran_ids.specs.declared.branch.BranchId.{BranchId}
 use Rattle.tran_ids.specs.Numbers.{decimal, hex8}
 
@@ -21,7 +20,3 @@ name_of names node = unwrap_or (slice_get names (node - 1)) []
 -- the global id: the root's node by name and by number, and the root's local id
 abbrev pub global_text : List (List ℕ) → BranchId → List ℕ
 global_text names root = name_of names root.node ++ codes "." ++ hex8 root.node ++ codes "." ++ local_text root
-
--- what stands before the first dot and what stands after it, where there is a dot
-abbrev pub cut_of : List ℕ → Option (List ℕ × List ℕ)
-cut_of bytes = option_map (λ dot. (take dot bytes, drop (dot + 1) bytes)) (position (λ b. b == 46) bytes)

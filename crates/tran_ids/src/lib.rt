@@ -1,5 +1,5 @@
 //! The ids of branches and transactions, their texts, and the clock that numbers commits. Calls fail where memory
-//! runs out and for no other reason; [`read_local`] takes no memory.
+//! runs out and for no other reason.
 #![tactic(auto)]
 
 mod branch;
@@ -9,5 +9,5 @@ mod texts;
 pub use branch::BranchId;
 pub use clock::Clock;
 pub use texts::{
-    global_text, hex_digit, local_text, node_name, put_decimal, put_global, put_local, read_local,
+    global_text, hex_digit, local_text, node_name, put_decimal, put_global, put_local,
 };

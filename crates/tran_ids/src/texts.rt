@@ -1,9 +1,8 @@
 //! The texts of ids: the local id of a branch, and the global id of a transaction, which names its root.
-ghost use Rattle.std.specs.Prelude.{◌≡◌, ℕ, ◌<◌, ◌^◌, ◌++◌, Some, IfOk, IfSome, OnOk};
+ghost use Rattle.std.specs.Prelude.{◌≡◌, ◌<◌, ◌++◌, IfOk, OnOk};
 ghost use Rattle.std.specs.Io.{StartsWith};
-ghost use Rattle.std.specs.Option.{option_map};
 ghost use Rattle.tran_ids.specs.Numbers.{decimal, hex8, hex_digit as hex_digit_of};
-ghost use Rattle.tran_ids.specs.Texts.{local_of, local_text as local_text_of, name_of, global_text as global_text_of, cut_of};
+ghost use Rattle.tran_ids.specs.Texts.{local_text as local_text_of, name_of, global_text as global_text_of};
 
 use crate::BranchId;
 use dtx_values::{Bytes, Listing, Name};
@@ -102,45 +101,4 @@ pub fn hex_digit(digit: u8) -> u8
     } else {
         b'a' - 10 + digit
     }
-}
-
-/// The boot, session and seq of a local id, or nothing where the text is the local id of no branch. So a number with
-/// a sign or a leading zero gives nothing.
-pub fn read_local(text: &[u8]) -> Option<(u32, u32, u32)>
-    ensures exact { IfSome result (λ id. local_of id.0 id.1 id.2 ≡ text.now) }
-    ensures all { (boot session seq : ℕ) → boot < 2 ^ 32 → session < 2 ^ 32 → seq < 2 ^ 32
-        → local_of boot session seq ≡ text.now → result ≡ Some (boot, session, seq) }
-{
-    let (boot, behind) = cut(text)?;
-    let (session, seq) = cut(behind)?;
-    Some((read_number(boot)?, read_number(session)?, read_number(seq)?))
-}
-
-// What stands before the first dot, and what stands after it.
-fn cut(text: &[u8]) -> Option<(&[u8], &[u8])>
-    ensures { option_map (λ parts. (parts.0.now, parts.1.now)) result ≡ cut_of text.now }
-{
-    let dot = text.iter().position(|byte| *byte == b'.')?;
-    let (front, _) = text.split_at(dot);
-    let (_, behind) = text.split_at(dot + 1);
-    Some((front, behind))
-}
-
-// The number that these digits write, in the one way that it is written.
-fn read_number(digits: &[u8]) -> Option<u32>
-    ensures exact { IfSome result (λ number. decimal number ≡ digits.now) }
-    ensures all { (number : ℕ) → number < 2 ^ 32 → decimal number ≡ digits.now → result ≡ Some number }
-{
-    let number = parsed(digits)?;
-    // A sign or a leading zero would not be written again.
-    if written(&mut Buffer::new(), u64::from(number)) != digits {
-        return None;
-    }
-    Some(number)
-}
-
-fn parsed(digits: &[u8]) -> Option<u32>
-    ensures { (number : ℕ) → number < 2 ^ 32 → decimal number ≡ digits.now → result ≡ Some number }
-{
-    std::str::from_utf8(digits).ok()?.parse().ok()
 }

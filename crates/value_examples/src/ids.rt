@@ -1,7 +1,7 @@
 //! The texts of ids, and the clock, by examples.
 use dtx_values::{Name, NameErr};
 use std::alloc::{AllocError, Global};
-use tran_ids::{BranchId, Clock, global_text, local_text, read_local};
+use tran_ids::{BranchId, Clock, global_text, local_text};
 
 const BRANCH: BranchId = BranchId {
     node: 1,
@@ -45,33 +45,6 @@ fn texts_are_written(rt: HostRuntime) {
     assert!(rt; is_local(alloc, &BRANCH, b"1.65.1") == Ok(true));
     assert!(rt; is_global_at_hq(alloc, b"HQ.00000001.1.65.1") == Ok(true));
     assert!(rt; is_global(alloc, &[], &NAMELESS, b".000000ff.4294967295.64.10") == Ok(true));
-}
-
-/// Texts, each with the numbers that it spells if it is a local text.
-const LOCAL_TEXTS: [(&[u8], Option<(u32, u32, u32)>); 11] = [
-    (b"1.65.1", Some((1, 65, 1))),
-    (b"0.4294967295.10", Some((0, 4294967295, 10))),
-    (b"", None),
-    (b"1.65", None),
-    (b"01.65.1", None),
-    (b"+1.65.1", None),
-    (b"1.65.1.", None),
-    (b"1..1", None),
-    (b"1.65.4294967296", None),
-    (b"1.65. 1", None),
-    (b"1.65.1a", None),
-];
-
-/// Whether the text spells these numbers, or is no local text where there are none.
-fn spells(text: &[u8], numbers: Option<(u32, u32, u32)>) -> bool {
-    read_local(text) == numbers
-}
-
-#[test]
-fn local_texts_are_read(rt: HostRuntime) {
-    for (text, numbers) in LOCAL_TEXTS {
-        assert!(rt; spells(text, numbers));
-    }
 }
 
 /// What a clock says first, after it met 7 and then 3, and next.

@@ -1,6 +1,6 @@
 //! The kinds of messages. The guide has the phases prepare, commit and forget; the messages are dtx's own.
 ghost use Rattle.std.specs.Prelude.{◌≡◌};
-ghost use Rattle.wire_msg.specs.Names.{kind_text};
+ghost use Rattle.wire_msg.specs.Names.{kind_text, name_of_kind, place_of_kind, same_kind};
 
 use dtx_values::{Advice, Answer, Bytes, Duplicate};
 use sql_statement::Stmt;
@@ -120,6 +120,38 @@ impl Drop for Kind {
 }
 
 impl KindName {
+    /// Whether two names are the same.
+    pub fn is(self, other: KindName) -> bool
+        ensures { result ≡ same_kind self other }
+    {
+        self.place() == other.place()
+    }
+
+    // Where it stands in the list of kinds.
+    fn place(self) -> u8
+        ensures { result ≡ place_of_kind self }
+    {
+        match self {
+            KindName::Open => 1,
+            KindName::Opened => 2,
+            KindName::Exec => 3,
+            KindName::Reply => 4,
+            KindName::Prepare => 5,
+            KindName::Prepared => 6,
+            KindName::ReadOnly => 7,
+            KindName::Ready => 8,
+            KindName::Abort => 9,
+            KindName::CommitPoint => 10,
+            KindName::Committed => 11,
+            KindName::RolledBack => 12,
+            KindName::InDoubt => 13,
+            KindName::Ack => 14,
+            KindName::Forgotten => 15,
+            KindName::Rollback => 16,
+            KindName::Ask => 17,
+        }
+    }
+
     /// The name as it is printed.
     pub fn text(self) -> &'static [u8]
         ensures { result.now ≡ kind_text self }
@@ -237,5 +269,32 @@ pub enum KindName {
 impl Duplicate for KindName {
     fn copy(&self, _alloc: Global) -> Result<KindName, AllocError> {
         Ok(*self)
+    }
+}
+
+impl Kind {
+    /// The name of the kind.
+    pub fn name(&self) -> KindName
+        ensures { result ≡ name_of_kind self.now }
+    {
+        match self {
+            Kind::Open { .. } => KindName::Open,
+            Kind::Opened { .. } => KindName::Opened,
+            Kind::Exec { .. } => KindName::Exec,
+            Kind::Reply { .. } => KindName::Reply,
+            Kind::Prepare { .. } => KindName::Prepare,
+            Kind::Prepared => KindName::Prepared,
+            Kind::ReadOnly => KindName::ReadOnly,
+            Kind::Ready => KindName::Ready,
+            Kind::Abort => KindName::Abort,
+            Kind::CommitPoint => KindName::CommitPoint,
+            Kind::Committed { .. } => KindName::Committed,
+            Kind::RolledBack => KindName::RolledBack,
+            Kind::InDoubt => KindName::InDoubt,
+            Kind::Ack => KindName::Ack,
+            Kind::Forgotten => KindName::Forgotten,
+            Kind::Rollback => KindName::Rollback,
+            Kind::Ask => KindName::Ask,
+        }
     }
 }
