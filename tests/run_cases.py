@@ -17,11 +17,13 @@ what is expected, and has the status 0 too; it asks for the book where the last 
 line. The last line is `N passed, M failed`; the exit status is 1 where one failed.
 """
 
+import os
 import pathlib
 import re
 import subprocess
 import sys
 import tempfile
+from concurrent.futures import ThreadPoolExecutor
 from typing import NamedTuple
 
 from runs import TOP, proved
@@ -97,19 +99,33 @@ def why_said(line, case):
     return None if f" run=ended status={case.status} " in line and " output=expected " in line else line
 
 
-def unproved():
-    """Each case with what is wrong with it on the sources, which are built once and not proved, or None."""
-    listed = list(cases())
+def tried(listed):
+    """Each of these cases with what is wrong with it on the sources, which are built once and not proved, or None."""
     with tempfile.TemporaryDirectory() as folder:
         for place, case in enumerate(listed):
             put_case(pathlib.Path(folder), place, case)
-        # (on an interpreter, where `rt try` runs each case too, it would take seconds)
-        words = ["rt", "try", "--steps", "1", "--cases", folder]
+        # (--steps: no interpreter, on which `rt try` runs a program too, can run this one)
+        words = ["rt", "try", "--steps", "0", "--cases", folder]
         done = subprocess.run(words, cwd=TOP / "crates/dtx", capture_output=True, text=True, errors="replace")
     said = {int(line[1]): line[0] for line in RAN.finditer(done.stderr)}
     if not said:
         sys.exit(f"`rt try` ran no case:\n{done.stdout}{done.stderr}")
     return [(case, why_said(said.get(place, "not run"), case)) for place, case in enumerate(listed)]
+
+
+def builds():
+    """How many builds there are, each with its share of the cases: a case takes `rt try` most of a second. A build takes two
+    processors for a minute, and up to 5 GB."""
+    free = int(re.search(r"MemAvailable: *([0-9]+)", pathlib.Path("/proc/meminfo").read_text())[1]) // 1024**2
+    return max(1, min(os.cpu_count() // 2, free // 5))
+
+
+def unproved():
+    """Each case with what is wrong with it on the sources, or None."""
+    listed, count = list(cases()), builds()
+    with ThreadPoolExecutor(count) as pool:
+        shares = pool.map(tried, [listed[first::count] for first in range(count)])
+    return [ran for share in shares for ran in share]
 
 
 def main(words):
