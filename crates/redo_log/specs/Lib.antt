@@ -3,4 +3,6 @@ pub mod Log
 pub mod Gates
 pub mod Loads
 pub mod Plans
+pub mod Runs
+pub mod Calls
 pub mod Stands
