@@ -5,8 +5,8 @@
     docs/definitions.py            all definitions, a line each: file and line, name, comment
     docs/definitions.py --reach    the files that the theorem reaches, with the comment at the head of each
     docs/definitions.py --check    exits with 1 where a document links to a file that is not there, READING.md does not link to a
-                                   file that the theorem reaches, or MESSAGES.md names a definition that is not there; each is a
-                                   line, and the last line counts them
+                                   file that the theorem reaches, MESSAGES.md names a definition that is not there, or PROVED.md
+                                   a clause that its crate has not; each is a line, and the last line counts them
 
 The theorem is the contract of run_script (crates/script_run/src/run.rt). It reaches the definitions that the contract names,
 and those that these name in turn.
@@ -204,9 +204,27 @@ def unknown():
                     yield f"docs/MESSAGES.md: {crate} has no definition {name}"
 
 
+@functools.cache
+def words_of(crate):
+    """The words in the files of a crate."""
+    return {word for path in (CRATES / crate).rglob("*.*t") if "out" not in path.parts for word in re.findall(r"\w+", path.read_text())}
+
+
+def stale():
+    """Each name of a clause, in the last column of PROVED.md, that stands in no file of its row's crates."""
+    crates = []
+    for line in (DOCS / "PROVED.md").read_text().splitlines():
+        cells = [cell.strip() for cell in line.strip("|").split(" |")] if line.startswith("| ") else []
+        named = [name.strip() for name in cells[0].split(",")] if cells else []
+        crates = [name for name in named if (CRATES / name).is_dir()] or (crates if named == [""] else [])
+        for clause in re.findall(r"`(\w+)`", cells[-1]) if crates else []:
+            if not any(clause in words_of(crate) for crate in crates):
+                yield f"docs/PROVED.md: {', '.join(crates)} has no {clause}"
+
+
 def check():
     """Prints what is wrong with the documents."""
-    wrong = [*wrong_links(), *unlisted(), *unknown()]
+    wrong = [*wrong_links(), *unlisted(), *unknown(), *stale()]
     print(*wrong, f"{len(wrong)} links and names are missing or lead nowhere", sep="\n")
     return 1 if wrong else 0
 
