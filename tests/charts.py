@@ -3,9 +3,9 @@
 
     tests/charts.py [--make] [PROGRAM]
 
-PROGRAM is the proved dtx-chart where it is left out. With --make the pictures are written anew. Each
-picture has to be well-formed XML in printable ASCII. Each failure is one line. The last line is `N passed, M failed`; the exit
-status is 1 where one failed.
+PROGRAM is the proved dtx-chart where it is left out. With --make the pictures are written anew. Each picture has to be
+well-formed XML in printable ASCII. Each failure is one line. The last line is `N passed, M failed`; the exit status is 1 where
+one failed.
 """
 
 import subprocess
