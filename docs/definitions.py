@@ -1,7 +1,8 @@
 #!/usr/bin/env python3
 """Finds definitions: what stands in the specs/ of crates, in whose words contracts are written.
 
-    docs/definitions.py NAME       each definition of that name: file and line, its comment, and which files cite it
+    docs/definitions.py NAME       each definition of that name: file and line, its comment, and which files cite it; and each
+                                   function and lemma of that name
     docs/definitions.py            all definitions, a line each: file and line, name, comment
     docs/definitions.py --reach    the files that the theorem reaches, with the comment at the head of each
     docs/definitions.py --check    exits with 1 where a document links to a file that is not there, READING.md does not link to a
@@ -16,6 +17,7 @@ import functools
 import pathlib
 import re
 import sys
+from itertools import takewhile
 from typing import NamedTuple
 
 DOCS = pathlib.Path(__file__).resolve().parent
@@ -151,16 +153,33 @@ def head_of(crate, module):
     return re.match(r".*?\.(?= |$)|.*", text)[0]
 
 
+def others(name):
+    """Each function and lemma of a name: its file and line, and the comment above it."""
+    is_function = re.compile(rf"\s*(?:pub )?fn {re.escape(name)}\b").match
+    is_above = re.compile(r"\s*(?:--|//|#\[)").match
+    is_lemma = re.compile(rf"(?:pub |abbrev |unfoldable )*{re.escape(name)} : ").match
+    for pattern, is_it in (("*/src/**/*.rt", is_function), ("*/proofs/**/*.antt", is_lemma)):
+        for path in sorted(CRATES.glob(pattern)):
+            lines = path.read_text().splitlines()
+            for place in [place for place, line in enumerate(lines) if is_it(line)]:
+                above = [line.strip() for line in takewhile(is_above, lines[:place][::-1])]
+                said = [line.lstrip("-/ ") for line in above[::-1] if not line.startswith("#[")]
+                yield f"{path.relative_to(TOP)}:{place + 1}", " ".join(said)
+
+
 # ---- commands
 
 
 def show(name):
-    """Prints each definition of a name."""
+    """Prints each definition, function and lemma of a name."""
     found = [it for crate, module, _ in specs() for it in definitions_in(crate, module) if it.name == name]
     for definition in found:
         print(f"{definition.place()}\n  {definition.comment or '(no comment)'}")
         print(*(f"    {path}" for path in cited_by(definition)), sep="\n")
-    return 0 if found else 1
+    beside = list(others(name))
+    for place, comment in beside:
+        print(f"{place}\n  {comment or '(no comment)'}")
+    return 0 if found or beside else 1
 
 
 def show_all():
