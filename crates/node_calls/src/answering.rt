@@ -2,7 +2,7 @@
 //! call.
 ghost use Rattle.std.specs.Prelude.{◌≡◌, None, Some, [], ◌∷◌, IfOk, OnOk};
 ghost use Rattle.node_rules.specs.declared.session.PendingCall.TheVariants as pending;
-ghost use Rattle.node_rules.specs.Kept.{branch_at, no_work as no_work_of};
+ghost use Rattle.node_rules.specs.Kept.{branch_at};
 ghost use Rattle.node_rules.specs.Calls.{answered, replies as replies_of};
 ghost use Rattle.node_rules.specs.Sessions.{with_call};
 ghost use Rattle.node_state.specs.Works.{answered_with, change_work, work_of};
@@ -10,12 +10,12 @@ ghost use Rattle.node_deeds.specs.Gives.{Gives, branch_with};
 ghost use Rattle.node_memory.specs.Parts.{kept_in};
 ghost use Rattle.node_calls.specs.Handled.{at_live, HasFew};
 
-use dtx_values::{Answer, Duplicate, Listing};
-use link_session::{Calls, ReplyFields};
+use dtx_values::{Answer, Duplicate};
+use link_session::ReplyFields;
 use node_deeds::{Deed, replies, reply_fields};
 use node_memory::Memory;
-use node_rules::{PendingCall, Work};
-use node_state::Works;
+use node_rules::PendingCall;
+use node_state::{Works, no_work};
 use reco::Posts;
 use session_tree::Live;
 use std::alloc::{AllocError, Global};
@@ -121,17 +121,5 @@ fn reply_to(
             says
         }
         Some(work) => replies(alloc, live, work, parent, fields),
-    }
-}
-
-/// A branch to which no call came, and which made none.
-pub(crate) fn no_work(alloc: Global, branch: &BranchId) -> Work
-    ensures { result ≡ no_work_of branch.now }
-{
-    Work {
-        branch: *branch,
-        came: Calls::new(),
-        calls: Listing::new(alloc),
-        going: None,
     }
 }

@@ -10,7 +10,7 @@ ghost use Rattle.node_deeds.specs.Gives.{Gives};
 ghost use Rattle.node_memory.specs.Parts.{kept_in, stored_in};
 
 use dtx_values::{Answer, Done, Duplicate, INVALID_SQL, Link, Listing, Synonym, Table};
-use node_deeds::{Deed, ended};
+use node_deeds::{Deed, LINK_USED, NAME_USED, ended};
 use node_memory::Memory;
 use redo_record::{Param, RedoRecord};
 use sql_check::plain;
@@ -42,7 +42,7 @@ pub fn create_table(
     ensures place { memory.new.place ≡ memory.old.place }
 {
     if memory.catalog.is_used(&table.name) {
-        refuse(alloc, session, 955)
+        refuse(alloc, session, NAME_USED)
     } else {
         let redo = RedoRecord::Table(table.copy(alloc)?);
         write(memory, alloc, session, redo, Done::TableMade)
@@ -60,7 +60,7 @@ pub fn create_link(
     ensures place { memory.new.place ≡ memory.old.place }
 {
     if memory.catalog.is_link_used(&link.name) {
-        refuse(alloc, session, 2011)
+        refuse(alloc, session, LINK_USED)
     } else {
         let redo = RedoRecord::Link(link.copy(alloc)?);
         write(memory, alloc, session, redo, Done::LinkMade)
@@ -78,7 +78,7 @@ pub fn create_synonym(
     ensures place { memory.new.place ≡ memory.old.place }
 {
     if memory.catalog.is_used(&synonym.name) {
-        refuse(alloc, session, 955)
+        refuse(alloc, session, NAME_USED)
     } else {
         let redo = RedoRecord::Synonym(synonym.copy(alloc)?);
         write(memory, alloc, session, redo, Done::SynonymMade)

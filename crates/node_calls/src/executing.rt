@@ -7,13 +7,12 @@ ghost use Rattle.node_deeds.specs.Gives.{Gives, branch_with};
 ghost use Rattle.node_memory.specs.Parts.{kept_in};
 ghost use Rattle.node_calls.specs.Handled.{at_live, TakesStatement};
 
-use crate::answering::no_work;
 use crate::routing::statement_at;
 use dtx_values::Advice;
 use link_session::Admit;
 use node_deeds::{Deed, says_again};
 use node_memory::Memory;
-use node_state::Works;
+use node_state::{Works, no_work};
 use reco::Posts;
 use session_tree::Live;
 use sql_statement::Stmt;

@@ -1,6 +1,6 @@
 //! A child replies, and so the statement of its parent is answered.
 ghost use Rattle.std.specs.Prelude.{◌≡◌, unwrap_or, IfOk};
-ghost use Rattle.std.specs.Option.{option_copied, option_map};
+ghost use Rattle.std.specs.Option.{option_map};
 ghost use Rattle.tran_ids.specs.Listed.{numbered};
 ghost use Rattle.session_tree.specs.Live.{edge_at as edge_at_number};
 ghost use Rattle.node_rules.specs.Kept.{branch_at};
@@ -12,7 +12,7 @@ ghost use Rattle.node_calls.specs.Handled.{at_live, replier_as, HasFewWith};
 
 use crate::answering::answer;
 use dtx_values::Answer;
-use node_deeds::{BRANCH_GONE, Deed, heard_answer, is_gone};
+use node_deeds::{BRANCH_GONE, Deed, edge_at, heard_answer, is_gone};
 use node_memory::Memory;
 use node_rules::{Waits, Work};
 use node_state::{Sessions, Works};
@@ -115,14 +115,6 @@ fn replying_at<'a>(
     } else {
         None
     }
-}
-
-// The child of a number, from 1.
-fn edge_at(live: &Live, number: u8) -> Option<&Edge>
-    ensures { option_copied result ≡ edge_at_number live.now number }
-{
-    let place = usize::from(number).checked_sub(1)?;
-    live.edges.as_slice().get(place)
 }
 
 // The number of the last call over the edge of a number, and 0 before any.

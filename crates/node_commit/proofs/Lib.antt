@@ -2,4 +2,3 @@ mod LiveLemmas
 mod PrepareLemmas
 mod AckLemmas
 mod PurgeLemmas
-mod TurnLemmas

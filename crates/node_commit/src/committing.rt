@@ -1,16 +1,16 @@
 //! The commit and forget phases, at a branch that the node keeps a row of.
 ghost use Rattle.std.specs.Prelude.{◌≡◌, Some, IfOk, IfSome, OnOk};
-ghost use Rattle.node_rules.specs.Commit.{decision_answers as decision_answers_of, learns as learns_of, forgets as forgets_of, next_turn as next_turn_of, on_decision as on_decision_of, on_ack as on_ack_of, on_forgotten as on_forgotten_of, passes as passes_of, to_beyond as to_beyond_of};
+ghost use Rattle.node_rules.specs.Commit.{decided_sessions, decision_answers as decision_answers_of, next_turn as next_turn_of, on_ack as on_ack_of, passes as passes_of, to_beyond as to_beyond_of};
 ghost use Rattle.node_rules.specs.Data.kinds;
 ghost use Rattle.node_rules.specs.Data.records;
-ghost use Rattle.node_rules.specs.Sessions.{commit_answer as commit_answer_of, commit_complete as commit_complete_of};
+ghost use Rattle.node_rules.specs.Sessions.{commit_answer as commit_answer_of, commit_complete as commit_complete_of, commit_ended};
 ghost use Rattle.node_memory.specs.Parts.{stored_in, kept_in};
 ghost use Rattle.ready_laws.specs.Following.{MayFollow};
 ghost use Rattle.node_deeds.specs.Gives.{Gives};
 ghost use Rattle.node_commit.specs.Branches.{at_kept, learned as learned_of, with_wrote};
 
 use crate::session_ends::{decision_answers, end_decided};
-use commit_forget::{Next, on_decision as decision_next, on_forgotten as forgotten_next};
+use commit_forget::Next;
 use node_deeds::{Deed, commit_complete, passes, post, to_beyond, to_one};
 use node_memory::Memory;
 use node_state::Sessions;
@@ -82,37 +82,35 @@ fn learns(
     alloc: Global,
     branch: &BranchId,
     decision: Decision,
-    mixed: Option<bool>,
+    deed: Deed,
 ) -> Result<Deed, AllocError>
-    ensures gives { IfOk result (λ deed.
-        Gives (at_kept (kept_in memory.old) branch.now (λ s. learns_of (kept_in memory.old) s decision (learned_of s.me decision mixed))) (kept_in memory.new) deed) }
+    requires { IfSome deed.wrote (MayFollow (stored_in memory.old)) }
+    ensures deed { IfOk result (λ same. same ≡ deed) }
+    ensures kept { OnOk result (kept_in memory.new ≡ with_wrote (record (kept_in memory.old) { sessions = decided_sessions memory.old.sessions branch.now decision }) deed.wrote) }
     ensures place { memory.new.place ≡ memory.old.place }
 {
-    let Some(row) = memory.standing_at(branch) else {
-        return Ok(Deed::nothing(alloc));
-    };
-    let me = row.me;
-    let deed = learning(alloc, &memory.sessions, row, decision, mixed)?;
-    end_decided(&mut memory.sessions, &me, decision);
+    end_decided(&mut memory.sessions, branch, decision);
     taken_in(memory, alloc, deed)
 }
 
 // Forgot stands, those beyond are told, and the COMMIT of a root is complete.
-fn forgets(memory: &mut Memory, alloc: Global, branch: &BranchId) -> Result<Deed, AllocError>
-    ensures gives { IfOk result (λ deed. Gives (at_kept (kept_in memory.old) branch.now (λ s. forgets_of (kept_in memory.old) s)) (kept_in memory.new) deed) }
+fn forgets(
+    memory: &mut Memory,
+    alloc: Global,
+    branch: &BranchId,
+    deed: Deed,
+) -> Result<Deed, AllocError>
+    requires { IfSome deed.wrote (MayFollow (stored_in memory.old)) }
+    ensures deed { IfOk result (λ same. same ≡ deed) }
+    ensures kept { OnOk result (kept_in memory.new ≡ with_wrote (record (kept_in memory.old) { sessions = commit_ended memory.old.sessions branch.now }) deed.wrote) }
     ensures place { memory.new.place ≡ memory.old.place }
 {
-    let Some(row) = memory.standing_at(branch) else {
-        return Ok(Deed::nothing(alloc));
-    };
-    let me = row.me;
-    let deed = forgetting(alloc, &memory.sessions, row)?;
-    memory.sessions.end_commit(&me);
+    memory.sessions.end_commit(branch);
     taken_in(memory, alloc, deed)
 }
 
-// What a kept branch does next.
-fn next_turn(
+/// What a kept branch does next.
+pub(crate) fn next_turn(
     memory: &mut Memory,
     alloc: Global,
     branch: &BranchId,
@@ -128,13 +126,22 @@ fn next_turn(
     let me = row.me;
     match next {
         Next::Rest => Ok(Deed::nothing(alloc)),
-        Next::End(decision) => learns(memory, alloc, branch, decision, None),
-        Next::Meet { decision, mixed } => learns(memory, alloc, branch, decision, Some(mixed)),
+        Next::End(decision) => {
+            let deed = learning(alloc, &memory.sessions, row, decision, None)?;
+            learns(memory, alloc, &me, decision, deed)
+        }
+        Next::Meet { decision, mixed } => {
+            let deed = learning(alloc, &memory.sessions, row, decision, Some(mixed))?;
+            learns(memory, alloc, &me, decision, deed)
+        }
         Next::AckToward => {
             let says = to_one(alloc, me, Kind::Ack, row.toward)?;
             Ok(Deed::saying(alloc, says))
         }
-        Next::Forget => forgets(memory, alloc, branch),
+        Next::Forget => {
+            let deed = forgetting(alloc, &memory.sessions, row)?;
+            forgets(memory, alloc, &me, deed)
+        }
         Next::SayForgotten => {
             let says = post(alloc, me, from, Kind::Forgotten)?;
             Ok(Deed::saying(alloc, says))
@@ -146,28 +153,8 @@ fn next_turn(
     }
 }
 
-/// Committed, RolledBack or Rollback at a kept branch: only the neighbour toward the commit point site is heard.
-pub fn on_decision(
-    memory: &mut Memory,
-    alloc: Global,
-    branch: &BranchId,
-    from: BranchId,
-    decision: Decision,
-) -> Result<Deed, AllocError>
-    ensures gives { IfOk result (λ deed. Gives (at_kept (kept_in memory.old) branch.now (λ s. on_decision_of (kept_in memory.old) s from decision)) (kept_in memory.new) deed) }
-    ensures place { memory.new.place ≡ memory.old.place }
-{
-    match memory.standing_at(branch) {
-        None => Ok(Deed::nothing(alloc)),
-        Some(row) => {
-            let next = decision_next(row, &from, decision);
-            next_turn(memory, alloc, branch, from, next)
-        }
-    }
-}
-
 /// Ack at a kept branch: one that counts is noted in memory alone.
-pub fn on_ack(
+pub(crate) fn on_ack(
     memory: &mut Memory,
     alloc: Global,
     branch: &BranchId,
@@ -179,24 +166,5 @@ pub fn on_ack(
     match memory.hear_ack(alloc, branch, &from) {
         None => Ok(Deed::nothing(alloc)),
         Some(next) => next_turn(memory, alloc, branch, from, next),
-    }
-}
-
-/// Forgotten at a kept branch.
-pub fn on_forgotten(
-    memory: &mut Memory,
-    alloc: Global,
-    branch: &BranchId,
-    from: BranchId,
-) -> Result<Deed, AllocError>
-    ensures gives { IfOk result (λ deed. Gives (at_kept (kept_in memory.old) branch.now (λ s. on_forgotten_of (kept_in memory.old) s from)) (kept_in memory.new) deed) }
-    ensures place { memory.new.place ≡ memory.old.place }
-{
-    match memory.standing_at(branch) {
-        None => Ok(Deed::nothing(alloc)),
-        Some(row) => {
-            let next = forgotten_next(row, &from);
-            next_turn(memory, alloc, branch, from, next)
-        }
     }
 }

@@ -9,7 +9,7 @@ ghost use Rattle.node_commit.specs.Branches.{hides_named};
 use crate::committing::taken_in;
 use dtx_values::{Answer, Done, Listing, Refusal};
 use force_cmds::may_purge;
-use node_deeds::{Deed, branch_to_force, ended, nothing_to_purge, tran_refusal};
+use node_deeds::{Deed, TRAN_IN_DOUBT, branch_to_force, ended, nothing_to_purge, tran_refusal};
 use node_memory::Memory;
 use node_rules::{Ended, Finished};
 use node_state::Sessions;
@@ -21,7 +21,7 @@ use tran_ids::BranchId;
 fn doubt_ends(alloc: Global, sessions: &Sessions, branch: &BranchId) -> Result<Ended, AllocError>
     ensures { IfOk result (λ ends. ends ≡ commit_answer_of sessions.now branch.now (tran_refusal_of 2054 branch.now)) }
 {
-    let refusal = tran_refusal(alloc, 2054, *branch)?;
+    let refusal = tran_refusal(alloc, TRAN_IN_DOUBT, *branch)?;
     sessions.commit_answer(alloc, branch, refusal)
 }
 

@@ -8,7 +8,7 @@ ghost use Rattle.node_deeds.specs.Gives.{Gives};
 use crate::leaving::root_drops;
 use crate::looking::live_of;
 use dtx_values::Listing;
-use node_deeds::{Deed, given_up_answer, tran_refusal};
+use node_deeds::{Deed, TRAN_ROLLED_BACK, given_up_answer, tran_refusal};
 use node_memory::Memory;
 use std::alloc::{AllocError, Global};
 use tran_ids::BranchId;
@@ -41,7 +41,7 @@ pub fn commit_given_up(
     match live_of(memory, root) {
         None => given_up_kept(memory, alloc, root),
         Some(_) => {
-            let answer = tran_refusal(alloc, 2050, *root)?;
+            let answer = tran_refusal(alloc, TRAN_ROLLED_BACK, *root)?;
             root_drops(memory, alloc, root, answer)
         }
     }

@@ -21,7 +21,7 @@ use tran_ids::BranchId;
 use wire_msg::Kind;
 
 /// A live branch rolls back: these messages go first, then Rollback to its children.
-pub fn drops(
+pub(crate) fn drops(
     memory: &mut Memory,
     alloc: Global,
     branch: &BranchId,
@@ -69,7 +69,7 @@ fn root_dropping(
 }
 
 /// A live root rolls back, and its COMMIT is answered.
-pub fn root_drops(
+pub(crate) fn root_drops(
     memory: &mut Memory,
     alloc: Global,
     branch: &BranchId,

@@ -17,12 +17,9 @@ mod sealing;
 mod session_ends;
 mod turns;
 
-pub use committing::{on_ack, on_decision, on_forgotten};
 pub use forcing::{commit_force, purge, rollback_force};
 pub use giving_up::commit_given_up;
-pub use leaving::{drops, root_drops};
-pub use preparing::{collects, on_answer, on_commit_point, on_prepare};
-pub use recovery::on_ask;
+pub use preparing::collects;
 pub use turns::{
     ack_turn, answer_turn, ask_turn, commit_point_turn, committed_turn, forgotten_turn,
     prepare_turn, rollback_turn, rolled_back_turn,

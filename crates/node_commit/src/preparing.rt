@@ -6,7 +6,7 @@ ghost use Rattle.tran_ids.specs.declared.branch.BranchId.{BranchId as BranchIdBy
 ghost use Rattle.prepare_phase.specs.Acts.{prepare_act, heard_act};
 ghost use Rattle.node_rules.specs.Data.acts as acts;
 ghost use Rattle.node_rules.specs.Kept.{Kept, live_at as live_at_of};
-ghost use Rattle.node_rules.specs.Prepare.{act_turn as act_turn_of, collects as collects_of, with_comment, on_prepare as on_prepare_of, on_answer as on_answer_of, on_commit_point as on_commit_point_of};
+ghost use Rattle.node_rules.specs.Prepare.{act_turn as act_turn_of, collects as collects_of, with_comment, on_answer as on_answer_of};
 ghost use Rattle.node_memory.specs.Parts.{kept_in};
 ghost use Rattle.node_deeds.specs.Gives.{Gives};
 ghost use Rattle.node_commit.specs.Branches.{at_live, phase_of, begun, answered, MayCommit};
@@ -15,11 +15,10 @@ use crate::deciding::decides;
 use crate::leaving::{abandons, finishes, says_read_only};
 use crate::looking::live_of;
 use crate::sealing::{seals_and_passes, seals_prepared};
-use commit_forget::on_commit_point as point_act;
 use dtx_values::Bytes;
 use node_deeds::{Deed, prepares, to_one};
 use node_memory::Memory;
-use session_tree::{Act, Phase, Vote};
+use session_tree::{Act, Vote};
 use std::alloc::{AllocError, Global};
 use tran_ids::BranchId;
 use wire_msg::Kind;
@@ -64,8 +63,8 @@ fn says_ready(memory: &mut Memory, alloc: Global, branch: &BranchId) -> Result<D
     }
 }
 
-// What a branch does next.
-fn act_turn(
+/// What a branch does next.
+pub(crate) fn act_turn(
     memory: &mut Memory,
     alloc: Global,
     branch: &BranchId,
@@ -126,27 +125,6 @@ pub fn collects(
     }
 }
 
-/// Prepare at a live branch. One that comes again changes nothing.
-pub fn on_prepare(
-    memory: &mut Memory,
-    alloc: Global,
-    branch: &BranchId,
-    site_below: bool,
-    comment: Bytes,
-) -> Result<Deed, AllocError>
-    requires { MayCommit memory.old branch.now }
-    ensures gives { IfOk result (λ deed. Gives (at_live (kept_in memory.old) branch.now (λ l. on_prepare_of (kept_in memory.old) l site_below comment)) (kept_in memory.new) deed) }
-    ensures place { memory.new.place ≡ memory.old.place }
-{
-    match live_of(memory, branch) {
-        None => Ok(Deed::nothing(alloc)),
-        Some(live) => match live.phase {
-            Phase::Working => collects(memory, alloc, branch, site_below, comment),
-            _ => Ok(Deed::nothing(alloc)),
-        },
-    }
-}
-
 // The answer of a child is counted, where it counts. Tells what the branch does next.
 fn counts(
     memory: &mut Memory,
@@ -163,8 +141,8 @@ fn counts(
     memory.lives.answer(alloc, branch, from, vote)
 }
 
-// A child's answer at a collecting branch.
-fn hears(
+/// A child's answer at a collecting branch: only each child's first is heard.
+pub(crate) fn hears(
     memory: &mut Memory,
     alloc: Global,
     branch: &BranchId,
@@ -180,52 +158,5 @@ fn hears(
     match counts(memory, alloc, branch, from, vote) {
         None => Ok(Deed::nothing(alloc)),
         Some(act) => act_turn(memory, alloc, branch, site_below, act),
-    }
-}
-
-/// A child's answer to Prepare, at a live branch: only a collecting branch hears it, and only each child's first.
-pub fn on_answer(
-    memory: &mut Memory,
-    alloc: Global,
-    branch: &BranchId,
-    from: &BranchId,
-    vote: Vote,
-) -> Result<Deed, AllocError>
-    requires { MayCommit memory.old branch.now }
-    ensures gives { IfOk result (λ deed. Gives (at_live (kept_in memory.old) branch.now (λ l. on_answer_of (kept_in memory.old) l from.now vote)) (kept_in memory.new) deed) }
-    ensures place { memory.new.place ≡ memory.old.place }
-{
-    match live_of(memory, branch) {
-        None => Ok(Deed::nothing(alloc)),
-        Some(live) => match live.phase {
-            Phase::Collecting { site_below } => {
-                hears(memory, alloc, branch, site_below, from, vote)
-            }
-            _ => Ok(Deed::nothing(alloc)),
-        },
-    }
-}
-
-/// CommitPoint at a live branch: only one that answered Ready hears it. The commit point site decides, another branch becomes
-/// sealed and passes it on.
-#[tactic(auto, unfolding(commit_forget::specs::Next::pointed_act))]
-pub fn on_commit_point(
-    memory: &mut Memory,
-    alloc: Global,
-    branch: &BranchId,
-) -> Result<Deed, AllocError>
-    requires { MayCommit memory.old branch.now }
-    ensures gives { IfOk result (λ deed. Gives (at_live (kept_in memory.old) branch.now (λ l. on_commit_point_of (kept_in memory.old) l)) (kept_in memory.new) deed) }
-    ensures place { memory.new.place ≡ memory.old.place }
-{
-    match live_of(memory, branch) {
-        None => Ok(Deed::nothing(alloc)),
-        Some(live) => match live.phase {
-            Phase::Ready => {
-                let act = point_act(live);
-                act_turn(memory, alloc, branch, true, act)
-            }
-            _ => Ok(Deed::nothing(alloc)),
-        },
     }
 }

@@ -14,7 +14,7 @@ use std::alloc::{AllocError, Global};
 use tran_ids::BranchId;
 
 /// Ask at a live branch: where its parent asks, it rolls back and says so; to any other, nothing is known.
-pub fn on_ask(
+pub(crate) fn on_ask(
     memory: &mut Memory,
     alloc: Global,
     branch: &BranchId,

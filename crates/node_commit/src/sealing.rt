@@ -1,5 +1,5 @@
 //! A live branch that becomes sealed.
-ghost use Rattle.std.specs.Prelude.{◌≡◌, ◌≤◌, length, false, Some, None, IfOk, IfSome, OnOk};
+ghost use Rattle.std.specs.Prelude.{◌≡◌, ◌≤◌, [], length, false, Some, None, IfOk, IfSome, OnOk};
 ghost use Rattle.dtx_values.specs.Limits.{branch_limit};
 ghost use Rattle.row_store.specs.Store.{is_in_doubt};
 ghost use Rattle.session_tree.specs.Live.{peer_of as peer_of_number};
@@ -59,32 +59,24 @@ fn sealed(
     Ok(deed)
 }
 
-// The branch becomes sealed, and says this.
-fn seals(
-    memory: &mut Memory,
+// What a branch writes and says that becomes sealed.
+fn sealing(
+    memory: &Memory,
     alloc: Global,
-    branch: &BranchId,
+    live: &Live,
     path: Option<u8>,
     says: Posts,
 ) -> Result<Deed, AllocError>
-    requires { is_in_doubt memory.old.store.doubts branch.now ≡ false }
-    ensures gives { IfOk result (λ deed. Gives (at_live (kept_in memory.old) branch.now (λ l. seals_of (kept_in memory.old) l path says)) (kept_in memory.new) deed) }
-    ensures place { memory.new.place ≡ memory.old.place }
+    requires { length live.now.edges ≤ branch_limit }
+    ensures deed { IfOk result (λ deed. deed ≡ record { wrote = Some (sealed_record_of (kept_in memory.now) live.now path); says = says; ended = [] }) }
+    ensures own { IfOk result (λ deed. IfSome deed.wrote (IsOwnSeal (kept_in memory.now) live.now.me)) }
 {
-    let Some(live) = live_of(memory, branch) else {
-        drop(says);
-        return Ok(Deed::nothing(alloc));
-    };
-    let me = live.me;
     match seal_record(memory, alloc, live, path) {
         Err(error) => {
             drop(says);
             Err(error)
         }
-        Ok(redo) => {
-            let deed = Deed::writing(redo, says, Listing::new(alloc));
-            sealed(memory, alloc, &me, deed)
-        }
+        Ok(redo) => Ok(Deed::writing(redo, says, Listing::new(alloc))),
     }
 }
 
@@ -101,8 +93,10 @@ pub(crate) fn seals_prepared(
     match live_of(memory, branch) {
         None => Ok(Deed::nothing(alloc)),
         Some(live) => {
-            let says = to_one(alloc, live.me, Kind::Prepared, live.parent)?;
-            seals(memory, alloc, branch, None, says)
+            let me = live.me;
+            let says = to_one(alloc, me, Kind::Prepared, live.parent)?;
+            let deed = sealing(memory, alloc, live, None, says)?;
+            sealed(memory, alloc, &me, deed)
         }
     }
 }
@@ -121,8 +115,10 @@ pub(crate) fn seals_and_passes(
     match live_of(memory, branch) {
         None => Ok(Deed::nothing(alloc)),
         Some(live) => {
-            let says = to_one(alloc, live.me, Kind::CommitPoint, peer_of(live, number))?;
-            seals(memory, alloc, branch, Some(number), says)
+            let me = live.me;
+            let says = to_one(alloc, me, Kind::CommitPoint, peer_of(live, number))?;
+            let deed = sealing(memory, alloc, live, Some(number), says)?;
+            sealed(memory, alloc, &me, deed)
         }
     }
 }

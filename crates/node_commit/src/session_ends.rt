@@ -5,7 +5,7 @@ ghost use Rattle.node_commit.specs.Branches.{ended_where};
 ghost use Rattle.node_rules.specs.Commit.{decided_sessions, decision_answers as decision_answers_of};
 
 use dtx_values::Listing;
-use node_deeds::tran_refusal;
+use node_deeds::{TRAN_ROLLED_BACK, tran_refusal};
 use node_rules::Ended;
 use node_state::Sessions;
 use redo_record::Decision;
@@ -24,7 +24,7 @@ pub(crate) fn abandon_ends(
 {
     match live.parent {
         None => {
-            let answer = tran_refusal(alloc, 2050, live.me)?;
+            let answer = tran_refusal(alloc, TRAN_ROLLED_BACK, live.me)?;
             sessions.commit_answer(alloc, &live.me, answer)
         }
         Some(_) => Ok(Listing::new(alloc)),
@@ -54,7 +54,7 @@ pub(crate) fn decision_answers(
     match decision {
         Decision::Commit(_) => Ok(Listing::new(alloc)),
         Decision::Rollback => {
-            let answer = tran_refusal(alloc, 2050, branch)?;
+            let answer = tran_refusal(alloc, TRAN_ROLLED_BACK, branch)?;
             sessions.commit_answer(alloc, &branch, answer)
         }
     }

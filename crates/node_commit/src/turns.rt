@@ -6,17 +6,17 @@ ghost use Rattle.node_memory.specs.Parts.{kept_in};
 ghost use Rattle.node_deeds.specs.Gives.{Gives};
 ghost use Rattle.node_commit.specs.Branches.{MayCommitWhereLive};
 
-use crate::committing::{on_ack, on_decision, on_forgotten};
+use crate::committing::{next_turn, on_ack};
 use crate::leaving::drops;
-use crate::looking::live_of;
-use crate::preparing::{on_answer, on_commit_point, on_prepare};
+use crate::preparing::{act_turn, collects, hears};
 use crate::recovery::on_ask;
+use commit_forget::{on_commit_point, on_decision, on_forgotten};
 use dtx_values::{Bytes, Listing};
 use node_deeds::{Deed, on_ask_kept, on_commit_point_kept, on_prepare_kept, post};
-use node_memory::Memory;
+use node_memory::{Memory, Stand};
 use reco::Told;
 use redo_record::Decision;
-use session_tree::Vote;
+use session_tree::{Phase, Vote};
 use std::alloc::{AllocError, Global};
 use tran_ids::BranchId;
 use wire_msg::Kind;
@@ -35,8 +35,8 @@ fn answer(
     Ok(Deed::saying(alloc, says))
 }
 
-/// Prepare: a kept branch that is asked again answers Prepared, a gone one Abort.
-#[tactic(auto, unfolding(node_rules::specs::Turn::stand_of))]
+/// Prepare: a working branch begins its collect, and one that comes again to a live branch changes nothing; a kept branch
+/// that is asked again answers Prepared, a gone one Abort.
 pub fn prepare_turn(
     memory: &mut Memory,
     alloc: Global,
@@ -49,17 +49,17 @@ pub fn prepare_turn(
     ensures gives { IfOk result (λ deed. Gives (prepare_turn_of (kept_in memory.old) from to site_below comment (stand_of (kept_in memory.old) to)) (kept_in memory.new) deed) }
     ensures place { memory.new.place ≡ memory.old.place }
 {
-    match live_of(memory, &to) {
-        Some(_) => on_prepare(memory, alloc, &to, site_below, comment),
-        None => match memory.standing_at(&to) {
-            Some(row) => on_prepare_kept(alloc, row, from),
-            None => answer(memory, alloc, to, from, Kind::Abort),
+    match memory.stand_of(&to) {
+        Stand::Live(it) => match it.live.phase {
+            Phase::Working => collects(memory, alloc, &to, site_below, comment),
+            _ => Ok(Deed::nothing(alloc)),
         },
+        Stand::Kept(row) => on_prepare_kept(alloc, row, from),
+        Stand::Gone => answer(memory, alloc, to, from, Kind::Abort),
     }
 }
 
-/// An answer to Prepare, which only a live branch hears.
-#[tactic(auto, unfolding(node_rules::specs::Turn::stand_of))]
+/// A child's answer to Prepare: only a collecting branch hears it, and only each child's first.
 pub fn answer_turn(
     memory: &mut Memory,
     alloc: Global,
@@ -71,17 +71,18 @@ pub fn answer_turn(
     ensures gives { IfOk result (λ deed. Gives (answer_turn_of (kept_in memory.old) from vote (stand_of (kept_in memory.old) to)) (kept_in memory.new) deed) }
     ensures place { memory.new.place ≡ memory.old.place }
 {
-    match live_of(memory, &to) {
-        Some(_) => on_answer(memory, alloc, &to, &from, vote),
-        None => match memory.standing_at(&to) {
-            Some(_) => Ok(Deed::nothing(alloc)),
-            None => Ok(Deed::nothing(alloc)),
+    match memory.stand_of(&to) {
+        Stand::Live(it) => match it.live.phase {
+            Phase::Collecting { site_below } => hears(memory, alloc, &to, site_below, &from, vote),
+            _ => Ok(Deed::nothing(alloc)),
         },
+        Stand::Kept(_) | Stand::Gone => Ok(Deed::nothing(alloc)),
     }
 }
 
-/// CommitPoint: a kept branch tells the decision where it knows it, a gone one answers RolledBack.
-#[tactic(auto, unfolding(node_rules::specs::Turn::stand_of))]
+/// CommitPoint: of the live branches only one that answered Ready hears it. The commit point site decides, another becomes
+/// sealed and passes it on. A kept branch tells the decision where it knows it, a gone one answers RolledBack.
+#[tactic(auto, unfolding(commit_forget::specs::Next::pointed_act))]
 pub fn commit_point_turn(
     memory: &mut Memory,
     alloc: Global,
@@ -92,17 +93,21 @@ pub fn commit_point_turn(
     ensures gives { IfOk result (λ deed. Gives (commit_point_turn_of (kept_in memory.old) from to (stand_of (kept_in memory.old) to)) (kept_in memory.new) deed) }
     ensures place { memory.new.place ≡ memory.old.place }
 {
-    match live_of(memory, &to) {
-        Some(_) => on_commit_point(memory, alloc, &to),
-        None => match memory.standing_at(&to) {
-            Some(row) => on_commit_point_kept(alloc, row, from),
-            None => answer(memory, alloc, to, from, Kind::RolledBack),
+    match memory.stand_of(&to) {
+        Stand::Live(it) => match it.live.phase {
+            Phase::Ready => {
+                let act = on_commit_point(it.live);
+                act_turn(memory, alloc, &to, true, act)
+            }
+            _ => Ok(Deed::nothing(alloc)),
         },
+        Stand::Kept(row) => on_commit_point_kept(alloc, row, from),
+        Stand::Gone => answer(memory, alloc, to, from, Kind::RolledBack),
     }
 }
 
-/// Committed: a live branch ignores it, a gone one acknowledges.
-#[tactic(auto, unfolding(node_rules::specs::Turn::stand_of))]
+/// Committed: a live branch ignores it, a kept one hears it from the neighbour toward the commit point site alone, a gone one
+/// acknowledges.
 pub fn committed_turn(
     memory: &mut Memory,
     alloc: Global,
@@ -113,17 +118,17 @@ pub fn committed_turn(
     ensures gives { IfOk result (λ deed. Gives (committed_turn_of (kept_in memory.old) from to scn (stand_of (kept_in memory.old) to)) (kept_in memory.new) deed) }
     ensures place { memory.new.place ≡ memory.old.place }
 {
-    match live_of(memory, &to) {
-        Some(_) => Ok(Deed::nothing(alloc)),
-        None => match memory.standing_at(&to) {
-            Some(_) => on_decision(memory, alloc, &to, from, Decision::Commit(scn)),
-            None => answer(memory, alloc, to, from, Kind::Ack),
-        },
+    match memory.stand_of(&to) {
+        Stand::Live(_) => Ok(Deed::nothing(alloc)),
+        Stand::Kept(row) => {
+            let next = on_decision(row, &from, Decision::Commit(scn));
+            next_turn(memory, alloc, &to, from, next)
+        }
+        Stand::Gone => answer(memory, alloc, to, from, Kind::Ack),
     }
 }
 
 /// Rollback, which ends a live branch.
-#[tactic(auto, unfolding(node_rules::specs::Turn::stand_of))]
 pub fn rollback_turn(
     memory: &mut Memory,
     alloc: Global,
@@ -133,17 +138,17 @@ pub fn rollback_turn(
     ensures gives { IfOk result (λ deed. Gives (rollback_turn_of (kept_in memory.old) from (stand_of (kept_in memory.old) to)) (kept_in memory.new) deed) }
     ensures place { memory.new.place ≡ memory.old.place }
 {
-    match live_of(memory, &to) {
-        Some(_) => drops(memory, alloc, &to, Listing::new(alloc)),
-        None => match memory.standing_at(&to) {
-            Some(_) => on_decision(memory, alloc, &to, from, Decision::Rollback),
-            None => Ok(Deed::nothing(alloc)),
-        },
+    match memory.stand_of(&to) {
+        Stand::Live(_) => drops(memory, alloc, &to, Listing::new(alloc)),
+        Stand::Kept(row) => {
+            let next = on_decision(row, &from, Decision::Rollback);
+            next_turn(memory, alloc, &to, from, next)
+        }
+        Stand::Gone => Ok(Deed::nothing(alloc)),
     }
 }
 
 /// RolledBack, which a live branch hears from its parent alone.
-#[tactic(auto, unfolding(node_rules::specs::Turn::stand_of))]
 pub fn rolled_back_turn(
     memory: &mut Memory,
     alloc: Global,
@@ -153,20 +158,20 @@ pub fn rolled_back_turn(
     ensures gives { IfOk result (λ deed. Gives (rolled_back_turn_of (kept_in memory.old) from (stand_of (kept_in memory.old) to)) (kept_in memory.new) deed) }
     ensures place { memory.new.place ≡ memory.old.place }
 {
-    match live_of(memory, &to) {
-        Some(live) => match live.parent {
+    match memory.stand_of(&to) {
+        Stand::Live(it) => match it.live.parent {
             Some(parent) if parent.is(&from) => drops(memory, alloc, &to, Listing::new(alloc)),
             _ => Ok(Deed::nothing(alloc)),
         },
-        None => match memory.standing_at(&to) {
-            Some(_) => on_decision(memory, alloc, &to, from, Decision::Rollback),
-            None => Ok(Deed::nothing(alloc)),
-        },
+        Stand::Kept(row) => {
+            let next = on_decision(row, &from, Decision::Rollback);
+            next_turn(memory, alloc, &to, from, next)
+        }
+        Stand::Gone => Ok(Deed::nothing(alloc)),
     }
 }
 
-/// Ack: a live branch ignores it, a gone one answers Forgotten.
-#[tactic(auto, unfolding(node_rules::specs::Turn::stand_of))]
+/// Ack: a live branch ignores it, a kept one notes in memory one that counts, a gone one answers Forgotten.
 pub fn ack_turn(
     memory: &mut Memory,
     alloc: Global,
@@ -176,17 +181,14 @@ pub fn ack_turn(
     ensures gives { IfOk result (λ deed. Gives (ack_turn_of (kept_in memory.old) from to (stand_of (kept_in memory.old) to)) (kept_in memory.new) deed) }
     ensures place { memory.new.place ≡ memory.old.place }
 {
-    match live_of(memory, &to) {
-        Some(_) => Ok(Deed::nothing(alloc)),
-        None => match memory.standing_at(&to) {
-            Some(_) => on_ack(memory, alloc, &to, from),
-            None => answer(memory, alloc, to, from, Kind::Forgotten),
-        },
+    match memory.stand_of(&to) {
+        Stand::Live(_) => Ok(Deed::nothing(alloc)),
+        Stand::Kept(_) => on_ack(memory, alloc, &to, from),
+        Stand::Gone => answer(memory, alloc, to, from, Kind::Forgotten),
     }
 }
 
 /// Forgotten, which only a kept branch hears.
-#[tactic(auto, unfolding(node_rules::specs::Turn::stand_of))]
 pub fn forgotten_turn(
     memory: &mut Memory,
     alloc: Global,
@@ -196,17 +198,16 @@ pub fn forgotten_turn(
     ensures gives { IfOk result (λ deed. Gives (forgotten_turn_of (kept_in memory.old) from (stand_of (kept_in memory.old) to)) (kept_in memory.new) deed) }
     ensures place { memory.new.place ≡ memory.old.place }
 {
-    match live_of(memory, &to) {
-        Some(_) => Ok(Deed::nothing(alloc)),
-        None => match memory.standing_at(&to) {
-            Some(_) => on_forgotten(memory, alloc, &to, from),
-            None => Ok(Deed::nothing(alloc)),
-        },
+    match memory.stand_of(&to) {
+        Stand::Kept(row) => {
+            let next = on_forgotten(row, &from);
+            next_turn(memory, alloc, &to, from, next)
+        }
+        Stand::Live(_) | Stand::Gone => Ok(Deed::nothing(alloc)),
     }
 }
 
 /// Ask: a kept branch tells its neighbours what it knows, a gone one answers RolledBack.
-#[tactic(auto, unfolding(node_rules::specs::Turn::stand_of))]
 pub fn ask_turn(
     memory: &mut Memory,
     alloc: Global,
@@ -216,11 +217,9 @@ pub fn ask_turn(
     ensures gives { IfOk result (λ deed. Gives (ask_turn_of (kept_in memory.old) from to (stand_of (kept_in memory.old) to)) (kept_in memory.new) deed) }
     ensures place { memory.new.place ≡ memory.old.place }
 {
-    match live_of(memory, &to) {
-        Some(_) => on_ask(memory, alloc, &to, from),
-        None => match memory.standing_at(&to) {
-            Some(row) => on_ask_kept(alloc, row, from),
-            None => answer(memory, alloc, to, from, Told::RolledBack.kind()),
-        },
+    match memory.stand_of(&to) {
+        Stand::Live(_) => on_ask(memory, alloc, &to, from),
+        Stand::Kept(row) => on_ask_kept(alloc, row, from),
+        Stand::Gone => answer(memory, alloc, to, from, Told::RolledBack.kind()),
     }
 }

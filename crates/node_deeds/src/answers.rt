@@ -7,6 +7,7 @@ ghost use Rattle.dtx_values.specs.declared.answer.Answer.TheVariants.{Refused};
 ghost use Rattle.node_rules.specs.Sessions.{commit_complete as commit_complete_of, tran_refusal as tran_refusal_of};
 ghost use Rattle.node_rules.specs.Client.{given_up_code as given_up_code_of};
 
+use crate::codes::{TRAN_COMMITTED, TRAN_IN_DOUBT};
 use crate::refusals::{of_branch, unanswered};
 use commit_forget::knows_commit;
 use dtx_values::{Answer, Done, Listing};
@@ -42,12 +43,12 @@ fn given_up_code(row: Option<&Standing>) -> u16
     ensures { result ≡ given_up_code_of (option_copied row.entry) }
 {
     match row {
-        None => 2054,
+        None => TRAN_IN_DOUBT,
         Some(row) => {
             if knows_commit(row.decision) {
-                2053
+                TRAN_COMMITTED
             } else {
-                2054
+                TRAN_IN_DOUBT
             }
         }
     }

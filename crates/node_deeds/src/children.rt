@@ -7,7 +7,8 @@ ghost use Rattle.node_rules.specs.Client.{link_at as link_at_of};
 use session_tree::{Edge, Live};
 use tran_ids::BranchId;
 
-fn edge_at(live: &Live, number: u8) -> Option<&Edge>
+/// The edge to the child of a number, from 1, where there is one.
+pub fn edge_at(live: &Live, number: u8) -> Option<&Edge>
     ensures { option_copied result ≡ edge_at_of live.now number }
 {
     let place = usize::from(number).checked_sub(1)?;

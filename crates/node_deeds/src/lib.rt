@@ -6,6 +6,7 @@
 
 mod answers;
 mod children;
+mod codes;
 mod commit;
 mod deed;
 mod forced;
@@ -19,7 +20,12 @@ mod sending;
 mod waiting;
 
 pub use answers::{commit_complete, ended, given_up_answer, no_answer, tran_refusal};
-pub use children::peer_of;
+pub use children::{edge_at, peer_of};
+pub use codes::{
+    BRANCH_GONE, LINK_USED, NAME_USED, NO_ANSWER, NO_NODE, NO_ROW, NO_TABLE, NOT_IN_DOUBT,
+    ONLY_ROLLBACK, SEVERAL_IN_DOUBT, TOO_MANY_LINKS, TRAN_COMMITTED, TRAN_IN_DOUBT,
+    TRAN_ROLLED_BACK, TREE_FULL,
+};
 pub use commit::{passes, to_beyond};
 pub use deed::Deed;
 pub use forced::branch_to_force;
@@ -27,7 +33,7 @@ pub use kept::{on_ask_kept, on_commit_point_kept, on_prepare_kept};
 pub use posts::{post, to_each, to_one};
 pub use prepare::{abandon_says, drop_says, prepares, to_children};
 pub use records::{decided_record, sealed_record};
-pub use refusals::{BRANCH_GONE, NO_ANSWER, needs_rollback, nothing_to_purge};
+pub use refusals::{needs_rollback, nothing_to_purge};
 pub use replying::{
     gone_reply, heard_answer, is_gone, opened_says, replies, reply_fields, says_again,
 };

@@ -5,15 +5,10 @@ ghost use Rattle.tran_ids.specs.Texts.{local_text as local_text_of};
 ghost use Rattle.sql_check.specs.Refusals.{ora, dtx};
 ghost use Rattle.sql_check.specs.Words.{one};
 
+use crate::codes::{BRANCH_GONE, NO_ANSWER, NO_ROW, NOT_IN_DOUBT, ONLY_ROLLBACK, SEVERAL_IN_DOUBT};
 use dtx_values::{Bytes, Listing, Refusal};
 use std::alloc::{AllocError, Global};
 use tran_ids::{BranchId, local_text, put_decimal};
-
-/// The code of DTX-03, no answer over a link.
-pub const NO_ANSWER: u16 = 60003;
-
-/// The code of DTX-08, the branch that a call came to is gone.
-pub const BRANCH_GONE: u16 = 60008;
 
 fn text_of(alloc: Global, bytes: &[u8]) -> Result<Bytes, AllocError>
     ensures { IfOk result (λ text. text ≡ bytes.now) }
@@ -50,14 +45,14 @@ pub(crate) fn of_branch(alloc: Global, code: u16, branch: BranchId) -> Result<Re
 pub fn needs_rollback(alloc: Global, code: u16) -> Result<Refusal, AllocError>
     ensures { IfOk result (λ refusal. refusal ≡ ora 2067 (one (decimal code))) }
 {
-    of_text(alloc, 2067, number_text(alloc, code)?)
+    of_text(alloc, ONLY_ROLLBACK, number_text(alloc, code)?)
 }
 
 /// ORA-02058: no branch in doubt has this id.
 pub(crate) fn no_branch(alloc: Global, id: &[u8]) -> Result<Refusal, AllocError>
     ensures { IfOk result (λ refusal. refusal ≡ ora 2058 (one id.now)) }
 {
-    of_text(alloc, 2058, text_of(alloc, id)?)
+    of_text(alloc, NOT_IN_DOUBT, text_of(alloc, id)?)
 }
 
 /// DTX-07: this id is that of several branches in doubt, these first.
@@ -73,7 +68,7 @@ pub(crate) fn several_branches(
     let first = local_text(alloc, &first)?;
     let second = local_text(alloc, &second)?;
     Ok(Refusal {
-        code: 60007,
+        code: SEVERAL_IN_DOUBT,
         args: Listing::of(vec![in alloc; id, first, second]?),
     })
 }
@@ -82,7 +77,7 @@ pub(crate) fn several_branches(
 pub fn nothing_to_purge(alloc: Global, id: &[u8]) -> Result<Refusal, AllocError>
     ensures { IfOk result (λ refusal. refusal ≡ dtx 6 (one id.now)) }
 {
-    of_text(alloc, 60006, text_of(alloc, id)?)
+    of_text(alloc, NO_ROW, text_of(alloc, id)?)
 }
 
 /// DTX-03: no answer came over this link.

@@ -5,8 +5,9 @@ ghost use Rattle.dtx_values.specs.Limits.{branch_limit};
 ghost use Rattle.node_rules.specs.Calls.{reply_fields as reply_fields_of, replies as replies_of, opened_says as opened_says_of, says_again as says_again_of, gone_reply as gone_reply_of, is_gone as is_gone_of, heard_answer as heard_answer_of};
 ghost use Rattle.node_deeds.specs.Gives.{branch_with};
 
+use crate::codes::BRANCH_GONE;
 use crate::posts::post;
-use crate::refusals::{BRANCH_GONE, gone, gone_behind};
+use crate::refusals::{gone, gone_behind};
 use dtx_values::{Answer, Duplicate, Listing, Name};
 use link_session::{Opening, ReplyFields};
 use node_rules::Work;

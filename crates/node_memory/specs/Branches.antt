@@ -1,5 +1,9 @@
 -- What a node knows of a branch, where it stands in memory.
+use Rattle.std.specs.Prelude.{◌≡◌, Option, Some, None}
 use Rattle.std.specs.Option.{option_copied}
+use Rattle.redo_record.specs.declared.durable.Standing.{Standing}
+use Rattle.node_rules.specs.Data.{Live}
+use Rattle.node_state.specs.Lives.{HasRoom}
 use Rattle.node_rules.specs.Kept.{Branch, work_or}
 use Rattle.node_rules.specs.Turn.{Stand as StandByRules, Is_live, Is_kept, Is_gone}
 use Rattle.node_memory.specs.declared.branches.LiveBranch.{LiveBranch}
@@ -15,3 +19,18 @@ abbrev pub stand_as : Stand → StandByRules
 stand_as (stands.Live x) = Is_live (branch_as x)
 stand_as (stands.Kept row) = Is_kept row.now
 stand_as stands.Gone = Is_gone
+
+-- the branch, where it is live
+abbrev pub live_in : Stand → Option Live
+live_in (stands.Live x) = Some x.live.now
+live_in _ = None
+
+-- one that is kept has this row
+abbrev pub HasRow : Stand → Option Standing → Type 0
+HasRow (stands.Kept row) s = Some row.now ≡ s
+HasRow _ s = Unit {0}
+
+-- one that is live has no more children than a tree has branches
+abbrev pub HasRoomIn : Stand → Type 0
+HasRoomIn (stands.Live x) = HasRoom x.live.now
+HasRoomIn _ = Unit {0}

@@ -1,11 +1,11 @@
 //! What a node knows of a branch.
-ghost use Rattle.std.specs.Prelude.{◌≡◌, IfSome};
+ghost use Rattle.std.specs.Prelude.{◌≡◌, None, IfSome};
 ghost use Rattle.std.specs.Option.{option_copied, option_map};
 ghost use Rattle.node_rules.specs.Kept.{live_at, work_or, work_at, branch_at, standing_at};
 ghost use Rattle.node_rules.specs.Turn.{stand_of, kept_or_gone as kept_or_gone_of};
 ghost use Rattle.node_state.specs.Lives.{HasRoom};
 ghost use Rattle.node_memory.specs.Parts.{kept_in};
-ghost use Rattle.node_memory.specs.Branches.{branch_as, stand_as};
+ghost use Rattle.node_memory.specs.Branches.{branch_as, stand_as, live_in, HasRow, HasRoomIn};
 
 use crate::Memory;
 use node_rules::Work;
@@ -52,6 +52,7 @@ impl Memory {
     /// The live branch of an id, with its calls. It has no more children than a tree has branches.
     pub fn branch_at(&self, branch: &BranchId) -> Option<LiveBranch<'_>>
         ensures branch { option_map branch_as result ≡ branch_at (kept_in self.now) branch.now }
+        ensures live { option_map (λ it. it.live.now) result ≡ live_at (kept_in self.now) branch.now }
         ensures room { IfSome result (λ it. HasRoom it.live.now) }
     {
         let live = self.live_at(branch)?;
@@ -66,10 +67,14 @@ impl Memory {
         self.kept.find(branch)
     }
 
-    /// What the branch of an id is at the node: live, or else kept, or else gone.
+    /// What the branch of an id is at the node: live, with no more children than a tree has branches, or else kept, or else
+    /// gone.
     #[tactic(auto, unfolding(node_rules::specs::Turn::stand_of))]
     pub fn stand_of(&self, branch: &BranchId) -> Stand<'_>
-        ensures { stand_as result ≡ stand_of (kept_in self.now) branch.now }
+        ensures stand { stand_as result ≡ stand_of (kept_in self.now) branch.now }
+        ensures live { live_in result ≡ live_at (kept_in self.now) branch.now }
+        ensures row { HasRow result (standing_at (kept_in self.now) branch.now) }
+        ensures room { HasRoomIn result }
     {
         match self.branch_at(branch) {
             Some(it) => Stand::Live(it),
@@ -79,7 +84,10 @@ impl Memory {
 }
 
 fn kept_or_gone(row: Option<&Standing>) -> Stand<'_>
-    ensures { stand_as result ≡ kept_or_gone_of (option_copied row.entry) }
+    ensures stand { stand_as result ≡ kept_or_gone_of (option_copied row.entry) }
+    ensures live { live_in result ≡ None }
+    ensures row { HasRow result (option_copied row.entry) }
+    ensures room { HasRoomIn result }
 {
     match row {
         Some(row) => Stand::Kept(row),

@@ -9,5 +9,6 @@ mod work_changes;
 mod works;
 
 pub use lives::Lives;
-pub use sessions::Sessions;
+pub use sessions::{Sessions, fresh_session};
+pub use work_changes::no_work;
 pub use works::Works;

@@ -2,7 +2,7 @@
 ghost use Rattle.std.specs.Prelude.{◌≡◌, replicate, IfOk};
 ghost use Rattle.tran_ids.specs.Listed.{set_numbered};
 ghost use Rattle.session_tree.specs.Live.{is_branch};
-ghost use Rattle.node_rules.specs.Sessions.{fresh_session, session_at, with_call, with_root, needs_rollback, no_transaction, is_commit as is_commit_of, commit_is_pending, commit_ended, commit_answer};
+ghost use Rattle.node_rules.specs.Sessions.{fresh_session as fresh_session_of, session_at, with_call, with_root, needs_rollback, no_transaction, is_commit as is_commit_of, commit_is_pending, commit_ended, commit_answer};
 ghost use Rattle.node_state.specs.Sessions.{with_advice, transaction_ended};
 
 use dtx_values::{Advice, Answer, Listing};
@@ -31,11 +31,11 @@ impl Sessions {
     /// Sessions that have done nothing. Fails where memory runs out.
     #[tactic(auto, using(std::proofs::lemmas::List::replicate_more))]
     pub fn new(alloc: Global) -> Result<Sessions, AllocError>
-        ensures { IfOk result (λ sessions. sessions ≡ replicate 64 fresh_session) }
+        ensures { IfOk result (λ sessions. sessions ≡ replicate 64 fresh_session_of) }
     {
         let mut sessions = Vec::with_capacity(alloc, 64)?;
         for _ in 0..64usize {
-            sessions.push(fresh())?;
+            sessions.push(fresh_session())?;
         }
         Ok(Sessions { sessions })
     }
@@ -141,9 +141,9 @@ impl Sessions {
     }
 }
 
-// A session that has done nothing.
-fn fresh() -> Session
-    ensures { result ≡ fresh_session }
+/// A session that has done nothing.
+pub fn fresh_session() -> Session
+    ensures { result ≡ fresh_session_of }
 {
     Session {
         seq: 0,
@@ -186,9 +186,9 @@ fn session_of(sessions: &[Session], number: u32) -> Session
     ensures { result ≡ session_at sessions.now number }
 {
     match number.checked_sub(1) {
-        None => fresh(),
+        None => fresh_session(),
         Some(place) => match sessions.get(place as usize) {
-            None => fresh(),
+            None => fresh_session(),
             Some(session) => *session,
         },
     }

@@ -29,7 +29,7 @@ pub(crate) fn admit(came: &Calls, call: u32) -> Admit
 }
 
 /// A branch to which no call came, and which made none.
-pub(crate) fn no_work(alloc: Global, branch: &BranchId) -> Work
+pub fn no_work(alloc: Global, branch: &BranchId) -> Work
     ensures { result ≡ no_work_of branch.now }
 {
     Work {

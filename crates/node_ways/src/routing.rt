@@ -13,6 +13,7 @@ use crate::target::{edge_by_link, target_of};
 use crate::{Named, Way};
 use catalog::Catalog;
 use dtx_values::{DEPTH_LIMIT, Listing, Name, Refusal};
+use node_deeds::{NO_NODE, NO_TABLE, TOO_MANY_LINKS, TREE_FULL};
 use redo_record::Place;
 use session_tree::{Live, room};
 use sql_check::plain;
@@ -24,7 +25,7 @@ fn tree_is_full(alloc: Global) -> Refusal
     ensures { result ≡ dtx 2 [] }
 {
     Refusal {
-        code: 60002,
+        code: TREE_FULL,
         args: Listing::new(alloc),
     }
 }
@@ -45,7 +46,7 @@ fn way_new<'a>(
     if DEPTH_LIMIT <= live.depth || room(live, given) == 0 {
         Way::NowhereTo(tree_is_full(alloc))
     } else if place.links as usize <= live.edges.as_slice().len() {
-        Way::NowhereTo(plain(alloc, 2020))
+        Way::NowhereTo(plain(alloc, TOO_MANY_LINKS))
     } else {
         Way::Through { node, link, table }
     }
@@ -85,7 +86,7 @@ fn way_behind<'a>(
     ensures { way_as result ≡ way_target_of place.now live.now given link.now table.now (target_of_link place.now (durable_with catalog.now) link.now) }
 {
     match target_of(place, catalog, link) {
-        None => Way::NowhereTo(plain(alloc, 2019)),
+        None => Way::NowhereTo(plain(alloc, NO_NODE)),
         Some(node) => way_edge(alloc, place, live, given, node, link, table),
     }
 }
@@ -103,7 +104,7 @@ fn way_named<'a>(
     ensures { way_as result ≡ way_named_of place.now (durable_with catalog.now) live.now given (named_as named.entry) }
 {
     match named {
-        Named::Unknown => Way::NowhereTo(plain(alloc, 942)),
+        Named::Unknown => Way::NowhereTo(plain(alloc, NO_TABLE)),
         Named::Table(table) => Way::RunsHere(table),
         Named::Behind { link, table } => {
             way_behind(alloc, place, catalog, live, given, link, table)
