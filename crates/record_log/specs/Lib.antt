@@ -1,4 +1,3 @@
 pub mod Records
 pub mod Held
 pub mod Log
-pub mod Calls

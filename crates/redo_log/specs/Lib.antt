@@ -3,6 +3,4 @@ pub mod Log
 pub mod Gates
 pub mod Loads
 pub mod Plans
-pub mod Runs
-pub mod Calls
 pub mod Stands

@@ -1,5 +1,5 @@
 -- How a run of disk calls goes by the disk's plan: it ends at the first call that an order strikes.
-use Rattle.std.specs.Prelude.{◌≡◌, ◌||◌, if◌then◌else◌, ℕ, Bool, true, false, List, [], ◌∷◌, Option, Some, None}
+use Rattle.std.specs.Prelude.{◌≡◌, ◌||◌, if◌then◌else◌, ℕ, Bool, true, false, List, [], ◌∷◌, Option, Some, None, Result, MatchResult}
 use Rattle.block_disk.specs.Plan.{Plan, strikes, after_call}
 
 -- the plan after these calls, each of a write or of another, up to the first that an order strikes
@@ -16,6 +16,10 @@ strikes_any (is_write ∷ calls) plan = strikes plan is_write || strikes_any cal
 abbrev pub CallsGoByPlan : List Bool → Option Plan → Option Plan → Bool → Type 0
 CallsGoByPlan calls None now fails = now ≡ None
 CallsGoByPlan calls (Some plan) now fails = (now ≡ Some (plan_after calls plan)) × (strikes_any calls plan ≡ fails)
+
+-- these calls go by the plan, and one of them fails where the whole does
+abbrev pub RunsByPlan : {T E : Type 0} → List Bool → Option Plan → Option Plan → Result T E → Type 0
+RunsByPlan calls before now result = MatchResult result (λ _. CallsGoByPlan calls before now false) (λ _. CallsGoByPlan calls before now true)
 
 -- the calls of an append: the body is written, then its gate, with a sync after each
 abbrev pub append_calls : List Bool
