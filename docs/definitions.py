@@ -235,7 +235,7 @@ def stale():
     for line in (DOCS / "PROVED.md").read_text().splitlines():
         cells = [cell.strip() for cell in line.strip("|").split(" |")] if line.startswith("| ") else []
         named = [name.strip() for name in cells[0].split(",")] if cells else []
-        crates = [name for name in named if (CRATES / name).is_dir()] or (crates if named == [""] else [])
+        crates = [name for name in named if name and (CRATES / name).is_dir()] or (crates if named == [""] else [])
         for clause in re.findall(r"`(\w+)`", cells[-1]) if crates else []:
             if not any(clause in words_of(crate) for crate in crates):
                 yield f"docs/PROVED.md: {', '.join(crates)} has no {clause}"
