@@ -2,6 +2,7 @@
 ghost use Rattle.std.specs.Prelude.{◌≡◌, ◌≤◌, ◌<◌, ◌^◌, length, IfOk};
 ghost use Rattle.std.specs.Option.{option_copied};
 ghost use Rattle.dtx_values.specs.Limits.{branch_limit};
+ghost use Rattle.session_tree.specs.Tree.{count as count_of};
 ghost use Rattle.node_rules.specs.Calls.{reply_fields as reply_fields_of, replies as replies_of, opened_says as opened_says_of, says_again as says_again_of, gone_reply as gone_reply_of, is_gone as is_gone_of, heard_answer as heard_answer_of};
 ghost use Rattle.node_deeds.specs.Gives.{branch_with};
 
