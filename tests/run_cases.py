@@ -114,10 +114,10 @@ def tried(listed):
 
 
 def builds():
-    """How many builds there are, each with its share of the cases: a case takes `rt try` most of a second. A build takes two
-    processors for a minute, and up to 5 GB."""
+    """How many builds there are, side by side, each with its share of the cases: a build takes `rt try` a minute and up to
+    5 GB, and a case more than a second."""
     free = int(re.search(r"MemAvailable: *([0-9]+)", pathlib.Path("/proc/meminfo").read_text())[1]) // 1024**2
-    return max(1, min(os.cpu_count() // 2, free // 5))
+    return max(1, min(os.cpu_count(), free // 5))
 
 
 def unproved():
