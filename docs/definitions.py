@@ -1,13 +1,19 @@
 #!/usr/bin/env python3
-"""Writes docs/DEFINITIONS.md: what contracts cite, in the words of the comments that stand above it in the crates.
+"""Finds definitions: what stands in the specs/ of crates, in whose words contracts are written.
 
-    docs/definitions.py            writes the page
-    docs/definitions.py --check    exits with 1 where the page is another than would be written
+    docs/definitions.py NAME       each definition of that name: file and line, its comment, and which files cite it; and each
+                                   function and lemma of that name
+    docs/definitions.py            all definitions, a line each: file and line, name, comment
+    docs/definitions.py --reach    the files that the theorem reaches, with the comment at the head of each
+    docs/definitions.py --check    exits with 1 where a document links to a file that is not there, READING.md does not link to a
+                                   file that the theorem reaches, MESSAGES.md names a definition that is not there, or PROVED.md
+                                   a clause that its crate has not; each is a line, and the last line counts them
 
-The page begins with definitions.head.md, which is written by hand. After it comes each crate, in the order of crates.txt:
-its types, and its specs files in the order of Lib.antt. Definitions without a comment are named on standard error.
+The theorem is the contract of run_script (crates/script_run/src/run.rt). It reaches the definitions that the contract names,
+and those that these name in turn.
 """
 
+import functools
 import pathlib
 import re
 import sys
@@ -15,208 +21,241 @@ from itertools import takewhile
 from typing import NamedTuple
 
 DOCS = pathlib.Path(__file__).resolve().parent
-CRATES = DOCS.parent / "crates"
-ORDER = DOCS.parent / "crates.txt"
-HEAD = DOCS / "definitions.head.md"
-PAGE = DOCS / "DEFINITIONS.md"
+TOP = DOCS.parent
+CRATES = TOP / "crates"
+READING = DOCS / "READING.md"
+THEOREM = ("script_run", "IsRun", "EndsUnread", "EndsRead", "IsComplete", "ending_of", "wanted")
 
-DEFINITION = re.compile(r"(?:abbrev |unfoldable )?pub (?:data |record )?(?!use |mod )(\S+)")
-# a constructor or a field, and the comment at the end of its line
-PART = re.compile(r"  (?:pub )?(\S+) : .*?(?: +-- (.*))?")
-TYPE = re.compile(r"pub (?:struct|enum|trait) (\w+)")
-SECTION = "-- ---- "
-FILE = re.compile(r"\[(\w+/(?:specs|src)/\w+\.(?:antt|rt))\]")
+PUBLIC = re.compile(r"(?:abbrev |unfoldable )?pub (?:data |record )?(?!use |mod )(\S+)")
+IMPORT = re.compile(r"(?:ghost |pub )*use Rattle\.(\w+)\.specs\.([\w.]+)\.\{(.*)\};?$")
+WORD = re.compile(r"[^\s(){}\[\];,.]+")
+# the definitions that decide a message, and their crate, as MESSAGES.md has them
+DECIDED = re.compile(r"((?:`\w+`, )*`\w+`) \((\w+)\)")
+LINK = re.compile(r"\]\((?!https?:)([^)#\s]+)(?:#[^)]*)?\)")
 
 
 class Definition(NamedTuple):
-    """A definition: its name, the comment above it, and those of its constructors or fields that have one."""
+    """A definition: its crate and file, the line it begins on, its name, the comment above it, and its text."""
 
+    crate: str
+    module: str
+    line: int
     name: str
     comment: str
-    parts: list
+    text: str
+
+    def place(self):
+        """Its file and line."""
+        return f"crates/{self.crate}/specs/{self.module}.antt:{self.line}"
 
 
-class Section(NamedTuple):
-    """What stands in a specs file below a title, which is empty at the front."""
-
-    title: str
-    definitions: list
-
-
-class Specs(NamedTuple):
-    """A specs file: its path, the comment at its head, and its sections."""
-
-    path: str
-    head: list
-    sections: list
-
-    def definitions(self):
-        """All that it defines, in order."""
-        return [definition for section in self.sections for definition in section.definitions]
+def specs():
+    """The specs files, each with its crate and its module."""
+    for path in sorted(CRATES.glob("*/specs/*.antt")):
+        if path.stem != "Lib":
+            yield path.parent.parent.name, path.stem, path
 
 
-# ---- reading a specs file
+# ---- reading a file
 
 
-def comment_lines(lines):
-    """The texts of the comments that stand at the beginning of a line."""
-    return [line.removeprefix("--").removeprefix(" ") for line in lines if line.startswith("--")]
+def comment_above(lines, place):
+    """The comment that ends right above a line."""
+    first = place
+    while first and lines[first - 1].startswith(("--", "infix")):
+        first -= 1
+    return " ".join(line[2:].strip() for line in lines[first:place] if line.startswith("--"))
 
 
-def parts_in(lines):
-    """The constructors or fields with a comment, which ends their line or else stands on the line above."""
-    parts, above = [], ""
-    for line in takewhile(lambda line: line.startswith("  "), lines):
-        part = PART.fullmatch(line)
-        if part and (part[2] or above):
-            parts.append((part[1], part[2] or above))
-        above = line.strip().removeprefix("-- ") if line.startswith("  -- ") else ""
-    return parts
+@functools.cache
+def definitions_in(crate, module):
+    """The public definitions of a file. A text goes on to the next comment or definition of another name."""
+    path = CRATES / crate / "specs" / f"{module}.antt"
+    lines = path.read_text().splitlines() if path.exists() else []
+    found = []
+    starts = [(place, named[1]) for place, line in enumerate(lines) if (named := PUBLIC.match(line))]
+    for number, (place, name) in enumerate(starts):
+        end = starts[number + 1][0] if number + 1 < len(starts) else len(lines)
+        text = "\n".join(line for line in lines[place:end] if not line.lstrip().startswith("--"))
+        found.append(Definition(crate, module, place + 1, name, comment_above(lines, place), text))
+    return found
 
 
-def sections_in(lines):
-    """The sections of a specs file. A definition's comment is on the lines above it, with the line of an operator's rank."""
-    sections, above = [Section("", [])], []
-    for place, line in enumerate(lines):
-        if line.startswith(SECTION):
-            sections.append(Section(line.removeprefix(SECTION), []))
-        elif found := DEFINITION.match(line):
-            parts = parts_in(lines[place + 1 :]) if line.startswith(("pub data", "pub record")) else []
-            sections[-1].definitions.append(Definition(found[1], " ".join(comment_lines(above)), parts))
-        above = [*above, line] if line.startswith(("--", "infix")) else []
-    return sections
+@functools.cache
+def imports_of(path):
+    """The names that a file takes from specs of crates: each with the crate, the module and the name there."""
+    found = {}
+    for line in path.read_text().splitlines():
+        said = IMPORT.match(line.strip())
+        if said and said[3]:
+            for part in said[3].split(","):
+                old, _, new = part.strip().partition(" as ")
+                found[new or old] = (said[1], said[2], old)
+    return found
 
 
-def specs_in(path):
-    """A specs file."""
-    lines = path.read_text().splitlines()
-    head = comment_lines(takewhile(lambda line: line.startswith("--"), lines))
-    return Specs(str(path.relative_to(CRATES)), head, sections_in(lines))
+def looked_up(crate, module, name, seen=()):
+    """The definition of this name in a module, also where the module hands on the name of another, or None."""
+    for definition in definitions_in(crate, module):
+        if definition.name == name:
+            return definition
+    path = CRATES / crate / "specs" / f"{module}.antt"
+    if path.exists() and (crate, module) not in seen and name in imports_of(path):
+        return looked_up(*imports_of(path)[name], seen=(*seen, (crate, module)))
+    return None
 
 
-def specs_of(crate):
-    """The specs files of a crate that define something."""
-    folder = CRATES / crate / "specs"
-    if not folder.is_dir():
-        return []
-    modules = [line.split()[-1] for line in (folder / "Lib.antt").read_text().splitlines()]
-    files = [specs_in(folder / f"{module}.antt") for module in modules]
-    return [file for file in files if file.definitions()]
+# ---- what cites, and what is reached
 
 
-# ---- reading a source file
+def named_in(definition):
+    """The definitions that the text of one names."""
+    path = CRATES / definition.crate / "specs" / f"{definition.module}.antt"
+    own, taken = {it.name: it for it in definitions_in(definition.crate, definition.module)}, imports_of(path)
+    for word in set(WORD.findall(definition.text)):
+        if word in own:
+            yield own[word]
+        elif word in taken and (found := looked_up(*taken[word])):
+            yield found
 
 
-def first_sentence(lines):
-    """The first sentence of a comment's lines, without the brackets of a link."""
-    text = " ".join(lines).replace("[`", "`").replace("`]", "`")
+def reached():
+    """The definitions that the theorem reaches."""
+    crate, *names = THEOREM
+    of_crate = [it for _, module, path in specs() if path.parent.parent.name == crate for it in definitions_in(crate, module)]
+    left = [it for it in of_crate if it.name in names]
+    found = set(left)
+    while left:
+        new = set(named_in(left.pop())) - found
+        found |= new
+        left += new
+    return found
+
+
+def cited_by(definition):
+    """The files that cite a definition: those that take its name from its module, and its own."""
+    wanted = (definition.crate, definition.module, definition.name)
+    for path in sorted([*CRATES.glob("*/src/**/*.rt"), *CRATES.glob("*/specs/*.antt"), *CRATES.glob("*/proofs/**/*.antt")]):
+        if wanted in imports_of(path).values():
+            yield str(path.relative_to(TOP))
+
+
+def files(found):
+    """The specs files of definitions, from the crates of the lowest layer up."""
+    order = [line.partition(":")[0] for line in (TOP / "crates.txt").read_text().splitlines() if line[:1].isalpha()]
+    return sorted({(it.crate, it.module) for it in found}, key=lambda it: (order.index(it[0]), it[1]))
+
+
+def head_of(crate, module):
+    """The first sentence of the comment at the head of a specs file."""
+    lines = (CRATES / crate / "specs" / f"{module}.antt").read_text().splitlines()
+    text = " ".join(line[2:].strip() for line in lines[: next((n for n, it in enumerate(lines) if not it.startswith("--")), 0)])
     return re.match(r".*?\.(?= |$)|.*", text)[0]
 
 
-def doc_lines(lines, mark):
-    """The texts of the comments with this mark in front."""
-    return [line.removeprefix(mark).strip() for line in lines if line.startswith(mark)]
+def others(name):
+    """Each function and lemma of a name: its file and line, and the comment above it."""
+    is_function = re.compile(rf"\s*(?:pub )?fn {re.escape(name)}\b").match
+    is_above = re.compile(r"\s*(?:--|//|#\[)").match
+    is_lemma = re.compile(rf"(?:pub |abbrev |unfoldable )*{re.escape(name)} : ").match
+    for pattern, is_it in (("*/src/**/*.rt", is_function), ("*/proofs/**/*.antt", is_lemma)):
+        for path in sorted(CRATES.glob(pattern)):
+            lines = path.read_text().splitlines()
+            for place in [place for place, line in enumerate(lines) if is_it(line)]:
+                above = [line.strip() for line in takewhile(is_above, lines[:place][::-1])]
+                said = [line.lstrip("-/ ") for line in above[::-1] if not line.startswith("#[")]
+                yield f"{path.relative_to(TOP)}:{place + 1}", " ".join(said)
 
 
-def crate_says(crate):
-    """The first sentence on a crate."""
-    return first_sentence(doc_lines((CRATES / crate / "src" / "lib.rt").read_text().splitlines(), "//!"))
+# ---- commands
 
 
-def types_in(path):
-    """The public types of a source file, each with the first sentence of its comment."""
-    types, above = [], []
-    for line in path.read_text().splitlines():
-        if found := TYPE.match(line):
-            types.append((found[1], first_sentence(doc_lines(above, "///"))))
-        above = [*above, line] if line.startswith(("///", "#[")) else []
-    return types
+def show(name):
+    """Prints each definition, function and lemma of a name."""
+    found = [it for crate, module, _ in specs() for it in definitions_in(crate, module) if it.name == name]
+    for definition in found:
+        print(f"{definition.place()}\n  {definition.comment or '(no comment)'}")
+        print(*(f"    {path}" for path in cited_by(definition)), sep="\n")
+    beside = list(others(name))
+    for place, comment in beside:
+        print(f"{place}\n  {comment or '(no comment)'}")
+    return 0 if found or beside else 1
 
 
-def types_of(crate):
-    """The public types of a crate."""
-    return [found for path in sorted((CRATES / crate / "src").rglob("*.rt")) for found in types_in(path)]
+def show_all():
+    """Prints all definitions."""
+    for crate, module, _ in specs():
+        for definition in definitions_in(crate, module):
+            print(f"{definition.place()} {definition.name}: {definition.comment}")
+    return 0
 
 
-# ---- writing the page
+def show_reached():
+    """Prints the files that the theorem reaches."""
+    for crate, module in files(reached()):
+        print(f"crates/{crate}/specs/{module}.antt: {head_of(crate, module)}")
+    return 0
 
 
-def cell(text):
-    """The text in a cell of a table."""
-    return text.replace("|", "\\|")
+def wrong_links():
+    """Each link of a document that leads nowhere."""
+    for page in sorted([TOP / "README.md", *DOCS.glob("*.md"), TOP / "tests/README.md"]):
+        for link in LINK.findall(page.read_text()):
+            if not (page.parent / link).exists():
+                yield f"{page.relative_to(TOP)}: there is no {link}"
 
 
-def row(definition):
-    """The row of a definition."""
-    parts = "; ".join(f"`{name}`: {comment}" for name, comment in definition.parts)
-    end = " " if definition.comment.endswith(".") else "; "
-    says = end.join(text for text in (definition.comment, parts) if text)
-    return f"| `{cell(definition.name)}` | {cell(says)} |"
+def unlisted():
+    """Each file that the theorem reaches and READING.md has no link to."""
+    text = READING.read_text()
+    for crate, module in files(reached()):
+        if f"../crates/{crate}/specs/{module}.antt)" not in text:
+            yield f"docs/READING.md: the theorem reaches crates/{crate}/specs/{module}.antt"
 
 
-def section_blocks(section):
-    """The title of a section, and the table of its definitions."""
-    title = [f"#### {section.title.removesuffix('.')}"] if section.title else []
-    table = ["| name | says |", "|---|---|", *map(row, section.definitions)]
-    return [*title, "\n".join(table)] if section.definitions else title
+def unknown():
+    """Each definition that MESSAGES.md names and that is not there."""
+    known = {(crate, it.name) for crate, module, _ in specs() for it in definitions_in(crate, module)}
+    for line in (DOCS / "MESSAGES.md").read_text().splitlines():
+        for names, crate in DECIDED.findall(line.rpartition(" | ")[2]):
+            for name in names.replace("`", "").split(", "):
+                if (crate, name) not in known:
+                    yield f"docs/MESSAGES.md: {crate} has no definition {name}"
 
 
-def specs_blocks(specs):
-    """A specs file: its name, the comment at its head, in which what is indented stays as it is, and its sections."""
-    head = ["  " + line if line.startswith("  ") else line for line in specs.head]
-    tables = [block for section in specs.sections for block in section_blocks(section)]
-    return [f"### [{specs.path}]", "\n".join(head), *tables]
+@functools.cache
+def words_of(crate):
+    """The words in the files of a crate."""
+    return {word for path in (CRATES / crate).rglob("*.*t") if "out" not in path.parts for word in re.findall(r"\w+", path.read_text())}
 
 
-def crate_blocks(crate, types, files):
-    """A crate: its name, what it is for, its types, its specs files."""
-    listed = ["Types and traits:", "\n".join(f"- `{name}`: {says}" for name, says in types)] if types else []
-    return [f"## {crate}", crate_says(crate), *listed, *(block for specs in files for block in specs_blocks(specs))]
+def stale():
+    """Each name of a clause, in the last column of PROVED.md, that stands in no file of its row's crates."""
+    crates = []
+    for line in (DOCS / "PROVED.md").read_text().splitlines():
+        cells = [cell.strip() for cell in line.strip("|").split(" |")] if line.startswith("| ") else []
+        named = [name.strip() for name in cells[0].split(",")] if cells else []
+        crates = [name for name in named if name and (CRATES / name).is_dir()] or (crates if named == [""] else [])
+        for clause in re.findall(r"`(\w+)`", cells[-1]) if crates else []:
+            if not any(clause in words_of(crate) for crate in crates):
+                yield f"docs/PROVED.md: {', '.join(crates)} has no {clause}"
 
 
-def targets(text):
-    """Where the links to files of crates lead that stand in a text."""
-    paths = sorted(set(FILE.findall(text)))
-    missing = [path for path in paths if not (CRATES / path).exists()]
-    if missing:
-        sys.exit(f"{HEAD.name} names files that are not there: {', '.join(missing)}")
-    return "\n".join(f"[{path}]: ../crates/{path}" for path in paths)
-
-
-def page(crates):
-    """The whole page, of crates with their types and specs files."""
-    names = ", ".join(f"[{crate}](#{crate})" for crate, _, _ in crates)
-    contents = f"The crates, from the lowest layer up: {names}."
-    blocks = [HEAD.read_text().strip(), contents, *(block for each in crates for block in crate_blocks(*each))]
-    text = "\n\n".join(block for block in blocks if block)
-    return f"{text}\n\n{targets(text)}\n"
-
-
-def all_crates():
-    """The crates that have types or specs files, each with these."""
-    names = [line.partition(":")[0] for line in ORDER.read_text().splitlines()]
-    crates = [(name, types_of(name), specs_of(name)) for name in names]
-    return [(name, types, files) for name, types, files in crates if types or files]
-
-
-def tell_uncommented(crates):
-    """Names the definitions without a comment, a line for each file that has some."""
-    for specs in [specs for _, _, files in crates for specs in files]:
-        names = [definition.name for definition in specs.definitions() if not definition.comment]
-        if names:
-            print(f"{specs.path}: {len(names)} without a comment: {', '.join(names)}", file=sys.stderr)
+def check():
+    """Prints what is wrong with the documents."""
+    wrong = [*wrong_links(), *unlisted(), *unknown(), *stale()]
+    print(*wrong, f"{len(wrong)} links and names are missing or lead nowhere", sep="\n")
+    return 1 if wrong else 0
 
 
 def main(words):
-    crates = all_crates()
-    tell_uncommented(crates)
-    wanted = page(crates)
-    if words != ["--check"]:
-        PAGE.write_text(wanted)
-    elif not PAGE.exists() or PAGE.read_text() != wanted:
-        print(f"differs: docs/{PAGE.name}")
-        return 1
-    return 0
+    if words == ["--check"]:
+        return check()
+    if words == ["--reach"]:
+        return show_reached()
+    if len(words) > 1:
+        sys.exit("usage: docs/definitions.py [NAME | --reach | --check]")
+    return show(words[0]) if words else show_all()
 
 
 if __name__ == "__main__":

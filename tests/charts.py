@@ -1,19 +1,18 @@
 #!/usr/bin/env python3
-"""Checks that the pictures beside the examples are those that the built program draws.
+"""Checks that the pictures beside the examples are those that the proved program draws.
 
     tests/charts.py [--make] [PROGRAM]
 
-PROGRAM is the proved program where it is left out, which `./prove chart` builds. With --make the pictures are written anew. Each
-picture has to be well-formed XML in printable ASCII. Each failure is one line. The last line is `N passed, M failed`; the exit
-status is 1 where one failed.
+PROGRAM is the proved dtx-chart where it is left out. With --make the pictures are written anew. Each picture has to be
+well-formed XML in printable ASCII. Each failure is one line. The last line is `N passed, M failed`; the exit status is 1 where
+one failed.
 """
 
-import pathlib
 import subprocess
 import sys
 import xml.etree.ElementTree
 
-TOP = pathlib.Path(__file__).resolve().parent.parent
+from runs import TOP, proved
 
 
 def picture_of(program, script):
@@ -34,7 +33,7 @@ def why_wrong(picture, kept):
 
 def main(words):
     make = words[:1] == ["--make"]
-    program = (words[make:] or [str(TOP / "crates/dtx_chart/out/dtx_chart")])[0]
+    program = (words[make:] or [None])[0] or proved("dtx-chart")
     passed = failed = 0
     for script in sorted(TOP.glob("examples/*.dtx")):
         picture, kept = picture_of(program, script), script.with_suffix(".svg")

@@ -4,7 +4,7 @@
     tests/fuzz.py [--count N] [--seed S] [--jobs J] [PROGRAM]
 
 N scripts (1,000 where it is left out) are made from seed S on, J at a time, and PROGRAM is the proved program where it is left
-out, which ./prove builds. fuzz_scripts.py makes them: one to five nodes, transactions over links, and among them disk orders,
+out. fuzz_scripts.py makes them: one to five nodes, transactions over links, and among them disk orders,
 crash-test comments, lost messages, stops, forced outcomes and so on, at random places. Behind each script the network is
 joined, nothing is held, and all is recovered. Of each run is asked that
 
@@ -29,9 +29,9 @@ import sys
 from collections import defaultdict
 from functools import partial
 
+from disk_records import BOOKED, rows_of
 from fuzz_scripts import DBA, TABLE, Writer
-from records import BOOKED, rows_of
-from runs import PROGRAM, Unended, disk_of, records_of, run
+from runs import Unended, disk_of, proved, records_of, run
 
 ROUNDS = 20  # of recovery: orders of the script may still strike on the way, and a decision may go up and down a deep tree
 
@@ -202,8 +202,10 @@ def words():
     parser.add_argument("--count", type=int, default=1000)
     parser.add_argument("--seed", type=int, default=0)
     parser.add_argument("--jobs", type=int, default=os.cpu_count())
-    parser.add_argument("program", nargs="?", default=PROGRAM)
-    return parser.parse_args()
+    parser.add_argument("program", nargs="?")
+    asked = parser.parse_args()
+    asked.program = asked.program or proved()
+    return asked
 
 
 def main(asked):

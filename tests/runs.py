@@ -1,12 +1,20 @@
-"""Runs of the built program for the tests beside this file, and what a report of one shows."""
+"""Runs of the proved program for the tests beside this file, and what a report of one shows."""
 
 import pathlib
 import subprocess
+import sys
 from collections import defaultdict
 from typing import NamedTuple
 
 TOP = pathlib.Path(__file__).resolve().parent.parent
-PROGRAM = str(TOP / "crates/dtx/out/dtx")
+
+
+def proved(name="dtx"):
+    """Where the proved program of this name stands: the one that ./prove built, or the one in release/ of these very sources."""
+    found = subprocess.run([TOP / "release/program", name], capture_output=True, text=True)
+    if found.returncode:
+        sys.exit(f"there is no proved {name} of these sources: run ./prove{' chart' if name == 'dtx-chart' else ''}")
+    return found.stdout.strip()
 
 
 class Ran(NamedTuple):

@@ -3,7 +3,7 @@
 
     tests/sweep.py [--few] [--jobs N] [PROGRAM]
 
-PROGRAM is the proved program where it is left out, which ./prove builds; N runs are made at once, as many as there are
+PROGRAM is the proved program where it is left out; N runs are made at once, as many as there are
 processors where it is left out. A script of tests/sweeps makes nodes and tables, then changes rows over links, and its last
 COMMIT is the one that is swept. For each node and each write that the node makes from there on, and one more, a run is made
 in which that write stops the node, and leaves none of its bytes, half of them, all, or as many bytes of 1; and for each disk
@@ -28,7 +28,7 @@ import sys
 from concurrent.futures import ThreadPoolExecutor
 from typing import NamedTuple
 
-from runs import PROGRAM, Unended, disk_of, on_one_line, records_of, run
+from runs import Unended, disk_of, on_one_line, proved, records_of, run
 
 FOLDER = pathlib.Path(__file__).resolve().parent / "sweeps"
 FEW = ("a-leaf-is-the-site", "the-site-is-in-the-middle", "two-branches-at-one-node")
@@ -189,8 +189,10 @@ def words():
     parser = argparse.ArgumentParser(description=__doc__.splitlines()[0])
     parser.add_argument("--few", action="store_true")
     parser.add_argument("--jobs", type=int, default=os.cpu_count())
-    parser.add_argument("program", nargs="?", default=PROGRAM)
-    return parser.parse_args()
+    parser.add_argument("program", nargs="?")
+    asked = parser.parse_args()
+    asked.program = asked.program or proved()
+    return asked
 
 
 def main(asked):

@@ -1,14 +1,15 @@
 #!/usr/bin/env python3
 """Tests that ./dtx hands words, input, output and status through, and which program it runs.
 
-    tests/wrapper.py
+    tests/wrapper.py [PROGRAM]      compares ./dtx with the proved program, on words and inputs of many kinds
+    tests/wrapper.py --stand-ins    tries it in a repository of no crates, with stand-ins for the programs and for rt
 
-First ./dtx is compared with the proved program, which has to be built, on words and inputs of many kinds. Then a copy of
-./dtx and ./prove is tried in a repository of no crates, with stand-ins for the program and for rt: that nothing is proved
-yet, that a source is newer than the program, that rt is missing, and that a run gives no answer. Each failure is one line.
-The last line is `N passed, M failed`; the exit status is 1 where one failed.
+The stand-ins show what runs where nothing is proved yet, where a source is newer than the program, where there is a binary in
+release/ and whether it is of these sources, where rt is missing, and where a run gives no answer. Each failure is one line. The
+last line is `N passed, M failed`; the exit status is 1 where one failed.
 """
 
+import hashlib
 import os
 import pathlib
 import shutil
@@ -17,8 +18,8 @@ import sys
 import tempfile
 from typing import NamedTuple
 
-TOP = pathlib.Path(__file__).resolve().parent.parent
-PROGRAM = TOP / "crates/dtx/out/dtx"
+from runs import TOP, proved
+
 FIRST = (TOP / "examples/first.dtx").read_bytes()
 ORDER = (TOP / "examples/order.dtx").read_bytes()
 
@@ -64,6 +65,11 @@ exit 6
 """
 
 
+SCRIPTS = ("dtx", "prove", "release/digest", "release/program", "release/run")
+# the commands that these scripts call where no crate is proved
+COMMANDS = "cat cut dirname find grep head sed sh sha256sum sort tr uname xargs".split()
+
+
 class End(NamedTuple):
     """How a call ended."""
 
@@ -87,22 +93,47 @@ def write_script(path, text):
     path.chmod(0o755)
 
 
-def on_the_program():
+def on_the_program(program):
     """./dtx against the proved program: the name of each call, and whether the two end alike, with nothing said beside."""
     for name, (words, data) in CALLS.items():
-        own = call([PROGRAM, *words], data)
+        own = call([program, *words], data)
         yield f"proved: {name}", call([TOP / "dtx", *words], data) == own._replace(errors=b"")
 
 
 def empty_repository(top):
     """A repository with the scripts and no crates, and a folder of the commands that they call, without rt."""
-    for name in ("dtx", "prove"):
+    for folder in ("bin", "release"):
+        (top / folder).mkdir()
+    for name in SCRIPTS:
         shutil.copy2(TOP / name, top / name)
-    (top / "bin").mkdir()
-    for name in ("cat", "dirname", "find", "head", "sed", "sh"):
+    for name in COMMANDS:
         (top / "bin" / name).symlink_to(shutil.which(name))
     (top / "crates/dtx/src").mkdir(parents=True)
     (top / "crates.txt").write_text("")
+
+
+def sum_of(path):
+    """The sum of a file."""
+    return hashlib.sha256(path.read_bytes()).hexdigest()
+
+
+def on_release(top, dtx, back):
+    """./dtx with a stand-in in release/, and without rt: the name of each call, and whether it ends as is due."""
+    folder = top / f"release/{os.uname().machine}-{os.uname().sysname.lower()}"
+    binary, source = folder / "dtx", top / "crates/dtx/src/main.rt"
+    write_script(binary, STAND_IN)
+    source.write_text("// one\n")
+    digest = call([top / "release/digest"], b"").output.decode().strip()
+    (folder / "SUMS").write_text(f"{digest}  sources\n{sum_of(binary)}  dtx\n")
+    for status in range(7):
+        yield f"a binary, status {status}", dtx(str(status)) == (status, back, b"")
+    source.write_text("// two\n")
+    yield "a binary of other sources", dtx()[:2] == (127, b"")
+    source.write_text("// one\n")
+    yield "a binary of these sources again", dtx() == (0, back, b"")
+    binary.write_bytes(binary.read_bytes() + b"#")
+    yield "a binary with a byte more", dtx()[:2] == (127, b"")
+    source.unlink()
 
 
 def on_stand_ins(top):
@@ -115,10 +146,11 @@ def on_stand_ins(top):
         return call([top / "dtx", *words], data, PATH=str(top / "bin"), STATUS=status)
 
     yield "rt is missing", dtx()[:2] == (127, b"")
+    yield from on_release(top, dtx, back)
     write_script(top / "bin/rt", RT_TRY)
     for status in range(7):
         yield f"nothing proved, status {status}", dtx(str(status))[:2] == (status, back)
-    yield "nothing proved, it is said", b"nothing is proved yet" in dtx().errors and b"./prove" in dtx().errors
+    yield "nothing proved, it is said", b"unproved" in dtx().errors and b"./prove" in dtx().errors
     write_script(top / "bin/rt", RT_SILENT)
     yield "no answer", dtx()[:2] == (127, b"")
 
@@ -132,15 +164,14 @@ def on_stand_ins(top):
     os.utime(source, (later, later))
     write_script(top / "bin/rt", RT_TRY)
     yield "a newer source", dtx("3")[:2] == (3, back)
-    yield "a newer source, it is said", b"newer than the proved program" in dtx().errors
+    yield "a newer source, it is said", b"unproved" in dtx().errors
     yield "a newer source, by ./prove --check", call([top / "prove", "--check"], b"").status == 1
 
 
-def main():
-    if not PROGRAM.exists():
-        sys.exit("the proved program is not built: run ./prove")
+def main(words):
     with tempfile.TemporaryDirectory() as folder:
-        ends = [*on_the_program(), *on_stand_ins(pathlib.Path(folder))]
+        stands_in = words == ["--stand-ins"]
+        ends = [*(on_stand_ins(pathlib.Path(folder)) if stands_in else on_the_program(words[0] if words else proved()))]
     for name in [name for name, right in ends if not right]:
         print(f"FAIL {name}")
     failed = sum(not right for _, right in ends)
@@ -149,4 +180,4 @@ def main():
 
 
 if __name__ == "__main__":
-    sys.exit(main())
+    sys.exit(main(sys.argv[1:]))

@@ -18,15 +18,15 @@ import sys
 from commands import printed
 from random_commands import Writer
 
-CRATE = pathlib.Path(__file__).resolve().parent.parent.parent / "crates/print_script"
+TOP = pathlib.Path(__file__).resolve().parent.parent.parent
 # good, and each reason for which a command is bad
 KINDS = 8
 
 
 def built():
     """The program, proved and built."""
-    subprocess.run(["rt", "run"], cwd=CRATE, stdin=subprocess.DEVNULL, capture_output=True, check=True)
-    return str(CRATE / "out/print_script")
+    subprocess.run([TOP / "prove", "print_script"], check=True)
+    return str(TOP / "crates/print_script/out/print_script")
 
 
 def kind(status, text):

@@ -1,10 +1,10 @@
 #!/usr/bin/env python3
-"""Compares the built program with a second one, written from the rules alone, on random scripts of many nodes.
+"""Compares the proved program with a second one, written from the rules alone, on random scripts of many nodes.
 
     tests/model/compare_nodes.py [COUNT [SEED [PROGRAM]]]
 
 COUNT scripts (300 where it is left out) are made from SEED on, and PROGRAM is the proved program where it is left out,
-which ./prove builds. A script on which the two differ is written to differs_SEED.dtx, and the first line that differs is
+of ./prove or release/. A script on which the two differ is written to differs_SEED.dtx, and the first line that differs is
 printed. The last line is `N scripts, M differ`; the exit status is 1 where one differs.
 
 The second program is script.py and what it imports; random_nodes.py makes the scripts. They have two to six nodes with
@@ -17,9 +17,8 @@ import pathlib
 import subprocess
 import sys
 
+from proved_program import proved_program
 from random_nodes import Writer
-
-TOP = pathlib.Path(__file__).resolve().parent.parent.parent
 
 
 def first_difference(due, printed):
@@ -28,8 +27,8 @@ def first_difference(due, printed):
     return next((pair for pair in pairs if pair[0] != pair[1]), None)
 
 
-def main(count="300", seed="0", program=str(TOP / "crates/dtx/out/dtx")):
-    differing = 0
+def main(count="300", seed="0", program=None):
+    program, differing = program or proved_program(), 0
     for number in range(int(seed), int(seed) + int(count)):
         writer = Writer(number)
         script = writer.script()

@@ -16,7 +16,7 @@ TOP = pathlib.Path(__file__).resolve().parents[2]
 # the file of the plays that is written by hand and that all of them use
 BY_HAND = "Script"
 # the crates of definitions with laws over them, each below the next
-LAWS = ("node_rules", "run_laws")
+LAWS = ("node_rules", "run_rules", "run_base_laws", "run_branch_laws", "run_key_laws")
 # the crates of definitions with code that is proved against them; plays look at the definitions alone
 PARTS = ("session_tree", "link_session", "prepare_phase", "commit_forget", "crash_points", "reco", "force_cmds")
 # what stands in a lib.rt beside laws begins so

@@ -3,7 +3,7 @@
 IDS = "Rattle.tran_ids.specs"
 REDO = "Rattle.redo_record.specs"
 RULES = "Rattle.node_rules.specs"
-LAWS = "Rattle.run_laws.specs"
+LAWS = "Rattle.run_rules.specs"
 RULES_DATA = f"{RULES}.Data"
 DATA = f"{LAWS}.Data"
 PROOFS = "Rattle.plays.proofs"

@@ -12,7 +12,7 @@ A FOLDER is a case or holds cases. A case is a folder with the files
     status      optional: the exit status, 0
 
 The crates are copied to a temporary folder with what earlier checks kept of them, so that only what changed is checked
-again. There lemmas about the cases stand in place of the plays, and the crate plays is checked; where proofs of run_laws
+again. There lemmas about the cases stand in place of the plays, and the crate plays is checked; where proofs of the base laws
 fail, without those laws. A case that differs is played once more, for three times as many happenings. One line a case
 tells whether it was played, differs, and at which line, or was not read, and why. The last line is
 `N played, M differ, K not read`. The exit status is 1 where one differs, and 2 where the check did not come to the cases.
@@ -24,12 +24,12 @@ import pathlib
 import sys
 from dataclasses import replace
 
-from cases import NotRead, cases_in, read_case
 from compared import USES, case_blocks, comparison, computed
 from copies import Unchecked, copied_crates
 from files import file_text
+from outside_cases import NotRead, cases_in, read_case
+from play_tokens import command_texts
 from printed import command_at, place_of_difference, printed_from
-from tokens import command_texts
 
 PLAYED, DIFFERS, NOT_READ = "played", "DIFFERS", "not read"
 MORE = 3  # so many times as many happenings has a case that differs at first

@@ -5,8 +5,8 @@ import re
 from collections import defaultdict
 from dataclasses import dataclass
 
-from script import read_script
-from tokens import command_texts
+from play_tokens import command_texts
+from script_terms import read_script
 
 FOLDER = pathlib.Path(__file__).resolve().parent / "scenarios"
 CRASH = re.compile(r"CRASH (\S+) WRITE (\d+) (KEEP|LEAVE) (\S+)")

@@ -3,7 +3,7 @@
 from dataclasses import dataclass
 
 from antt import boolean, call, codes, listing
-from tokens import need
+from play_tokens import need
 
 SIGNS = {"=": "Eq", "<>": "Ne", "!=": "Ne", "<": "Lt", "<=": "Le", ">": "Gt", ">=": "Ge"}
 GREATEST = 2**63 - 1

@@ -4,8 +4,8 @@ import re
 from dataclasses import dataclass
 
 from antt import boolean, call, codes, listing, option
-from sql import statement_term
-from tokens import command_texts
+from play_tokens import command_texts
+from statement_terms import statement_term
 
 KIND_NAMES = (
     "Open Opened Exec Reply Prepare Prepared ReadOnly Ready Abort CommitPoint Committed RolledBack InDoubt Ack"

@@ -1,8 +1,8 @@
 """Statements as antt terms, in the short words of Script.antt where one fits."""
 
 from antt import boolean, call, codes, listing, option
-from sums import read_sum, read_where
-from tokens import NotSql, Reader, need, need_distinct
+from play_tokens import NotSql, Reader, need, need_distinct
+from value_terms import read_sum, read_where
 
 GREATEST_SCN = 2**48 - 1
 

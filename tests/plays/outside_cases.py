@@ -3,10 +3,10 @@
 import pathlib
 from dataclasses import dataclass
 
+from play_tokens import command_texts
 from scenarios import Scenario, read_scenario
-from script import AT
-from sql import statement_term
-from tokens import command_texts
+from script_terms import AT
+from statement_terms import statement_term
 
 SHOW_DISK = "the definitions print nothing of SHOW DISK"
 # what is said of a call whose text is no statement, or was not looked at
