@@ -1,0 +1,88 @@
+//! The words of the command line after the program's name, as clap reads them: the flag `--book`, and the option `--make` with a
+//! whole number from 1 to 65,535. There is no help and no version.
+//!
+//! `specs/CommandLine.antt` says what words mean. clap is right about them by its own contract: which words it refuses, and why,
+//! is a function of the words alone (`fault_of`), and so is what it takes them for (`matches_of`).
+#![tactic(auto)]
+
+ghost use Rattle.std.specs.Prelude.{◌≡◌, map, IfOk, codes};
+ghost use Rattle.std.specs.String.{string_bytes};
+ghost use Rattle.clap.specs.Words.{FailsBy, fault_of, first_value, found_of, matches_of, rows_of};
+ghost use Rattle.words.specs.Table.{Table};
+ghost use Rattle.words.specs.CommandLine.{HoldsNumber, Means, dtx, is_true};
+
+use clap::error::ErrorKind;
+use clap::{Arg, ArgAction, ArgMatches, Command, Error, value_parser};
+use std::alloc::Global;
+
+/// What the words ask for.
+#[derive(Clone, Copy, Debug, Drop, PartialEq)]
+pub enum Words {
+    /// The run of a script from the source, with the book after its report where that is wanted.
+    Run { book: bool },
+    /// The run of the script that is made from this number, with the book after its summary where that is wanted.
+    Make { number: u16, book: bool },
+    /// The words are not the program's.
+    Usage,
+    /// Memory ran out.
+    NoMemory,
+}
+
+// What clap makes of the words.
+fn parsed<'a>(alloc: Global, words: &'a [String]) -> Result<ArgMatches<'a>, Error>
+    ensures kinds { FailsBy (fault_of dtx (map string_bytes words.entry.now)) result }
+    ensures matches { IfOk result (λ m. rows_of (found_of m) ≡ matches_of dtx (map string_bytes words.entry.now)) }
+    ensures number { IfOk result HoldsNumber }
+{
+    let book = Arg::new(alloc, "book")
+        .long("book")
+        .action(ArgAction::SetTrue);
+    let make = Arg::new(alloc, "make")
+        .long("make")
+        .action(ArgAction::Set)
+        .value_parser(value_parser!(u16).range(1..=65535));
+    Command::new(alloc, "dtx")
+        .no_binary_name(true)
+        .disable_help_flag(true)
+        .disable_version_flag(true)
+        .arg(book)?
+        .arg(make)?
+        .try_get_matches_from(words)
+}
+
+// The flag is there.
+fn is_flagged(matches: &ArgMatches<'_>) -> bool
+    ensures { result ≡ is_true (first_value (found_of matches.now) (codes "book")) }
+{
+    match matches.get_str("book") {
+        Some(text) => text == "true",
+        None => false,
+    }
+}
+
+/// What the words after the program's name ask for. They are Usage exactly where clap refuses them, unless memory runs out.
+pub fn read_words<'a>(alloc: Global, words: &'a [String]) -> Words
+    ensures { Means (map string_bytes words.entry.now) result }
+{
+    match parsed(alloc, words) {
+        Ok(matches) => {
+            let book = is_flagged(&matches);
+            match matches.get_one::<u16>("make") {
+                Some(number) => Words::Make { number, book },
+                None => Words::Run { book },
+            }
+        }
+        Err(error) => {
+            if error.kind() == ErrorKind::OutOfMemory {
+                Words::NoMemory
+            } else {
+                Words::Usage
+            }
+        }
+    }
+}
+
+/// What clap makes of words that are written out. This function does nothing: its contract is the theorem.
+pub fn written_out_words()
+    ensures { Table }
+{}
