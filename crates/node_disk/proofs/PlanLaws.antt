@@ -1,7 +1,11 @@
--- How runs of disk calls go by the disk's plan.
-use Rattle.std.proofs.Common.{◌≡◌, ◌||◌, if◌then◌else◌, Bool, true, false, List, [], ◌∷◌, ◌++◌, Option, None, Some, refl, sym, subst, ap, ◌∙◌}
+-- How runs of disk calls go by the disk's plan, and what they do to the disk.
+use Rattle.std.proofs.Common.{◌≡◌, ◌≤◌, ◌||◌, ℕ, inl, inr, if◌then◌else◌, Bool, true, false, List, [], ◌∷◌, ◌++◌, Option, None, Some, refl, sym, subst, ap, ◌∙◌}
+use Rattle.dtx_ports.specs.Causes.{Rose}
+use Rattle.block_disk.specs.declared.disk.Disk.{Ghosts}
+use Rattle.block_disk.specs.Counts.{next_count}
 use Rattle.block_disk.specs.Plan.{Plan, strikes, after_call}
 use Rattle.redo_log.specs.Plans.{plan_after, strikes_any, CallsGoByPlan}
+use Rattle.redo_log.specs.Runs.{calls_after, writes_next, writes_after, CountSome, IsUntouched, HasRun, MetFault}
 
 -- where there is no call the plan stays as it is
 pub no_calls : (plan : Option Plan) → CallsGoByPlan [] plan plan false
@@ -58,3 +62,69 @@ none_after calls more None now goes = goes
 none_after calls more (Some plan) now goes =
     let struck = struck_in calls more plan goes.1 in
     (goes.0 ∙ ap Some (sym struck.0), struck.1)
+
+-- ---- the counts of one run behind another
+
+calls_over : (run more : List Bool) (n : ℕ) → calls_after (run ++ more) n ≡ calls_after more (calls_after run n)
+calls_over [] more n = refl
+calls_over (is_write ∷ run) more n = calls_over run more (next_count n)
+
+writes_over : (run more : List Bool) (n : ℕ) → writes_after (run ++ more) n ≡ writes_after more (writes_after run n)
+writes_over [] more n = refl
+writes_over (is_write ∷ run) more n = writes_over run more (writes_next is_write n)
+
+counts_over : (run more : List Bool) (calls writes calls_now writes_now : ℕ) → CountSome more (calls_after run calls) (writes_after run writes) calls_now writes_now → CountSome (run ++ more) calls writes calls_now writes_now
+counts_over [] more calls writes calls_now writes_now count = count
+counts_over (is_write ∷ run) more calls writes calls_now writes_now count = inr (counts_over run more (next_count calls) (writes_next is_write writes) calls_now writes_now count)
+
+counts_early : (run more : List Bool) (calls writes calls_now writes_now : ℕ) → CountSome run calls writes calls_now writes_now → CountSome (run ++ more) calls writes calls_now writes_now
+counts_early [] more calls writes calls_now writes_now count = absurd count
+counts_early (is_write ∷ run) more calls writes calls_now writes_now (inl here) = inl here
+counts_early (is_write ∷ run) more calls writes calls_now writes_now (inr later) = inr (counts_early run more (next_count calls) (writes_next is_write writes) calls_now writes_now later)
+
+-- ---- what runs do to a disk
+
+module _ {D : Type 0} (d : Ghosts D) where
+  pub untouched_same : (before now : D) → now ≡ before → IsUntouched d before now
+  untouched_same before now same = record { content = ap d.content same; faults = ap d.faults same; calls = ap d.calls same; writes = ap d.writes same; plan = ap d.plan same }
+
+  pub none_run : (disk : D) → HasRun d [] disk disk
+  none_run disk = record { faults = refl; calls = refl; writes = refl; plan = no_calls (d.plan disk) }
+
+  -- a run, and then nothing
+  pub run_untouched : (run : List Bool) (before mid now : D) → HasRun d run before mid → IsUntouched d mid now → HasRun d run before now
+  run_untouched run before mid now first same = record {
+    faults = same.faults ∙ first.faults;
+    calls = same.calls ∙ first.calls;
+    writes = same.writes ∙ first.writes;
+    plan = subst (λ (p : Option Plan). CallsGoByPlan run (d.plan before) p false) (sym same.plan) first.plan;
+  }
+
+  -- a run, and another behind it
+  pub run_over : (run more : List Bool) (before mid now : D) → HasRun d run before mid → HasRun d more mid now → HasRun d (run ++ more) before now
+  run_over run more before mid now first second = record {
+    faults = second.faults ∙ first.faults;
+    calls = second.calls ∙ (ap (λ (n : ℕ). calls_after more n) first.calls ∙ sym (calls_over run more (d.calls before)));
+    writes = second.writes ∙ (ap (λ (n : ℕ). writes_after more n) first.writes ∙ sym (writes_over run more (d.writes before)));
+    plan = one_after run more (d.plan before) (d.plan mid) (d.plan now) false first.plan second.plan;
+  }
+
+  -- a run, and a fault in the one behind it
+  pub fault_over : (run more : List Bool) (before mid now : D) → HasRun d run before mid → MetFault d more mid now → MetFault d (run ++ more) before now
+  fault_over run more before mid now first second = record {
+    faults = subst (λ (n : ℕ). Rose n (d.faults now)) first.faults second.faults;
+    later = subst (λ (n : ℕ). n ≤ d.faults now) first.faults second.later;
+    counts = counts_over run more (d.calls before) (d.writes before) (d.calls now) (d.writes now)
+        (subst (λ (n : ℕ). CountSome more n (writes_after run (d.writes before)) (d.calls now) (d.writes now)) first.calls
+        (subst (λ (n : ℕ). CountSome more (d.calls mid) n (d.calls now) (d.writes now)) first.writes second.counts));
+    plan = one_after run more (d.plan before) (d.plan mid) (d.plan now) true first.plan second.plan;
+  }
+
+  -- a fault in a run, behind which another was to come
+  pub fault_early : (run more : List Bool) (before now : D) → MetFault d run before now → MetFault d (run ++ more) before now
+  fault_early run more before now met = record {
+    faults = met.faults;
+    later = met.later;
+    counts = counts_early run more (d.calls before) (d.writes before) (d.calls now) (d.writes now) met.counts;
+    plan = none_after run more (d.plan before) (d.plan now) met.plan;
+  }

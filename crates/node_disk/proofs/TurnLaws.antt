@@ -3,7 +3,8 @@
 use Rattle.std.proofs.Common.{◌≡◌, ℕ, List, [], ◌∷◌, ◌++◌, map, Option, None, Some, inl, inr, refl, sym, subst, ap, ◌∙◌}
 use Rattle.std.specs.Prelude.{◌↔◌, IfSome, OnOk, Result, Ok, Err}
 use Rattle.std.specs.List.{AllByRecursion}
-use Rattle.block_disk.specs.Images.{AtEachMoment, IsOnly, AddsNone}
+use Rattle.block_disk.specs.declared.disk.Disk.{Ghosts}
+use Rattle.block_disk.specs.Images.{AtEachMoment, AddsNone}
 use Rattle.fit_laws.specs.Record.{RecordHasBytes}
 use Rattle.record_log.specs.Held.{HoldRecords}
 use Rattle.record_log.specs.Log.{disk_of, IsIntact, IsUsable}
@@ -27,6 +28,7 @@ use Rattle.node_disk.specs.Spellable.{MayBeMailed, IsSpellable}
 use Rattle.node_disk.specs.Starts.{MayBeHad, IsStartable, IsButForAcks, stored_next}
 use Rattle.node_disk.specs.Laws.{TurnsStoreTheirRecords}
 use Rattle.node_disk.specs.OnDisk.{StandsOn, IsOpenFor, HoldsNext, MayStand}
+use Rattle.node_disk.specs.Turning.{HasWritten}
 use Rattle.node_disk.proofs.StoreLaws.{but_for_both, next_but_for}
 use Rattle.node_disk.proofs.MomentLaws.{weaker}
 
@@ -145,10 +147,10 @@ module _ {D : Type 0} (moment : D → ℕ) (images_since : D → ℕ → List �
 -- ---- the next turn
 
 -- at Ok the node is running again
-pub opens_on : {T E D : Type 0} (content : D → List ℕ) (images : D → List ℕ → Type 0) (log : RecordLog D) (s : Stored) (r : Result T E) → OnOk r (IsUsable content images log) → OnOk r (IsIntact log)
-    → OnOk r (IsOnly (content (disk_of log)) (images (disk_of log))) → OnOk r (StandsOn (content (disk_of log)) s) → OnOk r (IsOpenFor content images log s)
-opens_on content images log s (Ok v) usable intact durable stands = record { usable = usable; intact = intact; durable = durable; stands = stands }
-opens_on content images log s (Err e) usable intact durable stands = tt
+pub opens_on : {T E D : Type 0} (d : Ghosts D) (wrote : Option RedoRecord) (before log : RecordLog D) (s : Stored) (r : Result T E) → OnOk r (HasWritten d wrote before log) → OnOk r (StandsOn (d.content (disk_of log)) s)
+    → OnOk r (IsOpenFor d.content d.images log s)
+opens_on d wrote before log s (Ok v) written stands = record { usable = written.ready.usable; intact = written.ready.intact; durable = written.ready.durable; stands = stands }
+opens_on d wrote before log s (Err e) written stands = tt
 
 -- a disk that takes an order has no new image, and the node goes on as it was
 pub still_open : {D : Type 0} (content : D → List ℕ) (images : D → List ℕ → Type 0) (old new : RecordLog D) (s : Stored) → (IsUsable content images old → IsUsable content images new) → (IsIntact old ↔ IsIntact new)

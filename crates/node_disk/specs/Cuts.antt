@@ -1,9 +1,6 @@
 -- Where a turn is cut: before its record, in the append of its record, or after it; and what is so of its points and its disk there.
 use Rattle.std.specs.Prelude.{◌≡◌, ℕ, Bool, true, false, List, Option, Some, None, is_some}
 use Rattle.block_disk.specs.Plan.{Plan}
-use Rattle.dtx_ports.specs.Causes.{Rose}
-use Rattle.redo_log.specs.Loads.{IsAppendCount}
-use Rattle.redo_log.specs.Log.{count_after}
 use Rattle.redo_log.specs.Plans.{CallsGoByPlan, append_calls}
 use Rattle.record_log.specs.Held.{GrowsByPlan}
 use Rattle.node_rules.specs.Data.{RedoRecord}
@@ -20,7 +17,7 @@ use Rattle.node_disk.specs.declared.err.TurnErr.{TurnErr}
 use Rattle.node_disk.specs.declared.err.TurnErr.TheVariants as errs
 use Rattle.node_disk.specs.declared.err.Unwritten.{Unwritten}
 use Rattle.node_disk.specs.declared.err.Unwritten.TheVariants as unwritten
-use Rattle.node_disk.specs.OnDisk.{HoldsNext, turn_calls, calls_of, writes_of}
+use Rattle.node_disk.specs.OnDisk.{HoldsNext, turn_calls}
 
 -- this is so of where a turn was cut, of its record and of the places that it passes
 abbrev pub AtCut : (CutAt → Option RedoRecord → Option Passes → Type 0) → TurnErr → Type 0
@@ -62,23 +59,6 @@ abbrev pub CutStores : CutAt → Option RedoRecord → List ℕ → List ℕ →
 CutStores cuts.BeforeRecord wrote before now = now ≡ before
 CutStores cuts.InAppend wrote before now = Unit {0}
 CutStores cuts.AfterRecord wrote before now = HoldsNext wrote before now
-
--- only a disk that failed cuts an append
-abbrev pub CutFaults : CutAt → ℕ → ℕ → Type 0
-CutFaults cuts.InAppend before now = Rose before now
-CutFaults _ before now = now ≡ before
-
--- the disk calls that were made
-abbrev pub CutCalls : CutAt → Option RedoRecord → ℕ → ℕ → Type 0
-CutCalls cuts.BeforeRecord wrote before now = now ≡ before
-CutCalls cuts.InAppend wrote before now = IsAppendCount before now
-CutCalls cuts.AfterRecord wrote before now = now ≡ count_after (calls_of wrote) before
-
--- and how many of them were writes
-abbrev pub CutWrites : CutAt → Option RedoRecord → ℕ → ℕ → Type 0
-CutWrites cuts.BeforeRecord wrote before now = now ≡ before
-CutWrites cuts.InAppend wrote before now = Unit {0}
-CutWrites cuts.AfterRecord wrote before now = now ≡ count_after (writes_of wrote) before
 
 -- an append is cut where an order of the disk's plan strikes one of its calls, and nowhere else
 abbrev pub CutByPlan : CutAt → Option RedoRecord → Option Plan → Option Plan → Type 0

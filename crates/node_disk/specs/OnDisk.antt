@@ -62,16 +62,6 @@ abbrev pub turn_calls : Option RedoRecord → List Bool
 turn_calls None = []
 turn_calls (Some r) = append_calls
 
--- how many disk calls an append makes
-abbrev pub calls_of : Option RedoRecord → ℕ
-calls_of None = 0
-calls_of (Some r) = 4
-
--- how many of them are writes
-abbrev pub writes_of : Option RedoRecord → ℕ
-writes_of None = 0
-writes_of (Some r) = 2
-
 -- the record that the turn of a node over this writes, where it writes one
 abbrev pub record_at : {D : Type 0} → Node D → Incoming → Option RedoRecord
 record_at node incoming = record_of (place_of node) (kept_of node) (read_as incoming)

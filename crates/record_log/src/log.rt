@@ -64,6 +64,7 @@ impl<D: Disk> RecordLog<D> {
     ///
     /// It syncs the disk first, so that what it reads is what a crash would leave. Each error gives the disk back:
     /// `Fault` where the disk failed, `NoMemory` where there is no memory for the records.
+    #[tactic(auto, using(crate::proofs::Loaded::not_loaded, crate::proofs::Loaded::holds_a_log))]
     pub fn load(alloc: Global, disk: D) -> Result<(RecordLog<D>, Records), LoadErr<D>>
         requires short { length (D.content disk) < 2 ^ 63 }
         requires held { (rs : List RedoRecord) × HoldRecords rs (D.content disk) }

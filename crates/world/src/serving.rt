@@ -11,6 +11,7 @@ use node_rules::{PendingCall, Session};
 use telling_parts::Point;
 
 /// The turn of a node that is up and can take what comes.
+#[tactic(auto, using(node_disk::proofs::CutLaws::end_parts))]
 pub(crate) fn serve(
     site: &mut Site,
     incoming: Incoming,
@@ -21,7 +22,10 @@ pub(crate) fn serve(
     ensures failed { IfErr result (HasFailed site.old site.new incoming points.now) }
 {
     match site {
-        Site::Up(node) => node.turn(incoming, points),
+        Site::Up(node) => match node.turn(incoming, points) {
+            Ok(effects) => Ok(effects),
+            Err(err) => Err(err),
+        },
         Site::Down(_disk) => unreachable!(),
     }
 }
