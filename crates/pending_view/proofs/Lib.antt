@@ -1,1 +1,2 @@
 pub mod SortLemmas
+mod CountLemmas

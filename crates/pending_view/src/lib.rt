@@ -14,4 +14,4 @@ pub use neighbor_row::{NeighborRow, NeighborRows};
 pub use pending_row::{PendingRow, PendingRows};
 pub use printing::{neighbors_view, pending_view};
 pub use stage::Stage;
-pub use views::{neighbors, pending};
+pub use views::{neighbors, pending, pending_count};

@@ -1,5 +1,5 @@
 //! The rows of the two views of a node.
-ghost use Rattle.std.specs.Prelude.{◌≡◌, [], ◌++◌, map, filter, flat_map, fold, IfOk, OnOk};
+ghost use Rattle.std.specs.Prelude.{◌≡◌, [], ◌++◌, map, filter, flat_map, fold, length, IfOk, OnOk};
 ghost use Rattle.tran_ids.specs.Branch.{put_by_branch};
 ghost use Rattle.pending_view.specs.Views.{has_sent_prepare as has_sent_prepare_of, is_working as is_working_in, in_view, in_row, out_row, pending_kept, pending_live, pending_rows, neighbors_of, neighbor_rows};
 
@@ -20,6 +20,16 @@ pub fn pending(alloc: Global, kept: &[Standing], lives: &[Live]) -> Result<Pendi
     add_kept(&mut rows, alloc, kept)?;
     sort(&mut rows)?;
     Ok(Listing::of(rows))
+}
+
+/// How many rows DBA_2PC_PENDING has at a node. It takes no memory.
+#[tactic(auto, using(crate::proofs::CountLemmas::rows_counted))]
+pub fn pending_count(kept: &[Standing], lives: &[Live]) -> u64
+    ensures { result ≡ length (pending_rows kept.now lives.now) }
+{
+    let collecting = lives.iter().filter(|live| has_sent_prepare(live)).count();
+    let shown = kept.iter().filter(|branch| !branch.hidden).count();
+    collecting as u64 + shown as u64
 }
 
 /// The rows of DBA_2PC_NEIGHBORS at a node, where `names` are the names of all nodes: for each kept branch whose row is

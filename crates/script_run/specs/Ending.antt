@@ -102,11 +102,11 @@ EndsExplained w Usage = Appends w.before w.now usage_line
 EndsExplained w WriteFault = IsCut w usage_line
 EndsExplained w Done = ⊥
 EndsExplained w BadScript = ⊥
-EndsExplained w NoMemory = ⊥
+EndsExplained w NoMemory = Keeps w.before w.now
 EndsExplained w ReadFault = ⊥
 EndsExplained w TooLong = ⊥
 
--- how a call ends whose words are wrong: nothing is read or run, and the usage line is written
+-- how a call ends whose words are wrong: nothing is read or run, and the usage line is written, unless memory runs out before
 pub record EndsUnread (r : Read) (w : Written) (run : Run) (status : Status) : Type 0 where
   pub unread : IsUnread r
   pub nothing : run ≡ nothing_done

@@ -2,3 +2,4 @@ pub mod Report
 pub mod Headline
 pub mod Ending
 pub mod Words
+pub mod Making

@@ -1,9 +1,16 @@
--- What the words of the command line ask for.
-use Rattle.std.specs.Prelude.{ℕ, Bool, true, false, List, [], ◌∷◌, Option, Some, None, if◌then◌else◌, codes}
-use Rattle.std.specs.Str.{bytes_eq}
+-- What the words of the command line ask for, as clap takes them.
+use Rattle.std.specs.Prelude.{ℕ, Bool, List}
+use Rattle.words.specs.CommandLine.{IsTaken, Means}
+use Rattle.words.specs.declared.Words.TheVariants as words
 
--- no word asks for the report, `--book` for the report and the book; other words are not the program's
-abbrev pub wanted : List (List ℕ) → Option Bool
-wanted [] = Some false
-wanted (word ∷ []) = if bytes_eq word (codes "--book") then Some true else None
-wanted (first ∷ second ∷ more) = None
+-- the run of a script from the source, with the book or without
+abbrev pub AskRun : Bool → List (List ℕ) → Type 0
+AskRun with_book ws = Means ws (words.Run with_book)
+
+-- the run of the script that is made from this number, with the book or without
+abbrev pub AskMake : ℕ → Bool → List (List ℕ) → Type 0
+AskMake number with_book ws = Means ws (words.Make number with_book)
+
+-- they are not the program's: clap refuses them
+abbrev pub AreOther : List (List ℕ) → Type 0
+AreOther ws = IsTaken ws → ⊥

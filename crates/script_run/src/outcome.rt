@@ -6,7 +6,8 @@ ghost use Rattle.done_laws.specs.ToldDone.{DoneIsTold};
 ghost use Rattle.course_laws.specs.CommitCourse.{QuietCommitsAreComplete};
 ghost use Rattle.world.specs.Ran.{IsRan, as_ending};
 ghost use Rattle.script_run.specs.Headline.{IsRun, nothing_done};
-ghost use Rattle.script_run.specs.Ending.{status_code};
+ghost use Rattle.script_run.specs.declared.outcome.Status.TheVariants.{NoMemory};
+ghost use Rattle.script_run.specs.Ending.{ending_of, status_code};
 
 use answer_laws::every_answer_has_its_place;
 use book::{AnswerLines, Book, Trace};
@@ -106,6 +107,7 @@ impl Run {
         requires places { ran.recorded.places ≡ places_of ran.recorded.asked }
         requires ran { IsRan ran }
         ensures commands { result.commands ≡ ran.recorded.asked }
+        ensures trace { result.trace ≡ ran.recorded.happenings }
         ensures run { IsRun result (as_ending ran.ended) }
     {
         laws_of_runs();
@@ -113,6 +115,7 @@ impl Run {
             recorded,
             answers,
             ended: _ended,
+            pending: _pending,
         } = ran;
         let Recorded {
             places: _places,
@@ -156,4 +159,18 @@ pub struct Outcome {
     pub status: Status,
     /// What was done until then.
     pub run: Run,
+}
+
+impl Outcome {
+    /// Memory ran out before anything was run.
+    pub fn out_of_memory(alloc: Global) -> Outcome
+        ensures status { result.status ≡ NoMemory }
+        ensures empty { result.run ≡ nothing_done }
+        ensures run { IsRun result.run (ending_of NoMemory) }
+    {
+        Outcome {
+            status: Status::NoMemory,
+            run: Run::empty(alloc),
+        }
+    }
 }

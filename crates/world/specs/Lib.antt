@@ -13,3 +13,4 @@ pub mod Started
 pub mod Halts
 pub mod Left
 pub mod Ran
+pub mod Pending

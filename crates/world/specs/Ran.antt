@@ -4,10 +4,11 @@ use Rattle.run_laws.specs.Due.{Ends}
 use Rattle.run_laws.specs.Entries.{book_of}
 use Rattle.run_laws.specs.Lawful.{AreOfAScript}
 use Rattle.run_laws.specs.Headline.{Ending, All_run, Out_of_memory, IsTold}
-use Rattle.run_trace.specs.Recorded.{RunSoFar, IsRunOfScript}
+use Rattle.run_trace.specs.Recorded.{RunSoFar, IsRunOfScript, past_of}
 use Rattle.run_trace.specs.declared.trace.Recorded.{Recorded}
 use Rattle.world.specs.Needs.{due_in}
 use Rattle.world.specs.Left.{IsLeft, TellsBetween}
+use Rattle.world.specs.Pending.{pending_in}
 use Rattle.world_parts.specs.Shown.{history_of}
 use Rattle.world.specs.declared.ran.Ended.{Ended}
 use Rattle.world.specs.declared.ran.Ended.TheVariants.{AllRun, OutOfMemory}
@@ -23,11 +24,13 @@ as_ending OutOfMemory = Out_of_memory
 abbrev pub run_of : Recorded → RunSoFar
 run_of r = record { places = r.places; asked = r.asked; happenings = r.happenings }
 
--- The run of a script, or the first part of it where memory ran out, its book, and what is told of it.
+-- The run of a script, or the first part of it where memory ran out, its book, what is told of it, and how many rows
+-- DBA_2PC_PENDING has over all nodes where the script was run to the end.
 pub record IsRan (ran : Ran) : Type 0 where
   pub due : IsRunOfScript (run_of ran.recorded)
   pub booked : ran.recorded.book ≡ book_of ran.recorded.happenings
   pub told : (script : AreOfAScript ran.recorded.places ran.recorded.asked) → IsTold (history_of (run_of ran.recorded) script) ran.answers (as_ending ran.ended)
+  pub pending : ran.ended ≡ AllRun → ran.pending ≡ pending_in (past_of (run_of ran.recorded)).facts
 
 -- what a world is left with whose run ended so
 abbrev pub IsLeftBy : Ended → World → Type 0

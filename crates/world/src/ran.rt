@@ -5,11 +5,13 @@ ghost use Rattle.byte_laws.specs.ByteRuns.{AsksSpelled};
 ghost use Rattle.script_read.specs.Sound.{IsInRange};
 ghost use Rattle.run_laws.specs.Due.{Ends};
 ghost use Rattle.run_laws.specs.Lawful.{AreOfAScript};
-ghost use Rattle.run_trace.specs.Recorded.{Extends};
+ghost use Rattle.run_trace.specs.Recorded.{Extends, past_of};
 ghost use Rattle.world.specs.Linked.{IsLinked};
 ghost use Rattle.world.specs.Needs.{due_in};
 ghost use Rattle.world.specs.Orders.{OrdersAre};
+ghost use Rattle.world.specs.Pending.{pending_in};
 ghost use Rattle.world.specs.Ran.{IsLeftBy, IsRan};
+ghost use Rattle.world.specs.declared.ran.Ended.TheVariants.{AllRun};
 
 use crate::World;
 use book::AnswerLines;
@@ -37,6 +39,8 @@ pub struct Ran {
     pub answers: AnswerLines,
     /// How it ended.
     pub ended: Ended,
+    /// How many rows DBA_2PC_PENDING has over all nodes at its end, where its script was run to the end.
+    pub pending: u128,
 }
 
 impl World {
@@ -55,24 +59,42 @@ impl World {
         }
     }
 
-    // Runs the script to its end, or as far as memory goes.
+    // How many rows DBA_2PC_PENDING has over all nodes. It takes no memory.
+    #[tactic(auto, using(crate::proofs::PendingLemmas::pending_steps))]
+    fn pending_rows(&self) -> u128
+        requires linked { IsLinked self.now }
+        ensures { result ≡ pending_in (past_of self.now.trace).facts }
+    {
+        let mut count: u128 = 0;
+        for place in 0..self.sites.len() {
+            count += u128::from(self.sites[place].pending());
+        }
+        count
+    }
+
+    // Runs the script to its end, or as far as memory goes. With how it ended comes how many rows DBA_2PC_PENDING then has.
     #[tactic(auto, using(run_trace::proofs::ExtendsLemmas::extends_steps))]
-    fn run_and_tell(&mut self, alloc: Global) -> Ended
+    fn run_and_tell(&mut self, alloc: Global) -> (Ended, u128)
         requires linked { IsLinked self.old }
         requires orders { OrdersAre self.old }
-        ensures left { IsLeftBy result self.new }
+        ensures left { IsLeftBy result.0 self.new }
         ensures extends { Extends self.old.trace self.new.trace }
+        ensures pending { result.0 ≡ AllRun → result.1 ≡ pending_in (past_of self.new.trace).facts }
     {
         match self.run(alloc) {
-            Ok(()) => self.tell_end(alloc),
-            Err(_) => Ended::OutOfMemory,
+            Ok(()) => {
+                let pending = self.pending_rows();
+                (self.tell_end(alloc), pending)
+            }
+            Err(_) => (Ended::OutOfMemory, 0),
         }
     }
 
     // The run, and what is told of it.
     #[tactic(auto, using(crate::proofs::RanLemmas::ran_ends))]
-    fn into_ran(self, ended: Ended) -> Ran
+    fn into_ran(self, ended: Ended, pending: u128) -> Ran
         requires left { IsLeftBy ended self }
+        requires pending { ended ≡ AllRun → pending ≡ pending_in (past_of self.trace).facts }
         ensures places { result.recorded.places ≡ self.trace.places }
         ensures asked { result.recorded.asked ≡ self.trace.asked }
         ensures ran { IsRan result }
@@ -84,6 +106,7 @@ impl World {
             recorded: self.trace.into_recorded(),
             answers,
             ended,
+            pending,
         }
     }
 }
@@ -99,6 +122,6 @@ pub fn run(alloc: Global, places: Places, commands: Commands) -> Result<Ran, All
     ensures ran { IfOk result IsRan }
 {
     let mut world = World::new(alloc, places, commands)?;
-    let ended = world.run_and_tell(alloc);
-    Ok(world.into_ran(ended))
+    let (ended, pending) = world.run_and_tell(alloc);
+    Ok(world.into_ran(ended, pending))
 }

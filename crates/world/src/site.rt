@@ -13,10 +13,12 @@ ghost use Rattle.world.specs.declared.site.Site.TheVariants.{Up, Down};
 ghost use Rattle.run_laws.specs.Disks.{no_orders};
 ghost use Rattle.world_parts.specs.Orders.{HasOrders};
 ghost use Rattle.world.specs.Started.{CanStart, TriedFrom};
+ghost use Rattle.world.specs.Pending.{pending_of};
 ghost use Rattle.world.specs.Site.{site_kept, site_disk, bytes_of, images_of, RunsAt};
 
 use block_disk::{Armable, MemDisk, Order};
 use node_disk::{MakeErr, MakeWhy, Node};
+use pending_view::pending_count;
 use redo_record::Place;
 use std::alloc::{AllocError, Global};
 use std::mem;
@@ -56,6 +58,16 @@ impl Site {
         ensures { result ≡ is_some (site_kept self.now) }
     {
         matches!(self, Site::Up(_))
+    }
+
+    /// How many rows DBA_2PC_PENDING has at the node, and none where it is down.
+    pub fn pending(&self) -> u64
+        ensures { result ≡ pending_of (site_kept self.now) }
+    {
+        match self {
+            Site::Up(node) => pending_count(node.kept(), node.lives()),
+            Site::Down(_disk) => 0,
+        }
     }
 
     /// Whether a session of the node has a transaction.

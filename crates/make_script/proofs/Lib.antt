@@ -1,0 +1,4 @@
+mod CalmLemmas
+mod RowLemmas
+mod LineLemmas
+mod ScriptLemmas

@@ -1,0 +1,109 @@
+-- The statements of a made script are read, whatever their numbers are.
+use Rattle.std.proofs.Common.{◌≡◌, ℕ, zero, suc, ◌<◌, ◌≤◌, ◌^◌, Bool, true, false, List, [], ◌∷◌, ◌++◌, Option, Some, None, refl, sym, ap, subst, ◌∙◌, arith}
+use Rattle.std.specs.Prelude.{codes, decimal, nat_le}
+use Rattle.std.proofs.lemmas.Bool.Decides.{nat_tests}
+use Rattle.token_grammar.specs.declared.mark.Mark.TheVariants as marks
+use Rattle.token_grammar.specs.declared.token.Token.{Token}
+use Rattle.token_grammar.specs.declared.token.Token.TheVariants as token
+use Rattle.token_grammar.specs.Steps.{◌>>=◌, begins, whole_of}
+use Rattle.token_grammar.specs.Tokens.{MarkEnds, Tokens}
+use Rattle.token_grammar.proofs.TextLaws.{tokens_again}
+use Rattle.sql_statement.specs.declared.statement.Stmt.{Stmt}
+use Rattle.sql_statement.specs.declared.statement.Stmt.TheVariants as statements
+use Rattle.sql_parse.specs.Literals.{largest, literal, sum, table_ref, term}
+use Rattle.sql_parse.specs.Changes.{insert}
+use Rattle.sql_parse.specs.Statement.{statement_grammar, statement_of}
+use Rattle.sql_print.proofs.WriteLaws.{blank_first, no_byte, number_written, open_written}
+use Rattle.make_script.specs.Script.{link_name, literal_of, values_text}
+
+-- ---- tokens
+
+nothing_goes_on : (rest : List ℕ) → begins no_byte rest ≡ false
+nothing_goes_on [] = refl
+nothing_goes_on (b ∷ rest) = refl
+
+-- ` VALUES (number, value)`
+abbrev value_tokens : ℕ → ℕ → List Token
+value_tokens n v = token.Word (codes "VALUES") ∷ token.Mark marks.Open ∷ token.Number n ∷ token.Mark marks.Comma ∷ token.Number v ∷ token.Mark marks.Close ∷ []
+
+close : Tokens (token.Mark marks.Close ∷ []) (codes ")")
+close = ([], codes ")", [], refl, refl, tt, refl, refl)
+
+values_are : (n v : ℕ) → n < 2 ^ 64 → v < 2 ^ 64 → Tokens (value_tokens n v) (values_text n v)
+values_are n v p q =
+    let value = number_written v q (token.Mark marks.Close ∷ []) (codes ")") refl close in
+    let comma : Tokens (token.Mark marks.Comma ∷ token.Number v ∷ token.Mark marks.Close ∷ []) (codes ", " ++ (decimal v ++ codes ")")) =
+      ([], codes ",", 32 ∷ (decimal v ++ codes ")"), refl, refl, refl, blank_first _ (decimal v ++ codes ")") value, refl) in
+    let number = number_written n p _ (codes ", " ++ (decimal v ++ codes ")")) refl comma in
+    let open = open_written _ (decimal n ++ (codes ", " ++ (decimal v ++ codes ")"))) (nothing_goes_on _) number in
+    (codes " ", codes "VALUES", codes " (" ++ (decimal n ++ (codes ", " ++ (decimal v ++ codes ")"))), refl, (refl, refl, refl), refl, blank_first _ _ open, refl)
+
+-- ` INSERT INTO`
+into_are : (ts : List Token) (text : List ℕ) → Tokens ts (32 ∷ text) → Tokens (token.Word (codes "INSERT") ∷ token.Word (codes "INTO") ∷ ts) (codes " INSERT INTO " ++ text)
+into_are ts text h =
+    (codes " ", codes "INSERT", codes " INTO " ++ text, refl, (refl, refl, refl), refl,
+      (codes " ", codes "INTO", codes " " ++ text, refl, (refl, refl, refl), refl, h, refl), refl)
+
+own_are : (n v : ℕ) → n < 2 ^ 64 → v < 2 ^ 64
+    → Tokens (token.Word (codes "INSERT") ∷ token.Word (codes "INTO") ∷ token.Word (codes "T") ∷ value_tokens n v) (codes " INSERT INTO T" ++ values_text n v)
+own_are n v p q = into_are _ (codes "T" ++ values_text n v) (codes " ", codes "T", values_text n v, refl, (refl, refl, refl), refl, values_are n v p q, refl)
+
+at_ends : (rest : List ℕ) → MarkEnds (codes "@") rest
+at_ends [] = tt
+at_ends (b ∷ rest) = refl
+
+other_are : (name : List ℕ) (n v : ℕ) → n < 2 ^ 64 → v < 2 ^ 64 → ((ts : List Token) → Tokens ts (values_text n v) → Tokens (token.Word name ∷ ts) (name ++ values_text n v))
+    → Tokens (token.Word (codes "INSERT") ∷ token.Word (codes "INTO") ∷ token.Word (codes "T") ∷ token.Mark marks.At ∷ token.Word name ∷ value_tokens n v) (codes " INSERT INTO T@" ++ (name ++ values_text n v))
+other_are name n v p q named =
+    into_are _ (codes "T@" ++ (name ++ values_text n v))
+    (codes " ", codes "T", codes "@" ++ (name ++ values_text n v), refl, (refl, refl, refl), refl,
+      ([], codes "@", name ++ values_text n v, refl, refl, at_ends (name ++ values_text n v), named _ (values_are n v p q), refl), refl)
+
+-- ---- statements
+
+fits : (n : ℕ) → n < 2 ^ 63 → nat_le n largest ≡ true
+fits n h = grind (arith, nat_tests)
+
+read_of : (text : List ℕ) (ts : List Token) (s : Stmt) → Tokens ts text → (statement_grammar.read ts >>= whole_of) ≡ Some s → statement_of text ≡ Some s
+unfolding statement_of
+read_of text ts s tokens read = rw (tokens_again ts text tokens) read
+
+pub own_read : (n v : ℕ) → n < 2 ^ 63 → v < 2 ^ 63
+    → statement_of (codes " INSERT INTO T" ++ values_text n v) ≡ Some (statements.Insert (record { name = codes "T"; link = None }) None (literal_of n ∷ literal_of v ∷ []))
+own_read n v p q = read_of _ _ _ (own_are n v (omega arith) (omega arith)) (read n v p q)
+  where
+    read : (n v : ℕ) → n < 2 ^ 63 → v < 2 ^ 63
+        → (statement_grammar.read (token.Word (codes "INSERT") ∷ token.Word (codes "INTO") ∷ token.Word (codes "T") ∷ value_tokens n v) >>= whole_of)
+        ≡ Some (statements.Insert (record { name = codes "T"; link = None }) None (literal_of n ∷ literal_of v ∷ []))
+    unfolding statement_grammar insert table_ref sum term literal
+    read n v p q = rw (fits n p, fits v q) refl
+
+-- the other node's row, at a link whose name is written out
+abbrev IsOtherRead : ℕ → Type 0
+IsOtherRead other = (n v : ℕ) → n < 2 ^ 63 → v < 2 ^ 63
+    → statement_of (codes " INSERT INTO T@L" ++ (decimal other ++ values_text n v)) ≡ Some (statements.Insert (record { name = codes "T"; link = Some (link_name other) }) None (literal_of n ∷ literal_of v ∷ []))
+
+module _ (name : List ℕ) (named : (ts : List Token) (n v : ℕ) → Tokens ts (values_text n v) → Tokens (token.Word name ∷ ts) (name ++ values_text n v))
+    (read : (n v : ℕ) → n < 2 ^ 63 → v < 2 ^ 63
+        → (statement_grammar.read (token.Word (codes "INSERT") ∷ token.Word (codes "INTO") ∷ token.Word (codes "T") ∷ token.Mark marks.At ∷ token.Word name ∷ value_tokens n v) >>= whole_of)
+        ≡ Some (statements.Insert (record { name = codes "T"; link = Some name }) None (literal_of n ∷ literal_of v ∷ []))) where
+  other_at : (n v : ℕ) → n < 2 ^ 63 → v < 2 ^ 63
+      → statement_of (codes " INSERT INTO T@" ++ (name ++ values_text n v)) ≡ Some (statements.Insert (record { name = codes "T"; link = Some name }) None (literal_of n ∷ literal_of v ∷ []))
+  other_at n v p q = read_of _ _ _ (other_are name n v (omega arith) (omega arith) (λ ts h. named ts n v h)) (read n v p q)
+
+-- what is shown of each of the four nodes holds of a node
+pub four : (P : ℕ → Type 0) → P 1 → P 2 → P 3 → P 4 → (n : ℕ) → 1 ≤ n → n ≤ 4 → P n
+four P a b c d zero low high = absurd (omega arith)
+four P a b c d (suc zero) low high = a
+four P a b c d (suc (suc zero)) low high = b
+four P a b c d (suc (suc (suc zero))) low high = c
+four P a b c d (suc (suc (suc (suc zero)))) low high = d
+four P a b c d (suc (suc (suc (suc (suc n))))) low high = absurd (omega arith)
+
+pub other_read : (other : ℕ) → 1 ≤ other → other ≤ 4 → IsOtherRead other
+unfolding statement_grammar insert table_ref sum term literal
+other_read = four IsOtherRead
+    (other_at (codes "L1") (λ ts n v h. ([], codes "L1", values_text n v, refl, (refl, refl, refl), refl, h, refl)) (λ n v p q. rw (fits n p, fits v q) refl))
+    (other_at (codes "L2") (λ ts n v h. ([], codes "L2", values_text n v, refl, (refl, refl, refl), refl, h, refl)) (λ n v p q. rw (fits n p, fits v q) refl))
+    (other_at (codes "L3") (λ ts n v h. ([], codes "L3", values_text n v, refl, (refl, refl, refl), refl, h, refl)) (λ n v p q. rw (fits n p, fits v q) refl))
+    (other_at (codes "L4") (λ ts n v h. ([], codes "L4", values_text n v, refl, (refl, refl, refl), refl, h, refl)) (λ n v p q. rw (fits n p, fits v q) refl))

@@ -1,0 +1,39 @@
+-- The rows of DBA_2PC_PENDING are as many as the branches that have one.
+use Rattle.std.proofs.Common.{◌≡◌, ◌∙◌, ℕ, suc, ◌+◌, Bool, true, false, List, [], ◌∷◌, ◌++◌, length, map, refl, sym, ap, arith}
+use Rattle.std.specs.Prelude.{cond, count_by, filter, fold, not}
+use Rattle.std.proofs.Math.Path.{ap₂}
+use Rattle.std.proofs.lemmas.List.{length-append, length-map}
+use Rattle.tran_ids.specs.declared.branch.BranchId.{BranchId}
+use Rattle.tran_ids.specs.Branch.{branch_below, put_by_branch}
+use Rattle.redo_record.specs.declared.durable.Standing.{Standing}
+use Rattle.session_tree.specs.declared.live.Live.{Live}
+use Rattle.pending_view.specs.Views.{Pending, has_sent_prepare, in_view, pending_kept, pending_live, pending_rows}
+
+put_longer : {A : Type 0} (id : A → BranchId) (ys : List A) (x : A) → length (put_by_branch id ys x) ≡ suc (length ys)
+put_longer id [] x = refl
+put_longer id (y ∷ ys) x = by (branch_below (id x) (id y))
+  where
+    by : (b : Bool) → length (cond b (x ∷ y ∷ ys) (y ∷ put_by_branch id ys x)) ≡ suc (suc (length ys))
+    by true = refl
+    by false = ap suc (put_longer id ys x)
+
+sorted_long : {A : Type 0} (id : A → BranchId) (xs acc : List A) → length (fold (put_by_branch id) acc xs) ≡ length acc + length xs
+sorted_long id [] acc = omega arith
+sorted_long id (x ∷ xs) acc = let more = sorted_long id xs (put_by_branch id acc x) in omega (arith, more, put_longer id acc x)
+
+filter_long : {A : Type 0} (p : A → Bool) (xs : List A) → length (filter p xs) ≡ count_by p xs
+filter_long p [] = refl
+filter_long p (x ∷ xs) = by (p x)
+  where
+    by : (b : Bool) → length (cond b (x ∷ filter p xs) (filter p xs)) ≡ cond b 1 0 + count_by p xs
+    by true = ap suc (filter_long p xs) ∙ omega arith
+    by false = filter_long p xs ∙ omega arith
+
+pub rows_counted : (kept : List Standing) (lives : List Live) → count_by has_sent_prepare lives + count_by (λ s. not s.hidden) kept ≡ length (pending_rows kept lives)
+unfolding pending_rows
+rows_counted kept lives =
+    let collecting = map pending_live (filter has_sent_prepare lives) in
+    let all = sorted_long (λ (r : Pending). r.me) (collecting ++ map pending_kept (in_view kept)) [] in
+    let first = length-map (filter has_sent_prepare lives) pending_live ∙ filter_long has_sent_prepare lives in
+    let second = length-map (in_view kept) pending_kept ∙ filter_long (λ (s : Standing). not s.hidden) kept in
+    omega (arith, all, first, second, length-append collecting (map pending_kept (in_view kept)))
