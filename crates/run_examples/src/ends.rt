@@ -115,7 +115,12 @@ const SUMMARY: &[u8] =
 
 /// How the run of a made script ends over a source whose first read fails, and a sink whose call of this number does; nothing
 /// where it writes other bytes than are due.
-fn made_ends(alloc: Global, words: &[&str], write: u32, due: &[u8]) -> Result<Option<Status>, AllocError> {
+fn made_ends(
+    alloc: Global,
+    words: &[&str],
+    write: u32,
+    due: &[u8],
+) -> Result<Option<Status>, AllocError> {
     let ended = ended(alloc, words, b"FROB;", (1, write), due)?;
     Ok(ended.map(|(status, _counts)| status))
 }
@@ -135,7 +140,12 @@ fn a_made_script_whose_summary_cannot_be_written(rt: HostRuntime) {
 #[test]
 fn words_that_are_refused_read_no_source(rt: HostRuntime) {
     let usage = b"usage: dtx [--book] [--make N]\n";
-    for words in [["--book", "--book"], ["--make", "0"], ["--make", "65536"], ["--make", ""]] {
+    for words in [
+        ["--book", "--book"],
+        ["--make", "0"],
+        ["--make", "65536"],
+        ["--make", ""],
+    ] {
         assert!(rt; made_ends(rt.alloc(), &words, 0, usage) == Ok(Some(Status::Usage)));
     }
 }

@@ -1,9 +1,5 @@
 //! The run of a script that is made from a number.
 ghost use Rattle.std.specs.Prelude.{◌≡◌, IfOk};
-ghost use Rattle.std.specs.List.{AllByRecursion};
-ghost use Rattle.byte_laws.specs.ByteRuns.{AsksSpelled};
-ghost use Rattle.script_read.specs.Sound.{IsOfAScript};
-ghost use Rattle.make_script.specs.Script.{script_of};
 ghost use Rattle.run_laws.specs.Headline.{All_run};
 ghost use Rattle.script_run.specs.Headline.{IsRun};
 ghost use Rattle.script_run.specs.Ending.{ending_of, EndsReported};
@@ -63,6 +59,26 @@ fn write_made<K: Sink>(
     }
 }
 
+/// Writes the summary of a run whose script was run to the end.
+#[tactic(auto, using(crate::proofs::Headlines::whole_runs))]
+fn report_made<K: Sink>(
+    alloc: Global,
+    number: u16,
+    with_book: bool,
+    run: Run,
+    pending: u128,
+    sink: &mut K,
+) -> Outcome
+    requires run { IsRun run All_run }
+    requires pending { pending ≡ pending_at_end run }
+    ensures is { result.run ≡ run }
+    ensures run { IsRun result.run (ending_of result.status) }
+    ensures reported { EndsReported (record { before = K.written sink.old; now = K.written sink.new; faults_before = K.faults sink.old; faults_now = K.faults sink.new }) (made_output number with_book result.run) result.status }
+{
+    let status = write_made(alloc, number, with_book, &run, pending, sink);
+    Outcome { status, run }
+}
+
 /// Makes the script of a number, runs it, and writes the summary of its run. No source is read.
 #[tactic(auto, using(crate::proofs::AskLemmas::script_asks, crate::proofs::FewLemmas::few_commands, crate::proofs::Headlines::whole_runs, crate::proofs::MadeLemmas::made_ends))]
 pub fn run_made<K: Sink>(alloc: Global, number: u16, with_book: bool, sink: &mut K) -> Outcome
@@ -86,9 +102,11 @@ pub fn run_made<K: Sink>(alloc: Global, number: u16, with_book: bool, sink: &mut
     let ended = ran.ended;
     let pending = ran.pending;
     let run = Run::of(ran);
-    let status = match ended {
-        Ended::AllRun => write_made(alloc, number, with_book, &run, pending, sink),
-        Ended::OutOfMemory => Status::NoMemory,
-    };
-    Outcome { status, run }
+    match ended {
+        Ended::AllRun => report_made(alloc, number, with_book, run, pending, sink),
+        Ended::OutOfMemory => Outcome {
+            status: Status::NoMemory,
+            run,
+        },
+    }
 }

@@ -13,11 +13,11 @@ ghost use Rattle.script_run.specs.Report.{output_of};
 ghost use Rattle.script_run.specs.Headline.{IsRun};
 ghost use Rattle.script_run.specs.Ending.{ending_of, EndsReported, EndsOn, EndsUnread, EndsRead, IsComplete, IsUnread};
 
+use crate::making::run_made;
 use crate::outcome::{Outcome, Run, Status};
 use crate::output::output;
 use crate::places::places;
 use crate::refusing::{explain_line, explain_words};
-use crate::making::run_made;
 use dtx_ports::{ReadErr, Sink, Source, read_whole, write_whole};
 use dtx_values::SCRIPT_LIMIT;
 use script_read::{Commands, ScriptErr, read_script};
