@@ -8,9 +8,9 @@ use Rattle.std.proofs.lemmas.Bool.Decides.{nat_tests}
 use Rattle.std.proofs.lemmas.Fmt.{digits_decimal}
 use Rattle.std.proofs.lemmas.Str.{IsUtf8-from_ascii, is_utf8-from_IsUtf8}
 use Rattle.std.proofs.lemmas.Str.Parse.{IsNumeralModel, numerals_by_fold}
-use Rattle.token_grammar.specs.Bytes.{is_digit, value_from}
+use Rattle.token_grammar.specs.Bytes.{is_digit, is_quote, value_from}
 use Rattle.script_read.specs.declared.part.Part.TheVariants.{Plain}
-use Rattle.script_read.specs.Parts.{all_may_stand, begins_comment, is_clean, is_quote, is_semicolon, may_stand, outside_comments, part_behind, pieces_from, said, with_byte}
+use Rattle.script_read.specs.Parts.{all_may_stand, begins_comment, is_clean, is_semicolon, may_stand, outside_comments, part_behind, pieces_from, said, with_byte}
 
 -- a byte that neither ends a command nor begins a text in quotes or a comment, and may stand anywhere
 abbrev pub is_calm : ℕ → Bool

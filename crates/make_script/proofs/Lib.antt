@@ -2,3 +2,4 @@ mod CalmLemmas
 mod RowLemmas
 mod LineLemmas
 mod ScriptLemmas
+mod LengthLemmas

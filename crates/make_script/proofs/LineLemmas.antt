@@ -17,10 +17,8 @@ use Rattle.script_read.specs.declared.command.Command.TheVariants as commands
 use Rattle.script_read.specs.declared.part.Part.TheVariants.{Plain}
 use Rattle.script_read.specs.Asked.{call_of, command_of, is_colon, judged, nothing_before, trouble_of}
 use Rattle.script_read.specs.Forms.{form, setting_grammar}
-use Rattle.script_read.specs.Parts.{pieces_from, said}
-use Rattle.script_read.specs.Spelled.{IsCommand, IsGood}
+use Rattle.script_read.specs.Parts.{pieces_from}
 use Rattle.script_read.specs.Words.{kind_of, lost_in, measure_of, verb_of}
-use Rattle.script_read.proofs.SpellLaws.{command_takes, judged_takes}
 use Rattle.make_script.specs.Script.{Line, call_line, commit_line, count_line, link_line, loss_line, node_line, other_row, own_row, recovery_line, table_line, values_text}
 use Rattle.make_script.proofs.CalmLemmas.{IsCalm, calm_append, calm_clean, calm_cut, calm_said, decimal_calm}
 use Rattle.make_script.proofs.RowLemmas.{four, other_read, own_read}
@@ -28,7 +26,7 @@ use Rattle.make_script.proofs.RowLemmas.{four, other_read, own_read}
 -- The line is cut off behind these bytes, and is its command where these have come before.
 pub record IsLine (before : Before) (front : List ℕ) (l : Line) : Type 0 where
   pub cut : (rest : List ℕ) → pieces_from Plain (front ++ (l.text ++ 59 ∷ rest)) ≡ ((front ++ l.text) ∷ (pieces_from Plain rest).0, (pieces_from Plain rest).1)
-  pub good : IsGood before l.command (front ++ l.text)
+  pub good : judged before (front ++ l.text) ≡ Ok l.command
 
 -- the end of the line before
 abbrev pub feed : List ℕ
@@ -36,7 +34,7 @@ feed = 10 ∷ []
 
 -- a line whose text has no quotes, dashes and semicolons
 calm_line : (before : Before) (l : Line) → IsCalm (feed ++ l.text) → judged before (feed ++ l.text) ≡ Ok l.command → IsLine before feed l
-calm_line before l calm good = record { cut = λ rest. calm_cut (feed ++ l.text) rest calm; good = judged_takes before (feed ++ l.text) l.command good }
+calm_line before l calm good = record { cut = λ rest. calm_cut (feed ++ l.text) rest calm; good = good }
 
 -- ---- what comes before
 
@@ -64,7 +62,7 @@ met = record { names = names; others = true }
 
 pub first_node : IsLine nothing_before [] (node_line 1)
 unfolding judged command_of form setting_grammar verb_of measure_of tokens_in token_at word_at number_at mark_at quoted_at quoted_from
-first_node = record { cut = λ rest. refl; good = judged_takes nothing_before (codes "NODE N1 STRENGTH 10") _ refl }
+first_node = record { cut = λ rest. refl; good = refl }
 
 pub other_nodes : IsLine before_1 feed (node_line 2) × IsLine before_2 feed (node_line 3) × IsLine before_3 feed (node_line 4)
 unfolding judged command_of form setting_grammar verb_of measure_of tokens_in token_at word_at number_at mark_at quoted_at quoted_from
@@ -81,23 +79,23 @@ IsLink n other = IsLine met feed (link_line n other)
 pub links_1 : IsLink 1 2 × IsLink 1 3 × IsLink 1 4 × IsLink 2 1 × IsLink 2 3 × IsLink 2 4
 unfolding judged command_of call_of statement_of statement_grammar select insert update delete create create_table create_link column column_type rule tokens_in token_at word_at number_at mark_at quoted_at quoted_from
 links_1 = (
-  record { cut = λ rest. refl; good = judged_takes met (feed ++ (link_line 1 2).text) _ refl },
-  record { cut = λ rest. refl; good = judged_takes met (feed ++ (link_line 1 3).text) _ refl },
-  record { cut = λ rest. refl; good = judged_takes met (feed ++ (link_line 1 4).text) _ refl },
-  record { cut = λ rest. refl; good = judged_takes met (feed ++ (link_line 2 1).text) _ refl },
-  record { cut = λ rest. refl; good = judged_takes met (feed ++ (link_line 2 3).text) _ refl },
-  record { cut = λ rest. refl; good = judged_takes met (feed ++ (link_line 2 4).text) _ refl },
+  record { cut = λ rest. refl; good = refl },
+  record { cut = λ rest. refl; good = refl },
+  record { cut = λ rest. refl; good = refl },
+  record { cut = λ rest. refl; good = refl },
+  record { cut = λ rest. refl; good = refl },
+  record { cut = λ rest. refl; good = refl },
 )
 
 pub links_2 : IsLink 3 1 × IsLink 3 2 × IsLink 3 4 × IsLink 4 1 × IsLink 4 2 × IsLink 4 3
 unfolding judged command_of call_of statement_of statement_grammar select insert update delete create create_table create_link column column_type rule tokens_in token_at word_at number_at mark_at quoted_at quoted_from
 links_2 = (
-  record { cut = λ rest. refl; good = judged_takes met (feed ++ (link_line 3 1).text) _ refl },
-  record { cut = λ rest. refl; good = judged_takes met (feed ++ (link_line 3 2).text) _ refl },
-  record { cut = λ rest. refl; good = judged_takes met (feed ++ (link_line 3 4).text) _ refl },
-  record { cut = λ rest. refl; good = judged_takes met (feed ++ (link_line 4 1).text) _ refl },
-  record { cut = λ rest. refl; good = judged_takes met (feed ++ (link_line 4 2).text) _ refl },
-  record { cut = λ rest. refl; good = judged_takes met (feed ++ (link_line 4 3).text) _ refl },
+  record { cut = λ rest. refl; good = refl },
+  record { cut = λ rest. refl; good = refl },
+  record { cut = λ rest. refl; good = refl },
+  record { cut = λ rest. refl; good = refl },
+  record { cut = λ rest. refl; good = refl },
+  record { cut = λ rest. refl; good = refl },
 )
 
 -- ---- lines of one node or two
@@ -173,17 +171,12 @@ calls = (
   λ text. at_colon 16 (codes "\nAT N4 SESSION 1: " ++ text) _ (colon_4 text) refl,
 )
 
--- a call whose text is read as its statement, in front of any that begins so
+-- a call whose text is read as its statement, behind a begin of a call
 module _ (text : List ℕ) (s : Stmt) (n : ℕ) (front : List ℕ) (calm : IsCalm (front ++ text)) (read : statement_of (32 ∷ text) ≡ Some s) (called : IsCalled n front)
-    (late : (true && has_first_word (codes "NODE") (front ++ text)) ≡ false) (sound : trouble_of names (commands.At n 1 (Some s)) ≡ None) where
-  good_call : IsGood met (commands.At n 1 (Some s)) (front ++ text)
-  good_call = record {
-    clean = calm_clean (front ++ text) calm;
-    in_time = subst (λ (t : List ℕ). (true && has_first_word (codes "NODE") t) ≡ false) (sym (calm_said (front ++ text) calm)) late;
-    spelled = subst (IsCommand names (commands.At n 1 (Some s))) (sym (calm_said (front ++ text) calm))
-      (command_takes names (front ++ text) (commands.At n 1 (Some s)) (called text ∙ ap (λ (o : Option Stmt). Some (commands.At n 1 o)) read));
-    sound = sound;
-  }
+    (late : has_first_word (codes "NODE") (front ++ text) ≡ false) (sound : trouble_of names (commands.At n 1 (Some s)) ≡ None) where
+  good_call : judged met (front ++ text) ≡ Ok (commands.At n 1 (Some s))
+  unfolding judged
+  good_call = rw (calm_clean (front ++ text) calm, calm_said (front ++ text) calm, late, called text, read, sound) refl
 
   cut_call : (rest : List ℕ) → pieces_from Plain ((front ++ text) ++ 59 ∷ rest) ≡ ((front ++ text) ∷ (pieces_from Plain rest).0, (pieces_from Plain rest).1)
   cut_call rest = calm_cut (front ++ text) rest calm

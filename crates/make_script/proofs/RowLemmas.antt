@@ -1,26 +1,55 @@
 -- The statements of a made script are read, whatever their numbers are.
-use Rattle.std.proofs.Common.{◌≡◌, ℕ, zero, suc, ◌<◌, ◌≤◌, ◌^◌, Bool, true, false, List, [], ◌∷◌, ◌++◌, Option, Some, None, refl, sym, ap, subst, ◌∙◌, arith}
+use Rattle.std.proofs.Common.{◌≡◌, ℕ, zero, suc, ◌<◌, ◌≤◌, ◌^◌, Bool, true, false, List, [], ◌∷◌, ◌++◌, length, Option, Some, None, rules, refl, sym, ap, arith}
 use Rattle.std.specs.Prelude.{codes, decimal, nat_le}
+use Rattle.std.specs.List.{list_all}
+use Rattle.std.proofs.lemmas.Bool.{and_parts}
 use Rattle.std.proofs.lemmas.Bool.Decides.{nat_tests}
+use Rattle.std.proofs.lemmas.Fmt.{decimal_nonempty, digits_decimal, digits_value-decimal}
+use Rattle.std.proofs.lemmas.Str.Parse.{IsNumeralModel, numerals_by_fold}
 use Rattle.token_grammar.specs.declared.mark.Mark.TheVariants as marks
 use Rattle.token_grammar.specs.declared.token.Token.{Token}
 use Rattle.token_grammar.specs.declared.token.Token.TheVariants as token
 use Rattle.token_grammar.specs.Steps.{◌>>=◌, begins, whole_of}
-use Rattle.token_grammar.specs.Tokens.{MarkEnds, Tokens}
+use Rattle.token_grammar.specs.Bytes.{is_digit, value_from}
+use Rattle.token_grammar.specs.Tokens.{MarkEnds, TokenText, Tokens}
 use Rattle.token_grammar.proofs.TextLaws.{tokens_again}
 use Rattle.sql_statement.specs.declared.statement.Stmt.{Stmt}
 use Rattle.sql_statement.specs.declared.statement.Stmt.TheVariants as statements
 use Rattle.sql_parse.specs.Literals.{largest, literal, sum, table_ref, term}
 use Rattle.sql_parse.specs.Changes.{insert}
 use Rattle.sql_parse.specs.Statement.{statement_grammar, statement_of}
-use Rattle.sql_print.proofs.WriteLaws.{blank_first, no_byte, number_written, open_written}
 use Rattle.make_script.specs.Script.{link_name, literal_of, values_text}
 
 -- ---- tokens
 
-nothing_goes_on : (rest : List ℕ) → begins no_byte rest ≡ false
-nothing_goes_on [] = refl
-nothing_goes_on (b ∷ rest) = refl
+-- a blank in front
+blank_first : (ts : List Token) (bytes : List ℕ) → Tokens ts bytes → Tokens ts (32 ∷ bytes)
+blank_first [] bytes h = h
+blank_first (t ∷ ts) bytes s = (32 ∷ s.0, s.1, s.2, s.3, s.4, s.5, s.6, ap (λ (r : List ℕ). 32 ∷ r) s.7)
+
+own : IsNumeralModel (λ ds. list_all is_digit ds ≡ true) (value_from 0)
+own = numerals_by_fold _ (search rules) value_from (search rules)
+
+first_digit : (ds : List ℕ) → 0 < length ds → list_all is_digit ds ≡ true → begins is_digit ds ≡ true
+first_digit [] lt h = absurd (omega arith)
+first_digit (d ∷ ds) lt h = (and_parts (is_digit d) (list_all is_digit ds) h).0
+
+number_text : (n : ℕ) → n < 2 ^ 64 → TokenText (token.Number n) (decimal n)
+number_text n lt =
+    let all = digits_decimal own n lt in
+    (first_digit (decimal n) (decimal_nonempty n lt) all, all, sym (digits_value-decimal own n lt), lt)
+
+-- a number in decimal, in front of what does not go on with a digit
+number_written : (n : ℕ) → n < 2 ^ 64 → (ts : List Token) (rest : List ℕ) → begins is_digit rest ≡ false → Tokens ts rest → Tokens (token.Number n ∷ ts) (decimal n ++ rest)
+number_written n lt ts rest ends h = ([], decimal n, rest, refl, number_text n lt, ends, h, refl)
+
+open_ends : (rest : List ℕ) → MarkEnds (codes "(") rest
+open_ends [] = tt
+open_ends (b ∷ rest) = refl
+
+-- an open bracket, in front of anything
+open_written : (ts : List Token) (rest : List ℕ) → Tokens ts rest → Tokens (token.Mark marks.Open ∷ ts) (codes "(" ++ rest)
+open_written ts rest h = ([], codes "(", rest, refl, refl, open_ends rest, h, refl)
 
 -- ` VALUES (number, value)`
 abbrev value_tokens : ℕ → ℕ → List Token
@@ -35,8 +64,8 @@ values_are n v p q =
     let comma : Tokens (token.Mark marks.Comma ∷ token.Number v ∷ token.Mark marks.Close ∷ []) (codes ", " ++ (decimal v ++ codes ")")) =
       ([], codes ",", 32 ∷ (decimal v ++ codes ")"), refl, refl, refl, blank_first _ (decimal v ++ codes ")") value, refl) in
     let number = number_written n p _ (codes ", " ++ (decimal v ++ codes ")")) refl comma in
-    let open = open_written _ (decimal n ++ (codes ", " ++ (decimal v ++ codes ")"))) (nothing_goes_on _) number in
-    (codes " ", codes "VALUES", codes " (" ++ (decimal n ++ (codes ", " ++ (decimal v ++ codes ")"))), refl, (refl, refl, refl), refl, blank_first _ _ open, refl)
+    let opening = open_written _ (decimal n ++ (codes ", " ++ (decimal v ++ codes ")"))) number in
+    (codes " ", codes "VALUES", codes " (" ++ (decimal n ++ (codes ", " ++ (decimal v ++ codes ")"))), refl, (refl, refl, refl), refl, blank_first _ _ opening, refl)
 
 -- ` INSERT INTO`
 into_are : (ts : List Token) (text : List ℕ) → Tokens ts (32 ∷ text) → Tokens (token.Word (codes "INSERT") ∷ token.Word (codes "INTO") ∷ ts) (codes " INSERT INTO " ++ text)
@@ -68,15 +97,15 @@ read_of : (text : List ℕ) (ts : List Token) (s : Stmt) → Tokens ts text → 
 unfolding statement_of
 read_of text ts s tokens read = rw (tokens_again ts text tokens) read
 
+own_tokens_read : (n v : ℕ) → n < 2 ^ 63 → v < 2 ^ 63
+    → (statement_grammar.read (token.Word (codes "INSERT") ∷ token.Word (codes "INTO") ∷ token.Word (codes "T") ∷ value_tokens n v) >>= whole_of)
+    ≡ Some (statements.Insert (record { name = codes "T"; link = None }) None (literal_of n ∷ literal_of v ∷ []))
+unfolding statement_grammar insert table_ref sum term literal
+own_tokens_read n v p q = rw (fits n p, fits v q) refl
+
 pub own_read : (n v : ℕ) → n < 2 ^ 63 → v < 2 ^ 63
     → statement_of (codes " INSERT INTO T" ++ values_text n v) ≡ Some (statements.Insert (record { name = codes "T"; link = None }) None (literal_of n ∷ literal_of v ∷ []))
-own_read n v p q = read_of _ _ _ (own_are n v (omega arith) (omega arith)) (read n v p q)
-  where
-    read : (n v : ℕ) → n < 2 ^ 63 → v < 2 ^ 63
-        → (statement_grammar.read (token.Word (codes "INSERT") ∷ token.Word (codes "INTO") ∷ token.Word (codes "T") ∷ value_tokens n v) >>= whole_of)
-        ≡ Some (statements.Insert (record { name = codes "T"; link = None }) None (literal_of n ∷ literal_of v ∷ []))
-    unfolding statement_grammar insert table_ref sum term literal
-    read n v p q = rw (fits n p, fits v q) refl
+own_read n v p q = read_of _ _ _ (own_are n v (omega arith) (omega arith)) (own_tokens_read n v p q)
 
 -- the other node's row, at a link whose name is written out
 abbrev IsOtherRead : ℕ → Type 0

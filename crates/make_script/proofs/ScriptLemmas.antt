@@ -5,12 +5,11 @@ use Rattle.std.specs.List.{AllByRecursion, flat_map}
 use Rattle.std.proofs.lemmas.Bool.Decides.{nat_tests}
 use Rattle.script_read.specs.declared.before.Before.{Before}
 use Rattle.script_read.specs.declared.part.Part.TheVariants.{Plain}
-use Rattle.script_read.specs.Asked.{asked, nothing_before, with_command}
-use Rattle.script_read.specs.Parts.{pieces_from}
-use Rattle.script_read.specs.Spelled.{AreCommands}
-use Rattle.script_read.proofs.SpellLaws.{script_again}
+use Rattle.script_read.specs.declared.command.Command.{Command}
+use Rattle.script_read.specs.Asked.{Asked, asked, asked_at_end, asked_from, judged, nothing_before, with_command}
+use Rattle.script_read.specs.Parts.{line_ends, pieces_from}
 use Rattle.make_script.specs.declared.transaction.Transaction.{Transaction}
-use Rattle.make_script.specs.Draws.{drawn_after, last_draw, other_node, transactions}
+use Rattle.make_script.specs.Draws.{drawn_after, last_draw, next_draw, other_node, transactions}
 use Rattle.make_script.specs.Script.{Line, command_of, commands_of, end_lines, first_lines, last_lines, line_text, lines, lines_of, loses, script_of, text_of, transaction_count}
 use Rattle.make_script.specs.Read.{IsRead}
 use Rattle.make_script.proofs.LineLemmas.{IsLine, commit_is, counts, feed, first_node, links_1, links_2, loss_is, met, other_is, other_nodes, own_is, recovery_is, tables}
@@ -22,19 +21,28 @@ AreLines : Before → List ℕ → List Line → Type 0
 AreLines before front [] = Unit {0}
 AreLines before front (l ∷ ls) = IsLine before front l × AreLines (with_command before l.command) feed ls
 
+-- the commands of a text from this line on, behind those that have come
+abbrev asks : ℕ → Before → List ℕ → Asked
+asks n before text = asked_from n before (pieces_from Plain text).0 (pieces_from Plain text).1
+
+-- a good command in front of others
+judged_first : (n : ℕ) (before : Before) (piece : List ℕ) (pieces : List (List ℕ)) (rest : List ℕ) (c : Command) (cs : List Command) → judged before piece ≡ Ok c
+    → ((m : ℕ) → asked_from m (with_command before c) pieces rest ≡ Ok cs) → asked_from n before (piece ∷ pieces) rest ≡ Ok (c ∷ cs)
+judged_first n before piece pieces rest c cs good more = rw (good, more (n + line_ends piece)) refl
+
 -- a line in front of others
-line_first : (before : Before) (front : List ℕ) (l : Line) (ls : List Line) → IsLine before front l
-    → AreCommands (with_command before l.command) (map command_of ls) (pieces_from Plain (feed ++ text_of ls)).0 (pieces_from Plain (feed ++ text_of ls)).1
-    → AreCommands before (l.command ∷ map command_of ls) (pieces_from Plain (front ++ text_of (l ∷ ls))).0 (pieces_from Plain (front ++ text_of (l ∷ ls))).1
-line_first before front l ls is more =
+line_first : (n : ℕ) (before : Before) (front : List ℕ) (l : Line) (ls : List Line) → IsLine before front l
+    → ((m : ℕ) → asks m (with_command before l.command) (feed ++ text_of ls) ≡ Ok (map command_of ls)) → asks n before (front ++ text_of (l ∷ ls)) ≡ Ok (l.command ∷ map command_of ls)
+line_first n before front l ls is more =
     let text : l.text ++ (59 ∷ (feed ++ text_of ls)) ≡ text_of (l ∷ ls) = sym (append_assoc l.text (59 ∷ feed) (text_of ls)) in
     let cut = ap (λ (t : List ℕ). pieces_from Plain (front ++ t)) (sym text) ∙ is.cut (feed ++ text_of ls) in
-    subst (λ (x : List (List ℕ) × List ℕ). AreCommands before (l.command ∷ map command_of ls) x.0 x.1) (sym cut) (is.good, more)
+    subst (λ (x : List (List ℕ) × List ℕ). asked_from n before x.0 x.1 ≡ Ok (l.command ∷ map command_of ls)) (sym cut)
+    (judged_first n before (front ++ l.text) (pieces_from Plain (feed ++ text_of ls)).0 (pieces_from Plain (feed ++ text_of ls)).1 l.command (map command_of ls) is.good more)
 
-behind_feed : (ls : List Line) (before : Before) → AreLines before feed ls → AreCommands before (map command_of ls) (pieces_from Plain (feed ++ text_of ls)).0 (pieces_from Plain (feed ++ text_of ls)).1
-unfolding AreLines
-behind_feed [] before h = (refl, refl)
-behind_feed (l ∷ ls) before h = line_first before feed l ls h.0 (behind_feed ls (with_command before l.command) h.1)
+behind_feed : (ls : List Line) (n : ℕ) (before : Before) → AreLines before feed ls → asks n before (feed ++ text_of ls) ≡ Ok (map command_of ls)
+unfolding AreLines asked_at_end
+behind_feed [] n before h = refl
+behind_feed (l ∷ ls) n before h = line_first n before feed l ls h.0 (λ m. behind_feed ls m (with_command before l.command) h.1)
 
 -- ---- what is drawn
 
@@ -56,12 +64,14 @@ other_fits root place low high = by (nat_lt place root)
 
 drawn_fits : (count x : ℕ) → count < 500 → IsFit (drawn_after (count + 1) x)
 drawn_fits count x few =
-    let root = last_draw x 0 in
+    let root : ℕ = 1 + next_draw x % 4 in
+    let place : ℕ = 1 + next_draw (next_draw x) % 3 in
+    let other = other_fits root place (omega arith) (omega arith) in
     record {
       root_least = omega arith;
       root_most = omega arith;
-      other_least = (other_fits _ _ (omega arith) (omega arith)).0;
-      other_most = (other_fits _ _ (omega arith) (omega arith)).1;
+      other_least = other.0;
+      other_most = other.1;
       number = omega arith;
       value = omega arith;
     }
@@ -126,7 +136,7 @@ first_are more h = (
 -- a script whose lines are good
 script_is : (l : Line) (ls : List Line) → AreLines nothing_before [] (l ∷ ls) → asked (text_of (l ∷ ls)) ≡ Ok (map command_of (l ∷ ls))
 unfolding AreLines
-script_is l ls h = script_again (text_of (l ∷ ls)) (map command_of (l ∷ ls)) (line_first nothing_before [] l ls h.0 (behind_feed ls (with_command nothing_before l.command) h.1))
+script_is l ls h = line_first 1 nothing_before [] l ls h.0 (λ m. behind_feed ls m (with_command nothing_before l.command) h.1)
 
 pub is_read : IsRead
 unfolding lines

@@ -4,14 +4,18 @@
 //! branch is in doubt until its node recovers.
 //!
 //! `specs/Script.antt` has the script line by line, each with its text and the command that it is. That the texts are read as
-//! those commands, for every number, is a theorem (`made_scripts_are_read`): so no made script is a bad one.
+//! those commands, for every number, is a theorem (`made_scripts_are_read`): so no made script is a bad one. `specs/Summary.antt` has
+//! what is printed of its run.
 #![tactic(auto)]
 
+mod counting;
 mod laws;
 mod lines;
+mod output;
 mod script;
 mod transaction;
 
 pub use laws::made_scripts_are_read;
+pub use output::summary;
 pub use script::make_script;
 pub use transaction::Transaction;

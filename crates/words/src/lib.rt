@@ -5,6 +5,9 @@
 //! is a function of the words alone (`fault_of`), and so is what it takes them for (`matches_of`).
 #![tactic(auto)]
 
+#[cfg(test)]
+mod tests;
+
 ghost use Rattle.std.specs.Prelude.{◌≡◌, map, IfOk, codes};
 ghost use Rattle.std.specs.String.{string_bytes};
 ghost use Rattle.clap.specs.Words.{FailsBy, fault_of, first_value, found_of, matches_of, rows_of};

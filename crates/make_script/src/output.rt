@@ -15,7 +15,8 @@ fn put_count(out: &mut Vec<u8>, name: &[u8], number: u128) -> Result<(), AllocEr
     out.extend_from_slice(name)?;
     out.push(b' ')?;
     out.extend_from_slice(Buffer::new().format(number).as_bytes())?;
-    out.push(b'\n')
+    out.push(b'\n')?;
+    Ok(())
 }
 
 /// The summary of the run of the script of a number, at whose end so many rows of pending transactions stand. It is an error only
