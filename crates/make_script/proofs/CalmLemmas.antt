@@ -89,3 +89,21 @@ ascii (b ∷ bs) h (suc i) = ascii bs (and_parts (is_calm b) (list_all is_calm b
 -- and no byte that may not stand
 pub calm_clean : (text : List ℕ) → IsCalm text → is_clean text ≡ true
 calm_clean text h = and_from _ _ (is_utf8-from_IsUtf8 text (IsUtf8-from_ascii text (ascii text h))) (all_stand text h)
+
+-- ---- texts of single bytes
+
+-- a byte of ASCII but the last
+abbrev pub is_low : ℕ → Bool
+is_low b = nat_lt b 127
+
+low_byte : (b : ℕ) → is_low b ≡ true → b < 128
+low_byte b h = grind (arith, nat_tests)
+
+low_ascii : (text : List ℕ) → list_all is_low text ≡ true → IsAscii text
+low_ascii [] h i = omega arith
+low_ascii (b ∷ bs) h zero = low_byte b (and_parts (is_low b) (list_all is_low bs) h).0
+low_ascii (b ∷ bs) h (suc i) = low_ascii bs (and_parts (is_low b) (list_all is_low bs) h).1 i
+
+-- a text that is written out is clean where each of its bytes may stand
+pub low_clean : (text : List ℕ) → list_all is_low text ≡ true → all_may_stand Plain text ≡ true → is_clean text ≡ true
+low_clean text h stands = and_from _ _ (is_utf8-from_IsUtf8 text (IsUtf8-from_ascii text (low_ascii text h))) stands

@@ -8,7 +8,7 @@ use Rattle.std.proofs.lemmas.List.Concat.{flat_map-append}
 use Rattle.dtx_values.specs.Limits.{script_limit}
 use Rattle.make_script.specs.declared.transaction.Transaction.{Transaction}
 use Rattle.make_script.specs.Draws.{drawn_after, last_draw, transactions}
-use Rattle.make_script.specs.Script.{Line, commit_line, end_lines, first_lines, last_lines, line_text, lines, lines_of, loses, loss_line, other_row, own_row, recovery_line, script_of, text_of, transaction_count, values_text}
+use Rattle.make_script.specs.Script.{Line, commit_line, digit, end_lines, first_lines, last_lines, line_text, lines, lines_of, loses, loss_line, other_row, own_row, recovery_line, script_of, text_of, transaction_count, values_text}
 use Rattle.make_script.specs.Read.{IsWithin}
 use Rattle.make_script.proofs.ScriptLemmas.{IsFit, all_fit}
 
@@ -24,9 +24,9 @@ values_short n v p q =
     omega (arith, length-append (decimal n) (codes ", " ++ (decimal v ++ codes ")")), length-append (decimal v) (codes ")"), decimal_short n p, decimal_short v q)
 
 -- a call: its begin has at most 36 bytes
-call_short : (n most : ℕ) (text : List ℕ) → n < 2 ^ 64 → length text ≤ most → length ((codes "AT N" ++ (decimal n ++ (codes " SESSION 1: " ++ text))) ++ codes ";\n") ≤ most + 38
+call_short : (n most : ℕ) (text : List ℕ) → n < 2 ^ 64 → length text ≤ most → length ((codes "AT N" ++ (digit n ++ (codes " SESSION 1: " ++ text))) ++ codes ";\n") ≤ most + 38
 call_short n most text small short =
-    omega (arith, short, decimal_short n small, length-append (codes "AT N" ++ (decimal n ++ (codes " SESSION 1: " ++ text))) (codes ";\n"), length-append (decimal n) (codes " SESSION 1: " ++ text))
+    omega (arith, short, length-append (codes "AT N" ++ (digit n ++ (codes " SESSION 1: " ++ text))) (codes ";\n"))
 
 own_short : (root n v : ℕ) → root < 2 ^ 64 → n < 2 ^ 64 → v < 2 ^ 64 → IsShort 120 (own_row root n v)
 own_short root n v small p q =
@@ -36,9 +36,8 @@ own_short root n v small p q =
 
 other_short : (root other n v : ℕ) → root < 2 ^ 64 → other < 2 ^ 64 → n < 2 ^ 64 → v < 2 ^ 64 → IsShort 140 (other_row root other n v)
 other_short root other n v small little p q =
-    let text : length (codes "INSERT INTO T@L" ++ (decimal other ++ values_text n v)) ≤ 95 =
-      omega (arith, values_short n v p q, decimal_short other little, length-append (decimal other) (values_text n v)) in
-    let all = call_short root 95 (codes "INSERT INTO T@L" ++ (decimal other ++ values_text n v)) small text in
+    let text : length (codes "INSERT INTO T@L" ++ (digit other ++ values_text n v)) ≤ 95 = omega (arith, values_short n v p q) in
+    let all = call_short root 95 (codes "INSERT INTO T@L" ++ (digit other ++ values_text n v)) small text in
     omega (arith, all)
 
 commit_short : (n : ℕ) → n < 2 ^ 64 → IsShort 50 (commit_line n)
@@ -46,11 +45,10 @@ commit_short n small = let all = call_short n 6 (codes "COMMIT") small (omega ar
 
 loss_short : (from to : ℕ) → from < 2 ^ 64 → to < 2 ^ 64 → IsShort 80 (loss_line from to)
 loss_short from to p q =
-    omega (arith, decimal_short from p, decimal_short to q, length-append (codes "LOSE NEXT COMMITTED FROM N" ++ (decimal from ++ (codes " TO N" ++ decimal to))) (codes ";\n"),
-      length-append (decimal from) (codes " TO N" ++ decimal to))
+    omega (arith, length-append (codes "LOSE NEXT COMMITTED FROM N" ++ (digit from ++ (codes " TO N" ++ digit to))) (codes ";\n"))
 
 recovery_short : (n : ℕ) → n < 2 ^ 64 → IsShort 30 (recovery_line n)
-recovery_short n small = omega (arith, decimal_short n small, length-append (codes "RECO N" ++ decimal n) (codes ";\n"))
+recovery_short n small = omega (arith, length-append (codes "RECO N" ++ digit n) (codes ";\n"))
 
 two_long : (l : Line) (ls : List Line) → length (text_of (l ∷ ls)) ≡ length (line_text l) + length (text_of ls)
 two_long l ls = length-append (line_text l) (text_of ls)

@@ -3,3 +3,4 @@ mod RowLemmas
 mod LineLemmas
 mod ScriptLemmas
 mod LengthLemmas
+mod Appends

@@ -1,6 +1,7 @@
 -- Each line of a made script is the command that stands beside it.
 use Rattle.std.proofs.Common.{◌≡◌, ℕ, ◌<◌, ◌≤◌, ◌^◌, Bool, true, false, List, [], ◌∷◌, ◌++◌, length, Option, Some, None, refl, sym, ap, subst, ◌∙◌, arith}
 use Rattle.std.specs.Prelude.{◌+◌, ◌&&◌, Ok, codes, cond, decimal, drop, nat_lt, position, take}
+use Rattle.std.specs.List.{list_all}
 use Rattle.std.proofs.lemmas.Bool.Decides.{nat_tests}
 use Rattle.token_grammar.specs.FirstWord.{has_first_word}
 use Rattle.token_grammar.specs.Lexing.{mark_at, number_at, quoted_at, quoted_from, token_at, tokens_in, word_at}
@@ -17,10 +18,10 @@ use Rattle.script_read.specs.declared.command.Command.TheVariants as commands
 use Rattle.script_read.specs.declared.part.Part.TheVariants.{Plain}
 use Rattle.script_read.specs.Asked.{call_of, command_of, is_colon, judged, nothing_before, trouble_of}
 use Rattle.script_read.specs.Forms.{form, setting_grammar}
-use Rattle.script_read.specs.Parts.{pieces_from}
+use Rattle.script_read.specs.Parts.{all_may_stand, is_clean, pieces_from, said}
 use Rattle.script_read.specs.Words.{kind_of, lost_in, measure_of, verb_of}
-use Rattle.make_script.specs.Script.{Line, call_line, commit_line, count_line, link_line, loss_line, node_line, other_row, own_row, recovery_line, table_line, values_text}
-use Rattle.make_script.proofs.CalmLemmas.{IsCalm, calm_append, calm_clean, calm_cut, calm_said, decimal_calm}
+use Rattle.make_script.specs.Script.{Line, call_line, commit_line, count_line, digit, link_line, loss_line, node_line, other_row, own_row, recovery_line, table_line, values_text}
+use Rattle.make_script.proofs.CalmLemmas.{IsCalm, is_low, low_clean, calm_append, calm_clean, calm_cut, calm_said, decimal_calm}
 use Rattle.make_script.proofs.RowLemmas.{four, other_read, own_read}
 
 -- The line is cut off behind these bytes, and is its command where these have come before.
@@ -32,9 +33,32 @@ pub record IsLine (before : Before) (front : List ℕ) (l : Line) : Type 0 where
 abbrev pub feed : List ℕ
 feed = 10 ∷ []
 
+-- a command that is clean, comes in time, is said and is sound
+judged_by : (before : Before) (piece : List ℕ) (c : Command) → is_clean piece ≡ true → (before.others && has_first_word (codes "NODE") (said piece)) ≡ false
+    → command_of before.names (said piece) ≡ Some c → trouble_of before.names c ≡ None → judged before piece ≡ Ok c
+unfolding judged
+judged_by before piece c clean early says sound = rw (clean, early, says, sound) refl
+
 -- a line whose text has no quotes, dashes and semicolons
-calm_line : (before : Before) (l : Line) → IsCalm (feed ++ l.text) → judged before (feed ++ l.text) ≡ Ok l.command → IsLine before feed l
-calm_line before l calm good = record { cut = λ rest. calm_cut (feed ++ l.text) rest calm; good = good }
+calm_line : (before : Before) (l : Line) → IsCalm (feed ++ l.text) → (before.others && has_first_word (codes "NODE") (feed ++ l.text)) ≡ false
+    → command_of before.names (feed ++ l.text) ≡ Some l.command → trouble_of before.names l.command ≡ None → IsLine before feed l
+calm_line before l calm early says sound =
+    let same = sym (calm_said (feed ++ l.text) calm) in
+    record {
+      cut = λ rest. calm_cut (feed ++ l.text) rest calm;
+      good = judged_by before (feed ++ l.text) l.command (calm_clean (feed ++ l.text) calm)
+        (subst (λ (t : List ℕ). (before.others && has_first_word (codes "NODE") t) ≡ false) same early)
+        (subst (λ (t : List ℕ). command_of before.names t ≡ Some l.command) same says) sound;
+    }
+
+-- a line that is written out
+written_line : (before : Before) (front : List ℕ) (l : Line) → list_all is_low (front ++ l.text) ≡ true → all_may_stand Plain (front ++ l.text) ≡ true
+    → (before.others && has_first_word (codes "NODE") (said (front ++ l.text))) ≡ false → command_of before.names (said (front ++ l.text)) ≡ Some l.command → trouble_of before.names l.command ≡ None
+    → ((rest : List ℕ) → pieces_from Plain (front ++ (l.text ++ 59 ∷ rest)) ≡ ((front ++ l.text) ∷ (pieces_from Plain rest).0, (pieces_from Plain rest).1)) → IsLine before front l
+written_line before front l low stand early says sound cut = record {
+  cut = cut;
+  good = judged_by before (front ++ l.text) l.command (low_clean (front ++ l.text) low stand) early says sound;
+}
 
 -- ---- what comes before
 
@@ -61,41 +85,41 @@ met = record { names = names; others = true }
 -- ---- the first lines
 
 pub first_node : IsLine nothing_before [] (node_line 1)
-unfolding judged command_of form setting_grammar verb_of measure_of tokens_in token_at word_at number_at mark_at quoted_at quoted_from
-first_node = record { cut = λ rest. refl; good = refl }
+unfolding command_of form setting_grammar verb_of measure_of tokens_in token_at word_at number_at mark_at quoted_at quoted_from
+first_node = written_line nothing_before [] (node_line 1) refl refl refl refl refl (λ rest. refl)
 
 pub other_nodes : IsLine before_1 feed (node_line 2) × IsLine before_2 feed (node_line 3) × IsLine before_3 feed (node_line 4)
-unfolding judged command_of form setting_grammar verb_of measure_of tokens_in token_at word_at number_at mark_at quoted_at quoted_from
-other_nodes = (calm_line before_1 (node_line 2) refl refl, calm_line before_2 (node_line 3) refl refl, calm_line before_3 (node_line 4) refl refl)
+unfolding command_of form setting_grammar verb_of measure_of tokens_in token_at word_at number_at mark_at quoted_at quoted_from
+other_nodes = (calm_line before_1 (node_line 2) refl refl refl refl, calm_line before_2 (node_line 3) refl refl refl refl, calm_line before_3 (node_line 4) refl refl refl refl)
 
 pub tables : IsLine before_4 feed (table_line 1) × IsLine met feed (table_line 2) × IsLine met feed (table_line 3) × IsLine met feed (table_line 4)
-unfolding judged command_of call_of statement_of statement_grammar select insert update delete create create_table column column_type rule tokens_in token_at word_at number_at mark_at quoted_at quoted_from
-tables = (calm_line before_4 (table_line 1) refl refl, calm_line met (table_line 2) refl refl, calm_line met (table_line 3) refl refl, calm_line met (table_line 4) refl refl)
+unfolding command_of call_of statement_of statement_grammar select insert update delete create create_table column column_type rule tokens_in token_at word_at number_at mark_at quoted_at quoted_from
+tables = (calm_line before_4 (table_line 1) refl refl refl refl, calm_line met (table_line 2) refl refl refl refl, calm_line met (table_line 3) refl refl refl refl, calm_line met (table_line 4) refl refl refl refl)
 
 -- a database link of a node, whose target stands in quotes
 abbrev IsLink : ℕ → ℕ → Type 0
 IsLink n other = IsLine met feed (link_line n other)
 
 pub links_1 : IsLink 1 2 × IsLink 1 3 × IsLink 1 4 × IsLink 2 1 × IsLink 2 3 × IsLink 2 4
-unfolding judged command_of call_of statement_of statement_grammar select insert update delete create create_table create_link column column_type rule tokens_in token_at word_at number_at mark_at quoted_at quoted_from
+unfolding command_of call_of statement_of statement_grammar select insert update delete create create_table create_link column column_type rule tokens_in token_at word_at number_at mark_at quoted_at quoted_from
 links_1 = (
-  record { cut = λ rest. refl; good = refl },
-  record { cut = λ rest. refl; good = refl },
-  record { cut = λ rest. refl; good = refl },
-  record { cut = λ rest. refl; good = refl },
-  record { cut = λ rest. refl; good = refl },
-  record { cut = λ rest. refl; good = refl },
+  written_line met feed (link_line 1 2) refl refl refl refl refl (λ rest. refl),
+  written_line met feed (link_line 1 3) refl refl refl refl refl (λ rest. refl),
+  written_line met feed (link_line 1 4) refl refl refl refl refl (λ rest. refl),
+  written_line met feed (link_line 2 1) refl refl refl refl refl (λ rest. refl),
+  written_line met feed (link_line 2 3) refl refl refl refl refl (λ rest. refl),
+  written_line met feed (link_line 2 4) refl refl refl refl refl (λ rest. refl),
 )
 
 pub links_2 : IsLink 3 1 × IsLink 3 2 × IsLink 3 4 × IsLink 4 1 × IsLink 4 2 × IsLink 4 3
-unfolding judged command_of call_of statement_of statement_grammar select insert update delete create create_table create_link column column_type rule tokens_in token_at word_at number_at mark_at quoted_at quoted_from
+unfolding command_of call_of statement_of statement_grammar select insert update delete create create_table create_link column column_type rule tokens_in token_at word_at number_at mark_at quoted_at quoted_from
 links_2 = (
-  record { cut = λ rest. refl; good = refl },
-  record { cut = λ rest. refl; good = refl },
-  record { cut = λ rest. refl; good = refl },
-  record { cut = λ rest. refl; good = refl },
-  record { cut = λ rest. refl; good = refl },
-  record { cut = λ rest. refl; good = refl },
+  written_line met feed (link_line 3 1) refl refl refl refl refl (λ rest. refl),
+  written_line met feed (link_line 3 2) refl refl refl refl refl (λ rest. refl),
+  written_line met feed (link_line 3 4) refl refl refl refl refl (λ rest. refl),
+  written_line met feed (link_line 4 1) refl refl refl refl refl (λ rest. refl),
+  written_line met feed (link_line 4 2) refl refl refl refl refl (λ rest. refl),
+  written_line met feed (link_line 4 3) refl refl refl refl refl (λ rest. refl),
 )
 
 -- ---- lines of one node or two
@@ -104,32 +128,32 @@ abbrev IsCommitted : ℕ → Type 0
 IsCommitted n = IsLine met feed (commit_line n)
 
 pub commit_is : (n : ℕ) → 1 ≤ n → n ≤ 4 → IsLine met feed (commit_line n)
-unfolding judged command_of call_of statement_of statement_grammar select insert update delete create commit tokens_in token_at word_at number_at mark_at quoted_at quoted_from
-commit_is = four IsCommitted (calm_line met (commit_line 1) refl refl) (calm_line met (commit_line 2) refl refl) (calm_line met (commit_line 3) refl refl) (calm_line met (commit_line 4) refl refl)
+unfolding command_of call_of statement_of statement_grammar select insert update delete create commit tokens_in token_at word_at number_at mark_at quoted_at quoted_from
+commit_is = four IsCommitted (calm_line met (commit_line 1) refl refl refl refl) (calm_line met (commit_line 2) refl refl refl refl) (calm_line met (commit_line 3) refl refl refl refl) (calm_line met (commit_line 4) refl refl refl refl)
 
 abbrev IsRecovered : ℕ → Type 0
 IsRecovered n = IsLine met feed (recovery_line n)
 
 pub recovery_is : (n : ℕ) → 1 ≤ n → n ≤ 4 → IsLine met feed (recovery_line n)
-unfolding judged command_of form verb_of tokens_in token_at word_at number_at mark_at quoted_at quoted_from
-recovery_is = four IsRecovered (calm_line met (recovery_line 1) refl refl) (calm_line met (recovery_line 2) refl refl) (calm_line met (recovery_line 3) refl refl) (calm_line met (recovery_line 4) refl refl)
+unfolding command_of form verb_of tokens_in token_at word_at number_at mark_at quoted_at quoted_from
+recovery_is = four IsRecovered (calm_line met (recovery_line 1) refl refl refl refl) (calm_line met (recovery_line 2) refl refl refl refl) (calm_line met (recovery_line 3) refl refl refl refl) (calm_line met (recovery_line 4) refl refl refl refl)
 
 abbrev IsLost : ℕ → ℕ → Type 0
 IsLost from to = IsLine met feed (loss_line from to)
 
 pub loss_is : (from to : ℕ) → 1 ≤ from → from ≤ 4 → 1 ≤ to → to ≤ 4 → IsLine met feed (loss_line from to)
-unfolding judged command_of form verb_of lost_in kind_of tokens_in token_at word_at number_at mark_at quoted_at quoted_from
+unfolding command_of form verb_of lost_in kind_of tokens_in token_at word_at number_at mark_at quoted_at quoted_from
 loss_is from to low high least most =
     four (λ f. IsLost f to)
-    (four (IsLost 1) (calm_line met (loss_line 1 1) refl refl) (calm_line met (loss_line 1 2) refl refl) (calm_line met (loss_line 1 3) refl refl) (calm_line met (loss_line 1 4) refl refl) to least most)
-    (four (IsLost 2) (calm_line met (loss_line 2 1) refl refl) (calm_line met (loss_line 2 2) refl refl) (calm_line met (loss_line 2 3) refl refl) (calm_line met (loss_line 2 4) refl refl) to least most)
-    (four (IsLost 3) (calm_line met (loss_line 3 1) refl refl) (calm_line met (loss_line 3 2) refl refl) (calm_line met (loss_line 3 3) refl refl) (calm_line met (loss_line 3 4) refl refl) to least most)
-    (four (IsLost 4) (calm_line met (loss_line 4 1) refl refl) (calm_line met (loss_line 4 2) refl refl) (calm_line met (loss_line 4 3) refl refl) (calm_line met (loss_line 4 4) refl refl) to least most)
+    (four (IsLost 1) (calm_line met (loss_line 1 1) refl refl refl refl) (calm_line met (loss_line 1 2) refl refl refl refl) (calm_line met (loss_line 1 3) refl refl refl refl) (calm_line met (loss_line 1 4) refl refl refl refl) to least most)
+    (four (IsLost 2) (calm_line met (loss_line 2 1) refl refl refl refl) (calm_line met (loss_line 2 2) refl refl refl refl) (calm_line met (loss_line 2 3) refl refl refl refl) (calm_line met (loss_line 2 4) refl refl refl refl) to least most)
+    (four (IsLost 3) (calm_line met (loss_line 3 1) refl refl refl refl) (calm_line met (loss_line 3 2) refl refl refl refl) (calm_line met (loss_line 3 3) refl refl refl refl) (calm_line met (loss_line 3 4) refl refl refl refl) to least most)
+    (four (IsLost 4) (calm_line met (loss_line 4 1) refl refl refl refl) (calm_line met (loss_line 4 2) refl refl refl refl) (calm_line met (loss_line 4 3) refl refl refl refl) (calm_line met (loss_line 4 4) refl refl refl refl) to least most)
     from low high
 
 pub counts : IsLine met feed (count_line 1) × IsLine met feed (count_line 2) × IsLine met feed (count_line 3) × IsLine met feed (count_line 4)
-unfolding judged command_of call_of statement_of statement_grammar select picks conditions table_ref tokens_in token_at word_at number_at mark_at quoted_at quoted_from
-counts = (calm_line met (count_line 1) refl refl, calm_line met (count_line 2) refl refl, calm_line met (count_line 3) refl refl, calm_line met (count_line 4) refl refl)
+unfolding command_of call_of statement_of statement_grammar select picks conditions table_ref tokens_in token_at word_at number_at mark_at quoted_at quoted_from
+counts = (calm_line met (count_line 1) refl refl refl refl, calm_line met (count_line 2) refl refl refl refl, calm_line met (count_line 3) refl refl refl refl, calm_line met (count_line 4) refl refl refl refl)
 
 -- ---- lines with numbers
 
@@ -206,13 +230,20 @@ call_is text s calm read = four (IsCallLine text s)
 
 values_calm : (number value : ℕ) → number < 2 ^ 63 → value < 2 ^ 63 → IsCalm (values_text number value)
 values_calm number value p q =
-    calm_append (decimal number) (codes ", " ++ (decimal value ++ codes ")")) (decimal_calm number (omega arith)) (calm_append (decimal value) (codes ")") (decimal_calm value (omega arith)) refl)
+    calm_append (decimal number) (codes ", " ++ (decimal value ++ codes ")")) (decimal_calm number (omega (arith, p))) (calm_append (decimal value) (codes ")") (decimal_calm value (omega (arith, q))) refl)
 
 pub own_is : (root number value : ℕ) → 1 ≤ root → root ≤ 4 → number < 2 ^ 63 → value < 2 ^ 63 → IsLine met feed (own_row root number value)
 own_is root number value low high p q = call_is (codes "INSERT INTO T" ++ values_text number value) _ (values_calm number value p q) (own_read number value p q) root low high
 
+-- the digit of a node
+abbrev IsCalmNode : ℕ → Type 0
+IsCalmNode n = IsCalm (digit n)
+
+node_calm : (n : ℕ) → 1 ≤ n → n ≤ 4 → IsCalm (digit n)
+node_calm = four IsCalmNode refl refl refl refl
+
 pub other_is : (root other number value : ℕ) → 1 ≤ root → root ≤ 4 → 1 ≤ other → other ≤ 4 → number < 2 ^ 63 → value < 2 ^ 63 → IsLine met feed (other_row root other number value)
 other_is root other number value low high least most p q =
-    call_is (codes "INSERT INTO T@L" ++ (decimal other ++ values_text number value)) _
-    (calm_append (decimal other) (values_text number value) (decimal_calm other (omega arith)) (values_calm number value p q))
+    call_is (codes "INSERT INTO T@L" ++ (digit other ++ values_text number value)) _
+    (calm_append (digit other) (values_text number value) (node_calm other least most) (values_calm number value p q))
     (other_read other least most number value p q) root low high

@@ -18,7 +18,7 @@ use Rattle.sql_statement.specs.declared.statement.Stmt.TheVariants as statements
 use Rattle.sql_parse.specs.Literals.{largest, literal, sum, table_ref, term}
 use Rattle.sql_parse.specs.Changes.{insert}
 use Rattle.sql_parse.specs.Statement.{statement_grammar, statement_of}
-use Rattle.make_script.specs.Script.{link_name, literal_of, values_text}
+use Rattle.make_script.specs.Script.{digit, link_name, literal_of, values_text}
 
 -- ---- tokens
 
@@ -60,12 +60,14 @@ close = ([], codes ")", [], refl, refl, tt, refl, refl)
 
 values_are : (n v : ℕ) → n < 2 ^ 64 → v < 2 ^ 64 → Tokens (value_tokens n v) (values_text n v)
 values_are n v p q =
+    let value_end : List ℕ = decimal v ++ codes ")" in
     let value = number_written v q (token.Mark marks.Close ∷ []) (codes ")") refl close in
-    let comma : Tokens (token.Mark marks.Comma ∷ token.Number v ∷ token.Mark marks.Close ∷ []) (codes ", " ++ (decimal v ++ codes ")")) =
-      ([], codes ",", 32 ∷ (decimal v ++ codes ")"), refl, refl, refl, blank_first _ (decimal v ++ codes ")") value, refl) in
-    let number = number_written n p _ (codes ", " ++ (decimal v ++ codes ")")) refl comma in
-    let opening = open_written _ (decimal n ++ (codes ", " ++ (decimal v ++ codes ")"))) number in
-    (codes " ", codes "VALUES", codes " (" ++ (decimal n ++ (codes ", " ++ (decimal v ++ codes ")"))), refl, (refl, refl, refl), refl, blank_first _ _ opening, refl)
+    let comma : Tokens (token.Mark marks.Comma ∷ token.Number v ∷ token.Mark marks.Close ∷ []) (codes ", " ++ value_end) =
+      ([], codes ",", 32 ∷ value_end, refl, refl, refl, blank_first (token.Number v ∷ token.Mark marks.Close ∷ []) value_end value, refl) in
+    let number = number_written n p (token.Mark marks.Comma ∷ token.Number v ∷ token.Mark marks.Close ∷ []) (codes ", " ++ value_end) refl comma in
+    let opening = open_written (token.Number n ∷ token.Mark marks.Comma ∷ token.Number v ∷ token.Mark marks.Close ∷ []) (decimal n ++ (codes ", " ++ value_end)) number in
+    (codes " ", codes "VALUES", codes " (" ++ (decimal n ++ (codes ", " ++ value_end)), refl, (refl, refl, refl), refl,
+      blank_first (token.Mark marks.Open ∷ token.Number n ∷ token.Mark marks.Comma ∷ token.Number v ∷ token.Mark marks.Close ∷ []) (codes "(" ++ (decimal n ++ (codes ", " ++ value_end))) opening, refl)
 
 -- ` INSERT INTO`
 into_are : (ts : List Token) (text : List ℕ) → Tokens ts (32 ∷ text) → Tokens (token.Word (codes "INSERT") ∷ token.Word (codes "INTO") ∷ ts) (codes " INSERT INTO " ++ text)
@@ -73,20 +75,26 @@ into_are ts text h =
     (codes " ", codes "INSERT", codes " INTO " ++ text, refl, (refl, refl, refl), refl,
       (codes " ", codes "INTO", codes " " ++ text, refl, (refl, refl, refl), refl, h, refl), refl)
 
-own_are : (n v : ℕ) → n < 2 ^ 64 → v < 2 ^ 64
-    → Tokens (token.Word (codes "INSERT") ∷ token.Word (codes "INTO") ∷ token.Word (codes "T") ∷ value_tokens n v) (codes " INSERT INTO T" ++ values_text n v)
-own_are n v p q = into_are _ (codes "T" ++ values_text n v) (codes " ", codes "T", values_text n v, refl, (refl, refl, refl), refl, values_are n v p q, refl)
+abbrev own_tokens : ℕ → ℕ → List Token
+own_tokens n v = token.Word (codes "INSERT") ∷ token.Word (codes "INTO") ∷ token.Word (codes "T") ∷ value_tokens n v
+
+own_are : (n v : ℕ) → n < 2 ^ 64 → v < 2 ^ 64 → Tokens (own_tokens n v) (codes " INSERT INTO T" ++ values_text n v)
+own_are n v p q =
+    into_are (token.Word (codes "T") ∷ value_tokens n v) (codes "T" ++ values_text n v)
+    (codes " ", codes "T", values_text n v, refl, (refl, refl, refl), refl, values_are n v p q, refl)
 
 at_ends : (rest : List ℕ) → MarkEnds (codes "@") rest
 at_ends [] = tt
 at_ends (b ∷ rest) = refl
 
-other_are : (name : List ℕ) (n v : ℕ) → n < 2 ^ 64 → v < 2 ^ 64 → ((ts : List Token) → Tokens ts (values_text n v) → Tokens (token.Word name ∷ ts) (name ++ values_text n v))
-    → Tokens (token.Word (codes "INSERT") ∷ token.Word (codes "INTO") ∷ token.Word (codes "T") ∷ token.Mark marks.At ∷ token.Word name ∷ value_tokens n v) (codes " INSERT INTO T@" ++ (name ++ values_text n v))
-other_are name n v p q named =
-    into_are _ (codes "T@" ++ (name ++ values_text n v))
+abbrev other_tokens : List ℕ → ℕ → ℕ → List Token
+other_tokens name n v = token.Word (codes "INSERT") ∷ token.Word (codes "INTO") ∷ token.Word (codes "T") ∷ token.Mark marks.At ∷ token.Word name ∷ value_tokens n v
+
+other_are : (name : List ℕ) (n v : ℕ) → Tokens (token.Word name ∷ value_tokens n v) (name ++ values_text n v) → Tokens (other_tokens name n v) (codes " INSERT INTO T@" ++ (name ++ values_text n v))
+other_are name n v named =
+    into_are (token.Word (codes "T") ∷ token.Mark marks.At ∷ token.Word name ∷ value_tokens n v) (codes "T@" ++ (name ++ values_text n v))
     (codes " ", codes "T", codes "@" ++ (name ++ values_text n v), refl, (refl, refl, refl), refl,
-      ([], codes "@", name ++ values_text n v, refl, refl, at_ends (name ++ values_text n v), named _ (values_are n v p q), refl), refl)
+      ([], codes "@", name ++ values_text n v, refl, refl, at_ends (name ++ values_text n v), named, refl), refl)
 
 -- ---- statements
 
@@ -97,28 +105,24 @@ read_of : (text : List ℕ) (ts : List Token) (s : Stmt) → Tokens ts text → 
 unfolding statement_of
 read_of text ts s tokens read = rw (tokens_again ts text tokens) read
 
-own_tokens_read : (n v : ℕ) → n < 2 ^ 63 → v < 2 ^ 63
-    → (statement_grammar.read (token.Word (codes "INSERT") ∷ token.Word (codes "INTO") ∷ token.Word (codes "T") ∷ value_tokens n v) >>= whole_of)
-    ≡ Some (statements.Insert (record { name = codes "T"; link = None }) None (literal_of n ∷ literal_of v ∷ []))
+-- the row of a transaction
+abbrev row : Option (List ℕ) → ℕ → ℕ → Stmt
+row link n v = statements.Insert (record { name = codes "T"; link = link }) None (literal_of n ∷ literal_of v ∷ [])
+
+own_tokens_read : (n v : ℕ) → n < 2 ^ 63 → v < 2 ^ 63 → (statement_grammar.read (own_tokens n v) >>= whole_of) ≡ Some (row None n v)
 unfolding statement_grammar insert table_ref sum term literal
 own_tokens_read n v p q = rw (fits n p, fits v q) refl
 
-pub own_read : (n v : ℕ) → n < 2 ^ 63 → v < 2 ^ 63
-    → statement_of (codes " INSERT INTO T" ++ values_text n v) ≡ Some (statements.Insert (record { name = codes "T"; link = None }) None (literal_of n ∷ literal_of v ∷ []))
-own_read n v p q = read_of _ _ _ (own_are n v (omega arith) (omega arith)) (own_tokens_read n v p q)
+pub own_read : (n v : ℕ) → n < 2 ^ 63 → v < 2 ^ 63 → statement_of (codes " INSERT INTO T" ++ values_text n v) ≡ Some (row None n v)
+own_read n v p q = read_of (codes " INSERT INTO T" ++ values_text n v) (own_tokens n v) (row None n v) (own_are n v (omega (arith, p)) (omega (arith, q))) (own_tokens_read n v p q)
 
 -- the other node's row, at a link whose name is written out
-abbrev IsOtherRead : ℕ → Type 0
-IsOtherRead other = (n v : ℕ) → n < 2 ^ 63 → v < 2 ^ 63
-    → statement_of (codes " INSERT INTO T@L" ++ (decimal other ++ values_text n v)) ≡ Some (statements.Insert (record { name = codes "T"; link = Some (link_name other) }) None (literal_of n ∷ literal_of v ∷ []))
+abbrev pub IsOtherRead : ℕ → Type 0
+IsOtherRead other = (n v : ℕ) → n < 2 ^ 63 → v < 2 ^ 63 → statement_of (codes " INSERT INTO T@L" ++ (digit other ++ values_text n v)) ≡ Some (row (Some (link_name other)) n v)
 
-module _ (name : List ℕ) (named : (ts : List Token) (n v : ℕ) → Tokens ts (values_text n v) → Tokens (token.Word name ∷ ts) (name ++ values_text n v))
-    (read : (n v : ℕ) → n < 2 ^ 63 → v < 2 ^ 63
-        → (statement_grammar.read (token.Word (codes "INSERT") ∷ token.Word (codes "INTO") ∷ token.Word (codes "T") ∷ token.Mark marks.At ∷ token.Word name ∷ value_tokens n v) >>= whole_of)
-        ≡ Some (statements.Insert (record { name = codes "T"; link = Some name }) None (literal_of n ∷ literal_of v ∷ []))) where
-  other_at : (n v : ℕ) → n < 2 ^ 63 → v < 2 ^ 63
-      → statement_of (codes " INSERT INTO T@" ++ (name ++ values_text n v)) ≡ Some (statements.Insert (record { name = codes "T"; link = Some name }) None (literal_of n ∷ literal_of v ∷ []))
-  other_at n v p q = read_of _ _ _ (other_are name n v (omega arith) (omega arith) (λ ts h. named ts n v h)) (read n v p q)
+other_at : (name : List ℕ) (n v : ℕ) → Tokens (token.Word name ∷ value_tokens n v) (name ++ values_text n v) → (statement_grammar.read (other_tokens name n v) >>= whole_of) ≡ Some (row (Some name) n v)
+    → statement_of (codes " INSERT INTO T@" ++ (name ++ values_text n v)) ≡ Some (row (Some name) n v)
+other_at name n v named read = read_of (codes " INSERT INTO T@" ++ (name ++ values_text n v)) (other_tokens name n v) (row (Some name) n v) (other_are name n v named) read
 
 -- what is shown of each of the four nodes holds of a node
 pub four : (P : ℕ → Type 0) → P 1 → P 2 → P 3 → P 4 → (n : ℕ) → 1 ≤ n → n ≤ 4 → P n
@@ -129,10 +133,25 @@ four P a b c d (suc (suc (suc zero))) low high = c
 four P a b c d (suc (suc (suc (suc zero)))) low high = d
 four P a b c d (suc (suc (suc (suc (suc n))))) low high = absurd (omega arith)
 
-pub other_read : (other : ℕ) → 1 ≤ other → other ≤ 4 → IsOtherRead other
+other_1 : IsOtherRead 1
 unfolding statement_grammar insert table_ref sum term literal
-other_read = four IsOtherRead
-    (other_at (codes "L1") (λ ts n v h. ([], codes "L1", values_text n v, refl, (refl, refl, refl), refl, h, refl)) (λ n v p q. rw (fits n p, fits v q) refl))
-    (other_at (codes "L2") (λ ts n v h. ([], codes "L2", values_text n v, refl, (refl, refl, refl), refl, h, refl)) (λ n v p q. rw (fits n p, fits v q) refl))
-    (other_at (codes "L3") (λ ts n v h. ([], codes "L3", values_text n v, refl, (refl, refl, refl), refl, h, refl)) (λ n v p q. rw (fits n p, fits v q) refl))
-    (other_at (codes "L4") (λ ts n v h. ([], codes "L4", values_text n v, refl, (refl, refl, refl), refl, h, refl)) (λ n v p q. rw (fits n p, fits v q) refl))
+other_1 n v p q =
+    other_at (codes "L1") n v ([], codes "L1", values_text n v, refl, (refl, refl, refl), refl, values_are n v (omega (arith, p)) (omega (arith, q)), refl) (rw (fits n p, fits v q) refl)
+
+other_2 : IsOtherRead 2
+unfolding statement_grammar insert table_ref sum term literal
+other_2 n v p q =
+    other_at (codes "L2") n v ([], codes "L2", values_text n v, refl, (refl, refl, refl), refl, values_are n v (omega (arith, p)) (omega (arith, q)), refl) (rw (fits n p, fits v q) refl)
+
+other_3 : IsOtherRead 3
+unfolding statement_grammar insert table_ref sum term literal
+other_3 n v p q =
+    other_at (codes "L3") n v ([], codes "L3", values_text n v, refl, (refl, refl, refl), refl, values_are n v (omega (arith, p)) (omega (arith, q)), refl) (rw (fits n p, fits v q) refl)
+
+other_4 : IsOtherRead 4
+unfolding statement_grammar insert table_ref sum term literal
+other_4 n v p q =
+    other_at (codes "L4") n v ([], codes "L4", values_text n v, refl, (refl, refl, refl), refl, values_are n v (omega (arith, p)) (omega (arith, q)), refl) (rw (fits n p, fits v q) refl)
+
+pub other_read : (other : ℕ) → 1 ≤ other → other ≤ 4 → IsOtherRead other
+other_read = four IsOtherRead other_1 other_2 other_3 other_4

@@ -20,27 +20,31 @@ pub record Line : Type 0 where
   pub text : List ℕ
   pub command : Command
 
+-- the number of a node, of one digit
+abbrev pub digit : ℕ → List ℕ
+digit n = (48 + n) ∷ []
+
 -- the name of a node
 abbrev pub node_name : ℕ → List ℕ
-node_name n = codes "N" ++ decimal n
+node_name n = codes "N" ++ digit n
 
 -- the name of the database link to a node
 abbrev pub link_name : ℕ → List ℕ
-link_name n = codes "L" ++ decimal n
+link_name n = codes "L" ++ digit n
 
 -- ---- The first lines: the nodes, their tables and their links.
 
 -- a node, whose strength is ten times its number
 abbrev pub node_line : ℕ → Line
 node_line n = record {
-  text = codes "NODE N" ++ (decimal n ++ (codes " STRENGTH " ++ (decimal n ++ codes "0")));
+  text = codes "NODE N" ++ (digit n ++ (codes " STRENGTH " ++ (digit n ++ codes "0")));
   command = commands.Node (node_name n) (10 * n) usual_links usual_extents;
 }
 
 -- a statement in the one session of a node
 abbrev pub call_line : ℕ → List ℕ → Stmt → Line
 call_line n text statement = record {
-  text = codes "AT N" ++ (decimal n ++ (codes " SESSION 1: " ++ text));
+  text = codes "AT N" ++ (digit n ++ (codes " SESSION 1: " ++ text));
   command = commands.At n 1 (Some statement);
 }
 
@@ -58,7 +62,7 @@ table_line n = call_line n (codes "CREATE TABLE T (K NUMBER PRIMARY KEY, V NUMBE
 
 -- the database link of a node to another one
 abbrev pub link_line : ℕ → ℕ → Line
-link_line n other = call_line n (codes "CREATE DATABASE LINK L" ++ (decimal other ++ (codes " USING 'N" ++ (decimal other ++ codes "'"))))
+link_line n other = call_line n (codes "CREATE DATABASE LINK L" ++ (digit other ++ (codes " USING 'N" ++ (digit other ++ codes "'"))))
     (statements.CreateLink (record { name = link_name other; target = node_name other }))
 
 -- the lines before the transactions
@@ -88,19 +92,19 @@ own_row root number value = call_line root (codes "INSERT INTO T" ++ values_text
 
 -- its row at the other node
 abbrev pub other_row : ℕ → ℕ → ℕ → ℕ → Line
-other_row root other number value = call_line root (codes "INSERT INTO T@L" ++ (decimal other ++ values_text number value))
+other_row root other number value = call_line root (codes "INSERT INTO T@L" ++ (digit other ++ values_text number value))
     (statements.Insert (record { name = codes "T"; link = Some (link_name other) }) None (literal_of number ∷ literal_of value ∷ []))
 
 -- the next Committed from this node to that one is lost
 abbrev pub loss_line : ℕ → ℕ → Line
 loss_line from to = record {
-  text = codes "LOSE NEXT COMMITTED FROM N" ++ (decimal from ++ (codes " TO N" ++ decimal to));
+  text = codes "LOSE NEXT COMMITTED FROM N" ++ (digit from ++ (codes " TO N" ++ digit to));
   command = commands.LoseNext kinds.Committed from to;
 }
 
 -- a node recovers
 abbrev pub recovery_line : ℕ → Line
-recovery_line n = record { text = codes "RECO N" ++ decimal n; command = commands.Reco n }
+recovery_line n = record { text = codes "RECO N" ++ digit n; command = commands.Reco n }
 
 abbrev pub commit_line : ℕ → Line
 commit_line n = call_line n (codes "COMMIT") (statements.Commit None)

@@ -33,7 +33,8 @@ fn put_first_lines(out: &mut Vec<u8>) -> Result<(), AllocError>
         AT N4 SESSION 1: CREATE DATABASE LINK L1 USING 'N1';\n\
         AT N4 SESSION 1: CREATE DATABASE LINK L2 USING 'N2';\n\
         AT N4 SESSION 1: CREATE DATABASE LINK L3 USING 'N3';\n",
-    )
+    )?;
+    Ok(())
 }
 
 // Adds the lines of the transactions.
@@ -60,7 +61,8 @@ fn put_last_lines(out: &mut Vec<u8>) -> Result<(), AllocError>
         AT N2 SESSION 1: SELECT COUNT(*) FROM T;\n\
         AT N3 SESSION 1: SELECT COUNT(*) FROM T;\n\
         AT N4 SESSION 1: SELECT COUNT(*) FROM T;\n",
-    )
+    )?;
+    Ok(())
 }
 
 /// The script of a number. It is an error only where there is no memory.

@@ -1,5 +1,5 @@
 //! What is drawn for each transaction.
-ghost use Rattle.std.specs.Prelude.{◌≡◌, ◌<◌};
+ghost use Rattle.std.specs.Prelude.{◌≡◌, ◌<◌, ◌≤◌};
 ghost use Rattle.make_script.specs.Draws.{next_draw, drawn as drawn_of, other_node as other_node_of};
 
 /// A transaction of the script.
@@ -27,7 +27,8 @@ pub fn next(draw: u32) -> u32
 // The other nodes in order, this place among them.
 fn other_node(root: u32, place: u32) -> u32
     requires { place < 4 }
-    ensures { result ≡ other_node_of root place }
+    ensures is { result ≡ other_node_of root place }
+    ensures most { result ≤ 4 }
 {
     if place < root { place } else { place + 1 }
 }
@@ -35,7 +36,9 @@ fn other_node(root: u32, place: u32) -> u32
 impl Transaction {
     /// The transaction of this number, by three draws.
     pub fn drawn(number: u32, first: u32, second: u32, third: u32) -> Transaction
-        ensures { result ≡ drawn_of number first second third }
+        ensures is { result ≡ drawn_of number first second third }
+        ensures root { result.root ≤ 4 }
+        ensures other { result.other ≤ 4 }
     {
         let root = 1 + first % 4;
         Transaction {
