@@ -12,6 +12,7 @@ use Rattle.make_script.specs.declared.transaction.Transaction.{Transaction}
 use Rattle.make_script.specs.Draws.{drawn_after, last_draw, next_draw, other_node, transactions}
 use Rattle.make_script.specs.Script.{Line, command_of, commands_of, end_lines, first_lines, last_lines, line_text, lines, lines_of, loses, script_of, text_of, transaction_count}
 use Rattle.make_script.specs.Read.{IsRead}
+use Rattle.make_script.proofs.CalmLemmas.{low_clean}
 use Rattle.make_script.proofs.LineLemmas.{IsLine, commit_is, counts, feed, first_node, links_1, links_2, loss_is, met, other_is, other_nodes, own_is, recovery_is, tables}
 
 -- ---- lines, one after the other
@@ -39,9 +40,14 @@ line_first n before front l ls is more =
     subst (λ (x : List (List ℕ) × List ℕ). asked_from n before x.0 x.1 ≡ Ok (l.command ∷ map command_of ls)) (sym cut)
     (judged_first n before (front ++ l.text) (pieces_from Plain (feed ++ text_of ls)).0 (pieces_from Plain (feed ++ text_of ls)).1 l.command (map command_of ls) is.good more)
 
+-- nothing stands behind the last line
+nothing_behind : (n : ℕ) (before : Before) → asks n before feed ≡ Ok []
+unfolding asked_at_end
+nothing_behind n before = rw (low_clean feed refl refl) refl
+
 behind_feed : (ls : List Line) (n : ℕ) (before : Before) → AreLines before feed ls → asks n before (feed ++ text_of ls) ≡ Ok (map command_of ls)
-unfolding AreLines asked_at_end
-behind_feed [] n before h = refl
+unfolding AreLines
+behind_feed [] n before h = nothing_behind n before
 behind_feed (l ∷ ls) n before h = line_first n before feed l ls h.0 (λ m. behind_feed ls m (with_command before l.command) h.1)
 
 -- ---- what is drawn

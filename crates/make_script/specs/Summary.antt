@@ -66,15 +66,18 @@ commit_count end cs lines = commits_before end cs lines (length cs)
 
 -- ---- entries of the book
 
-abbrev pub is_decided : Entry → Bool
+-- a decision
+unfoldable pub is_decided : Entry → Bool
 is_decided (entries.Decided branch global changes scn) = true
 is_decided _ = false
 
-abbrev pub is_sealed : Entry → Bool
+-- a seal
+unfoldable pub is_sealed : Entry → Bool
 is_sealed (entries.Sealed branch global changes scn) = true
 is_sealed _ = false
 
-abbrev pub is_ended : Entry → Bool
+-- the end of a prepared branch
+unfoldable pub is_ended : Entry → Bool
 is_ended (entries.Ended branch outcome) = true
 is_ended _ = false
 

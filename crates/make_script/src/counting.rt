@@ -1,5 +1,5 @@
 //! What is counted of the run of a made script.
-ghost use Rattle.std.specs.Prelude.{◌≡◌, count_by};
+ghost use Rattle.std.specs.Prelude.{◌≡◌, ◌<◌, ◌^◌, count_by};
 ghost use Rattle.make_script.specs.Summary.{commit_count, count_in as count_in_said, ends_so as ends_so_by, is_answered as is_answered_by, is_commit as is_commit_command, is_committed as is_committed_by, is_decided as is_decided_entry, is_ended as is_ended_entry, is_sealed as is_sealed_entry, number_in as number_in_cells, number_of as number_of_rows, rows_told as rows_told_by};
 
 use book::{AnswerLine, Entry, Said};
@@ -63,18 +63,21 @@ pub fn count_commits(end: CommitEnd, commands: &[Command], lines: &[AnswerLine])
     count
 }
 
+#[tactic(auto, unfolding(crate::specs::Summary::is_decided))]
 fn is_decided(entry: &Entry) -> bool
     ensures { result ≡ is_decided_entry entry.now }
 {
     matches!(entry, Entry::Decided { .. })
 }
 
+#[tactic(auto, unfolding(crate::specs::Summary::is_sealed))]
 fn is_sealed(entry: &Entry) -> bool
     ensures { result ≡ is_sealed_entry entry.now }
 {
     matches!(entry, Entry::Sealed { .. })
 }
 
+#[tactic(auto, unfolding(crate::specs::Summary::is_ended))]
 fn is_ended(entry: &Entry) -> bool
     ensures { result ≡ is_ended_entry entry.now }
 {
@@ -103,7 +106,8 @@ pub fn count_ended(book: &[Entry]) -> usize
 }
 
 fn number_in(cells: &[Value]) -> u128
-    ensures { result ≡ number_in_cells cells.now }
+    ensures is { result ≡ number_in_cells cells.now }
+    ensures small { result < 2 ^ 63 }
 {
     match cells {
         [Value::Number(number)] if 0 <= *number => *number as u128,
@@ -112,7 +116,8 @@ fn number_in(cells: &[Value]) -> u128
 }
 
 fn number_of(rows: &[Row]) -> u128
-    ensures { result ≡ number_of_rows rows.now }
+    ensures is { result ≡ number_of_rows rows.now }
+    ensures small { result < 2 ^ 63 }
 {
     match rows {
         [row] => number_in(row.cells.as_slice()),
@@ -121,7 +126,8 @@ fn number_of(rows: &[Row]) -> u128
 }
 
 fn count_in(said: &Said) -> u128
-    ensures { result ≡ count_in_said said.now }
+    ensures is { result ≡ count_in_said said.now }
+    ensures small { result < 2 ^ 63 }
 {
     match said {
         Said::Node(Answer::Found(found)) => number_of(found.rows.as_slice()),
