@@ -4,3 +4,4 @@ mod LineLemmas
 mod ScriptLemmas
 mod LengthLemmas
 mod Appends
+mod LoopLemmas
