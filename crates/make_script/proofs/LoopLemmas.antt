@@ -1,5 +1,5 @@
 -- The lines of one transaction more, and the parts of a script.
-use Rattle.std.proofs.Common.{◌≡◌, ◌∙◌, ℕ, suc, ◌+◌, List, [], ◌∷◌, ◌++◌, refl, sym, ap, append_assoc}
+use Rattle.std.proofs.Common.{◌≡◌, ◌∙◌, ℕ, suc, ◌+◌, List, [], ◌∷◌, ◌++◌, refl, sym, ap, subst, arith, append_assoc}
 use Rattle.std.specs.List.{flat_map}
 use Rattle.std.proofs.lemmas.List.{append-nil}
 use Rattle.std.proofs.lemmas.List.Concat.{flat_map-append}
@@ -35,3 +35,10 @@ unfolding lines
 script_parts number =
     flat_map-append line_text first_lines (flat_map lines_of (transactions number transaction_count) ++ last_lines)
     ∙ ap (λ x. text_of first_lines ++ x) (flat_map-append line_text (flat_map lines_of (transactions number transaction_count)) last_lines)
+
+-- the same, counted on by 1
+pub one_on : (number count : ℕ) (old new : List ℕ) (third : ℕ) → (new ≡ old ++ text_of (flat_map lines_of (transactions number (suc count)))) × (third ≡ last_draw number (suc count))
+    → (new ≡ old ++ text_of (flat_map lines_of (transactions number (count + 1)))) × (third ≡ last_draw number (count + 1))
+one_on number count old new third more =
+    let next : suc count ≡ count + 1 = omega arith in
+    subst (λ (k : ℕ). (new ≡ old ++ text_of (flat_map lines_of (transactions number k))) × (third ≡ last_draw number k)) next more
