@@ -2,7 +2,8 @@
 """Runs the cases below tests/cases, the examples and the scenarios of the plays.
 
     tests/run_cases.py [PROGRAM]     on the proved program, or on PROGRAM
-    tests/run_cases.py --unproved    on the sources as they stand, built once without a proof by `rt try`
+    tests/run_cases.py --unproved    on the sources as they stand: run_scripts, a program that runs many scripts, is built once,
+                                     without a proof, by `rt try`
 
 A case is a folder with the files
 
@@ -17,21 +18,23 @@ what is expected, and has the status 0 too; it asks for the book where the last 
 line. The last line is `N passed, M failed`; the exit status is 1 where one failed.
 """
 
-import os
 import pathlib
 import re
 import subprocess
 import sys
 import tempfile
-from concurrent.futures import ThreadPoolExecutor
 from typing import NamedTuple
 
 from runs import TOP, proved
 
 # what the expression of a make-input may call
 NAMES = {"__builtins__": {"range": range}}
-# the line of `rt try` for a case, whose file is named by its place in the list
-RAN = re.compile(r"^case=(\d+) .*$", re.MULTILINE)
+# how many cases a share has: `rt try` gives each 60 seconds, and lets it write 1 MiB; a case takes less than 0.1 s and 3 KB
+SHARE = 50
+# the line above the results of a share, by its place, or above an output: the status, and how many bytes the output has
+HEAD = re.compile(rb"== (\d+)\n|(\d+) (\d+)\n")
+# the lines of `rt try` for a share: the fault that it ended by, where there was one, and how it ended
+SAID = re.compile(rb"^(?:checked: (fault .*)\n)?(case=(\d+) .*)$", re.MULTILINE)
 
 
 class Case(NamedTuple):
@@ -70,66 +73,92 @@ def cases():
         yield Case(script.parent.relative_to(TOP), script.read_bytes(), book_words(expected), expected, 0)
 
 
-def why_wrong(path, case):
-    """None where the program prints and exits as is due, else the difference."""
-    done = subprocess.run([path, *case.words], input=case.data, capture_output=True, timeout=60)
-    if done.returncode != case.status:
-        return f"status {done.returncode}, not {case.status}"
-    if done.stdout != case.expected:
-        return f"printed {done.stdout[:200]!r}, not {case.expected[:200]!r}"
+def why_wrong(case, status, output):
+    """None where a program that ended so ended and printed as is due, else the difference."""
+    if status != case.status:
+        return f"status {status}, not {case.status}"
+    if output != case.expected:
+        return f"printed {output[:200]!r}, not {case.expected[:200]!r}"
     return None
 
 
 def on_program(path):
     """Each case with what is wrong with it on this program, or None."""
-    return [(case, why_wrong(path, case)) for case in cases()]
+    for case in cases():
+        done = subprocess.run([path, *case.words], input=case.data, capture_output=True, timeout=60)
+        yield case, why_wrong(case, done.returncode, done.stdout)
 
 
-def put_case(folder, place, case):
-    """Puts a case into the folder, as `rt try` reads it."""
-    file = folder / f"{place:04}"
-    file.write_bytes(case.data)
-    file.with_suffix(".stdout").write_bytes(case.expected)
-    if case.words:
-        file.with_suffix(".args").write_text("".join(f"{word}\n" for word in case.words))
+def number(count):
+    """A number as four bytes, the highest first."""
+    return count.to_bytes(4, "big")
 
 
-def why_said(line, case):
-    """None where `rt try` says of a case that it ended as is due, else what it says."""
-    return None if f" run=ended status={case.status} " in line and " output=expected " in line else line
+def sized(data):
+    """How many bytes, and those."""
+    return number(len(data)) + data
 
 
-def tried(listed):
-    """Each of these cases with what is wrong with it on the sources, which are built once and not proved, or None."""
+def as_job(case):
+    """A case as run_scripts takes it: how many words, each word, and the script."""
+    words = [sized(word.encode()) for word in case.words]
+    return bytes([len(words)]) + b"".join(words) + sized(case.data)
+
+
+def put_shares(folder, shares):
+    """Puts each share into the folder, as a list of jobs, under its place."""
+    for place, share in enumerate(shares):
+        (folder / f"{place:04}").write_bytes(number(len(share)) + b"".join(map(as_job, share)))
+
+
+def results_in(written):
+    """For each share by its place the results that run_scripts wrote of its jobs, in their order: a status and an output."""
+    results = {}
+    while head := HEAD.match(written):
+        end = head.end()
+        if head[1]:
+            results[int(head[1])] = share = []
+        else:
+            end += int(head[3])
+            share.append((int(head[2]), written[head.end() : end]))
+        written = written[end:]
+    return results
+
+
+def tried(shares):
+    """The results of each share by its place, and what `rt try` says of it, on the sources as they stand."""
     with tempfile.TemporaryDirectory() as folder:
-        for place, case in enumerate(listed):
-            put_case(pathlib.Path(folder), place, case)
+        put_shares(pathlib.Path(folder), shares)
         # (--steps: no interpreter, on which `rt try` runs a program too, can run this one)
         words = ["rt", "try", "--steps", "0", "--cases", folder]
-        done = subprocess.run(words, cwd=TOP / "crates/dtx", capture_output=True, text=True, errors="replace")
-    said = {int(line[1]): line[0] for line in RAN.finditer(done.stderr)}
+        done = subprocess.run(words, cwd=TOP / "crates/run_scripts", capture_output=True)
+    said = {int(lines[3]): (lines[1] or lines[2]).decode() for lines in SAID.finditer(done.stderr)}
     if not said:
-        sys.exit(f"`rt try` ran no case:\n{done.stdout}{done.stderr}")
-    return [(case, why_said(said.get(place, "not run"), case)) for place, case in enumerate(listed)]
+        sys.exit(f"`rt try` ran no share of the cases:\n{done.stderr.decode(errors='replace')}")
+    return results_in(done.stdout), said
 
 
-def builds():
-    """How many builds there are, side by side, each with its share of the cases: a build takes `rt try` a minute and up to
-    5 GB, and a case more than a second."""
-    free = int(re.search(r"MemAvailable: *([0-9]+)", pathlib.Path("/proc/meminfo").read_text())[1]) // 1024**2
-    return max(1, min(os.cpu_count(), free // 5))
+def judged(share, results, said):
+    """Each case of a share with what is wrong with it, or None; where there are no results, what `rt try` said of the share."""
+    if len(results) != len(share):
+        return [(case, said) for case in share]
+    return [(case, why_wrong(case, *result)) for case, result in zip(share, results)]
 
 
 def unproved():
-    """Each case with what is wrong with it on the sources, or None."""
-    listed, count = list(cases()), builds()
-    with ThreadPoolExecutor(count) as pool:
-        shares = pool.map(tried, [listed[first::count] for first in range(count)])
-    return [ran for share in shares for ran in share]
+    """Each case with what is wrong with it on the sources, which are built once and not proved, or None."""
+    listed = list(cases())
+    shares = [listed[first : first + SHARE] for first in range(0, len(listed), SHARE)]
+    results, said = tried(shares)
+    return [
+        ran
+        for place, share in enumerate(shares)
+        for ran in judged(share, results.get(place, []), said.get(place, "there was no run of it"))
+    ]
 
 
 def main(words):
-    ran = unproved() if words == ["--unproved"] else on_program(words[0] if words else proved())
+    ran = unproved() if words == ["--unproved"] else list(on_program(words[0] if words else proved()))
     failures = [f"FAIL {case.name}: {why}" for case, why in ran if why]
     print(*failures, f"{len(ran) - len(failures)} passed, {len(failures)} failed", sep="\n")
     return 1 if failures or not ran else 0

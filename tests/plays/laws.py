@@ -6,7 +6,7 @@ from typing import NamedTuple
 from copies import check_crate
 
 # no crate of laws over the definitions of a run stands beside these and those below them
-HIGHEST = ("turn_laws", "toward_laws", "done_laws")
+HIGHEST = ("tree_cover_laws", "run_cause_laws", "commit_course_laws", "commit_obey_laws", "commit_answer_laws")
 # the line that names a lemma or a local part of one, with its statement
 NAME = re.compile(r"^( *)(?:pub |abbrev |unfoldable )*(\w+) : ")
 

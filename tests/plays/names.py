@@ -24,7 +24,7 @@ UNFOLDED = (
     (f"{RULES}.Commit", "beyond next_on_decision next_on_ack next_on_forgotten"),
     (f"{RULES}.Recovery", "recovery"),
     (f"{RULES}.Force", "branch_to_force purge"),
-    (f"{RULES}.Turn", "turn_of start_of stand_of"),
+    (f"{RULES}.Turn", "turn_of start_of status_of"),
     (f"{RULES}.Points", "passes point_of"),
     ("Rattle.pending_view.specs.Views", "pending_rows neighbor_rows"),
     ("Rattle.net_bag.specs.Net", "sent_on delivered lost cut_over joined stopped started"),

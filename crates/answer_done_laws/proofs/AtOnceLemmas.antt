@@ -8,7 +8,7 @@ use Rattle.node_rules.specs.Data.answers
 use Rattle.node_rules.specs.Data.inputs
 use Rattle.node_rules.specs.declared.session.Finished.{Finished}
 use Rattle.node_rules.specs.Inputs.{IsCall}
-use Rattle.node_rules.specs.NodeState.{NodeState, Outcome}
+use Rattle.node_rules.specs.NodeState.{NodeState, TurnOutput}
 use Rattle.run_rules.specs.Calls.{is_call_at, call_at}
 use Rattle.run_rules.specs.Data.{Command, Happening, Turn}
 use Rattle.run_rules.specs.Data.commands
@@ -107,10 +107,10 @@ module _ (t : History) (run : IsTheRunOf t) where
     up_there = let may = may_at t run i (happenings.Turn u) there in (may.0, subst (λ (f : Facts). node_at f u.node ≡ Some may.0) (facts_there t i) may.1.up)
 
     -- what a whole turn ends
-    pub ended_is : (o : Outcome) → u.cut ≡ false → outcome_at t.places (facts_upto t i) u ≡ Some o → ended_in t.places (facts_upto t i) u ≡ o.ended
+    pub ended_is : (o : TurnOutput) → u.cut ≡ false → outcome_at t.places (facts_upto t i) u ≡ Some o → ended_in t.places (facts_upto t i) u ≡ o.ended
     ended_is o uncut comes = ap (λ q. if q then [] else ended_by (outcome_at t.places (facts_upto t i) u)) uncut ∙ ap ended_by comes
 
-    outcome_there : (o : Outcome) × (outcome_at t.places (facts_upto t i) u ≡ Some o)
+    outcome_there : (o : TurnOutput) × (outcome_at t.places (facts_upto t i) u ≡ Some o)
     outcome_there = let k = up_there in (_, ap (served (place_at t.places u.node) u.input) k.1)
 
     -- ---- a turn that is cut
@@ -193,7 +193,7 @@ module _ (t : History) (run : IsTheRunOf t) where
     unfolding next
     cut_keeps cut s =
         let p : Past = past_upto t i in
-        let o : Option Outcome = outcome_at t.places p.facts u in
+        let o : Option TurnOutput = outcome_at t.places p.facts u in
         let v : RunReport = before_end t run i (all_so t run i) u there o in
         ap (λ (q : Past). call_at q.run_report u.node s) (one_more t i (happenings.Turn u) there)
         ∙ (ap (λ q. call_at (ends_calls p.facts.command v u q o) u.node s) cut ∙ ap (find (is_call_at u.node s)) (before_so t run i (all_so t run i) u there o).calls)

@@ -6,7 +6,7 @@ use Rattle.node_rules.specs.Data.inputs
 use Rattle.node_rules.specs.Data.stmts
 use Rattle.node_rules.specs.declared.session.PendingCall.{PendingCall}
 use Rattle.node_rules.specs.declared.session.PendingCall.TheVariants as pending
-use Rattle.node_rules.specs.NodeState.{NodeState, Outcome}
+use Rattle.node_rules.specs.NodeState.{NodeState, TurnOutput}
 use Rattle.node_rules.specs.Sessions.{session_at}
 use Rattle.node_rules.specs.Turn.{turn_of, heard}
 use Rattle.run_base_laws.specs.CallLaws.{RootWaits}
@@ -84,7 +84,7 @@ module _ (t : History) (run : IsTheRunOf t) where
 
     -- ---- what is pending after a whole turn that answers a call
 
-    answered_after : u.cut ≡ false → (o : Outcome) → outcome_at t.places (past_upto t i).facts u ≡ Some o → (s : ℕ) (c : Call) → call_at (past_upto t i).run_report u.node s ≡ Some c → (a : Answer) → answers_to s o.ended ≡ a ∷ []
+    answered_after : u.cut ≡ false → (o : TurnOutput) → outcome_at t.places (past_upto t i).facts u ≡ Some o → (s : ℕ) (c : Call) → call_at (past_upto t i).run_report u.node s ≡ Some c → (a : Answer) → answers_to s o.ended ≡ a ∷ []
         → call_at (past_upto t (i + 1)).run_report u.node s ≡ after_answer c a c.follows
     unfolding next
     answered_after uncut o comes s c at a is =
@@ -162,7 +162,7 @@ module _ (t : History) (run : IsTheRunOf t) where
           by_cut : u.node ≡ n → (q : Bool) → u.cut ≡ q → (session_at k.sessions s).call ≡ pending.Commit
           by_cut here true cut = absurd (let it : None ≡ Some k = sym (ap (λ q. kept_after q (Some (turn_of (place_at t.places u.node) may.0 u.input))) cut) ∙ after here in cc)
           by_cut here false uncut =
-              let o : Outcome = turn_of (place_at t.places u.node) may.0 u.input in
+              let o : TurnOutput = turn_of (place_at t.places u.node) may.0 u.input in
               let it : Some o.after ≡ Some k = sym (ap (λ q. kept_after q (Some o)) uncut) ∙ after here in
               let kept : o.after ≡ k = cc in
               elim (turn_does j from (omega (arith, below)) u there here may.0 may.1 pends) [
@@ -214,7 +214,7 @@ module _ (t : History) (run : IsTheRunOf t) where
         let one : (came.moment + d) + 1 ≡ came.moment + suc d = omega arith in
         subst Pends one (pends_next (came.moment + d) (omega arith) (omega (arith, below)) (λ more. pends_all d (omega (arith, below)) more))
 
-    pends_at : (j : ℕ) → came.moment < j → j < bound → Pends j
+    pub pends_at : (j : ℕ) → came.moment < j → j < bound → Pends j
     pends_at j later below =
         let sum : came.moment + (j - came.moment) ≡ j = omega (arith, later) in
         subst Pends sum (pends_all (j - came.moment) (subst (λ x. x < bound) (sym sum) below) (subst (λ x. came.moment < x) (sym sum) later))
@@ -242,7 +242,7 @@ module _ (t : History) (run : IsTheRunOf t) where
       outcome = let it : Some e.outcome ≡ Some (turn_of (place_at t.places e.turn.node) may.0 e.turn.input) = sym e.comes ∙ (ap (λ f. outcome_at t.places f e.turn) (sym (facts_there t e.ended)) ∙ comes) in cc
 
       among : Has (answers_to e.session (turn_of (place_at t.places e.turn.node) may.0 e.turn.input).ended) a
-      among = subst (λ (o : Outcome). Has (answers_to e.session o.ended) a) outcome (answer_among e.outcome.ended e.number e.session a e.answers)
+      among = subst (λ (o : TurnOutput). Has (answers_to e.session o.ended) a) outcome (answer_among e.outcome.ended e.number e.session a e.answers)
 
       none_there : ⊥ → ⊥
       none_there none = none

@@ -18,7 +18,7 @@ use Rattle.node_rules.specs.declared.work.Going.{Going}
 use Rattle.node_rules.specs.Client.{commit_by, commit_call, new_root, root_at}
 use Rattle.node_rules.specs.Commit.{decided_sessions, decision_answers}
 use Rattle.node_rules.specs.Inputs.{Came}
-use Rattle.node_rules.specs.NodeState.{Branch, Deed, NodeState, branch_at, live_at}
+use Rattle.node_rules.specs.NodeState.{Branch, TurnDraft, NodeState, branch_at, live_at}
 use Rattle.node_rules.specs.Prepare.{abandoned_sessions, abandon_ends, act_turn, collecting, first_act, is_alone, with_comment, without_read_keys}
 use Rattle.node_rules.specs.Refusals.{dtx}
 use Rattle.node_rules.specs.Sessions.{session_at, with_call, needs_rollback, no_transaction, commit_is_pending, commit_ended, commit_answer}
@@ -172,7 +172,7 @@ module _ (m : ℕ) (p : Place) (input : Input) (other : (s : Option Stmt) → in
   waits_other x g now no_call live going root = apart x.live.me.session m (λ same. (let none = now.rests no_call x live root same in absurd (cc (none, going))))
 
   -- each step of an input that is no call of the session
-  pub commit_on : {k : NodeState} {d : Deed} → Step p input k d → Commits m input k → CommitSo m d.after.sessions d.ended
+  pub commit_on : {k : NodeState} {d : TurnDraft} → Step p input k d → Commits m input k → CommitSo m d.after.sessions d.ended
   commit_on (steps.Begins {k = k} n s call rows range none step) now =
       let mine : (n == m) ≡ false = not_mine n (Some s) call in
       let root : BranchId = new_root p k n in

@@ -5,7 +5,7 @@ use Rattle.std.specs.Prelude.{◌⊎◌, map}
 use Rattle.std.specs.List.{list_any}
 use Rattle.std.proofs.lemmas.Bool.{and_parts, cond_both, eqb-true, eq-eqb}
 use Rattle.session_tree.specs.Live.{is_branch}
-use Rattle.node_rules.specs.Data.{Stmt, Answer, Done, Refusal, BranchId, Decision, RedoRecord, Standing, Input, Place}
+use Rattle.node_rules.specs.Data.{Stmt, Answer, Done, Refusal, BranchId, Decision, RedoRecord, KeptRow, Input, Place}
 use Rattle.node_rules.specs.Data.answers
 use Rattle.node_rules.specs.Data.decisions
 use Rattle.node_rules.specs.Data.dones
@@ -17,9 +17,9 @@ use Rattle.node_rules.specs.Data.nexts
 use Rattle.node_rules.specs.Client.{call_turn, refuses, writes, is_used, is_link}
 use Rattle.node_rules.specs.Force.{branch_to_force, force_commit, force_rollback, forces, hides, purge, may_purge}
 use Rattle.node_rules.specs.Inputs.{IsCall}
-use Rattle.node_rules.specs.NodeState.{NodeState, Deed}
+use Rattle.node_rules.specs.NodeState.{NodeState, TurnDraft}
 use Rattle.node_rules.specs.Sessions.{session_at, is_commit, commit_is_pending}
-use Rattle.node_rules.specs.Turn.{turn_of, deed_of}
+use Rattle.node_rules.specs.Turn.{turn_of, draft_of}
 use Rattle.node_rules.proofs.Steps as steps
 use Rattle.node_rules.proofs.Steps.{Step, Makes}
 use Rattle.run_rules.specs.Data.{Session, Finished, Took, Turn, Happening, Command}
@@ -64,7 +64,7 @@ module _ (n : ℕ) (ss : List Session) (rests : (session_at ss n).call ≡ pendi
 
 module _ (p : Place) (k : NodeState) (n : ℕ) (rests : (session_at k.sessions n).call ≡ pending.NoCall) where
   -- it is refused and writes nothing, or it is done
-  abbrev Comes_to : Stmt → Deed → Type 0
+  abbrev Comes_to : Stmt → TurnDraft → Type 0
   Comes_to s d = ((d.wrote ≡ None) × (r : Refusal) × (answers_to n d.ended ≡ answers.Refused r ∷ [])) ⊎ Stands p k n s d.wrote d.ended
 
   refused : (s : Stmt) (r : Refusal) → Comes_to s (refuses k n r)
@@ -91,7 +91,7 @@ module _ (p : Place) (k : NodeState) (n : ℕ) (rests : (session_at k.sessions n
   rollback_forced id (Err r) is = refused (stmts.RollbackForce id) r
   rollback_forced id (Ok b) is = forced b decisions.Rollback false k.clock (A_rollback id b is)
 
-  hidden : (s : Stmt) (id : List ℕ) (o : Option Standing) → ((x : Standing) → o ≡ Some x → Records p k s (records.Hidden x.me) dones.Purged) → Comes_to s (hides k n id o)
+  hidden : (s : Stmt) (id : List ℕ) (o : Option KeptRow) → ((x : KeptRow) → o ≡ Some x → Records p k s (records.Hidden x.me) dones.Purged) → Comes_to s (hides k n id o)
   hidden s id None of = refused s _
   hidden s id (Some x) of =
       inr (record { written = records.Hidden x.me; done = dones.Purged; of = of x refl; stands = refl; answered = own_answer n (answers.Did dones.Purged 0) [] })
@@ -129,7 +129,7 @@ module _ (p : Place) (input : Input) where
   purge_called n true id call = (n, stmts.PurgeMixed id, call, refl)
   purge_called n false id call = (n, stmts.PurgeLost id, call, refl)
 
-  called : {k : NodeState} {d : Deed} → Step p input k d → IfSome d.wrote Called
+  called : {k : NodeState} {d : TurnDraft} → Step p input k d → IfSome d.wrote Called
   called (steps.Begins n s call rows fit none step) = called step
   called (steps.Pends n l given call has live code step) = called step
   called (steps.Lets_reads_go l comment site_below live begins step) = called step
@@ -171,7 +171,7 @@ module _ (places : List Place) (f : Facts) (u : Turn) (k : NodeState) (may : May
   here = place_at places u.node
 
   -- what a turn ends, cut or not
-  ended_so : (cut : Bool) → u.cut ≡ cut → ended_in places f u ≡ (if cut then [] else (deed_of here k u.input).ended)
+  ended_so : (cut : Bool) → u.cut ≡ cut → ended_in places f u ≡ (if cut then [] else (draft_of here k u.input).ended)
   unfolding turn_of
   ended_so cut is = ap (λ c. if c then [] else ended_by (served here u.input (node_at f u.node))) is ∙ ap (λ o. if cut then [] else ended_by (served here u.input o)) may.up
 
@@ -179,22 +179,22 @@ module _ (places : List Place) (f : Facts) (u : Turn) (k : NodeState) (may : May
     rests : (session_at k.sessions n).call ≡ pending.NoCall
     rests = call_rests f k u.node n s u.took (subst (λ i. Comes f k u.node i u.took) call may.comes)
 
-    turn_comes_to : Comes_to here k n rests s (deed_of here k u.input)
-    turn_comes_to = subst (λ i. Comes_to here k n rests s (deed_of here k i)) (sym call) (call_comes_to here k n rests s one)
+    turn_comes_to : Comes_to here k n rests s (draft_of here k u.input)
+    turn_comes_to = subst (λ i. Comes_to here k n rests s (draft_of here k i)) (sym call) (call_comes_to here k n rests s one)
 
-    wrote_owed : IsOwed here k u.input u.wrote u.sent false → u.wrote ≡ (deed_of here k u.input).wrote
+    wrote_owed : IsOwed here k u.input u.wrote u.sent false → u.wrote ≡ (draft_of here k u.input).wrote
     unfolding turn_of
     wrote_owed owed = owed.0
 
     -- one that is answered as done is not cut, and is not the refused one
-    stands_by : (cut : Bool) → u.cut ≡ cut → IsOwed here k u.input u.wrote u.sent cut → is_done n (ended_in places f u) ≡ true → Comes_to here k n rests s (deed_of here k u.input)
+    stands_by : (cut : Bool) → u.cut ≡ cut → IsOwed here k u.input u.wrote u.sent cut → is_done n (ended_in places f u) ≡ true → Comes_to here k n rests s (draft_of here k u.input)
         → Stands here k n s u.wrote (ended_in places f u)
     stands_by true is owed done comes = absurd (true≢false (sym done ∙ ap (is_done n) (ended_so true is)))
     stands_by false is owed done (inl out) = absurd (true≢false (sym done ∙ (ap (is_done n) (ended_so false is) ∙ ap (list_any (λ a. is_accepted (Some a))) out.2)))
     stands_by false is owed done (inr x) =
         record { written = x.written; done = x.done; of = x.of; stands = wrote_owed owed ∙ x.stands; answered = ap (answers_to n) (ended_so false is) ∙ x.answered }
 
-    answers_by : u.cut ≡ false → IsOwed here k u.input u.wrote u.sent false → Comes_to here k n rests s (deed_of here k u.input)
+    answers_by : u.cut ≡ false → IsOwed here k u.input u.wrote u.sent false → Comes_to here k n rests s (draft_of here k u.input)
         → ((u.wrote ≡ None) × (r : Refusal) × (answers_to n (ended_in places f u) ≡ answers.Refused r ∷ [])) ⊎ Stands here k n s u.wrote (ended_in places f u)
     answers_by whole owed (inl out) = inl (wrote_owed owed ∙ out.0, out.1, ap (answers_to n) (ended_so false whole) ∙ out.2)
     answers_by whole owed (inr x) =
@@ -207,7 +207,7 @@ module _ (places : List Place) (f : Facts) (u : Turn) (k : NodeState) (may : May
     stands done = stands_by u.cut refl may.owed done turn_comes_to
 
     -- a record that is written is that of the call
-    asked_by : (r : RedoRecord) → (deed_of here k u.input).wrote ≡ Some r → Comes_to here k n rests s (deed_of here k u.input) → IsAsked places f u k r
+    asked_by : (r : RedoRecord) → (draft_of here k u.input).wrote ≡ Some r → Comes_to here k n rests s (draft_of here k u.input) → IsAsked places f u k r
     asked_by r wrote (inl out) = absurd (let both : None ≡ Some r = sym out.0 ∙ wrote in cc)
     asked_by r wrote (inr x) =
         let same : x.written ≡ r = (let both : Some x.written ≡ Some r = sym x.stands ∙ wrote in cc) in
@@ -225,13 +225,13 @@ module _ (places : List Place) (f : Facts) (u : Turn) (k : NodeState) (may : May
   Asked_so w = IfSome w (λ r. is_of_statement r ≡ true → IsAsked places f u k r)
 
   -- so of the record of the turn's step
-  asked_at : (w : Option RedoRecord) → (deed_of here k u.input).wrote ≡ w → IfSome w (Called here u.input) → Asked_so w
+  asked_at : (w : Option RedoRecord) → (draft_of here k u.input).wrote ≡ w → IfSome w (Called here u.input) → Asked_so w
   asked_at None is calls = tt
   asked_at (Some r) is calls = λ one. (let c = calls one in asked_by c.0 c.1 c.2 c.3 r is (turn_comes_to c.0 c.1 c.2 c.3))
 
   -- and of the record that stands
   pub asked : Asked_so u.wrote
-  asked = of_wrote here k u (serves places f u k may) Asked_so tt (asked_at (deed_of here k u.input).wrote refl (called here u.input (serves places f u k may).step))
+  asked = of_wrote here k u (serves places f u k may) Asked_so tt (asked_at (draft_of here k u.input).wrote refl (called here u.input (serves places f u k may).step))
 
 -- ---- every run
 

@@ -3,7 +3,7 @@ use Rattle.std.proofs.Common.{◌≡◌, ℕ, zero, suc, ◌+◌, ◌≤◌, ◌
 use Rattle.std.specs.Prelude.{take}
 use Rattle.std.proofs.lemmas.Bool.{cond_both}
 use Rattle.node_rules.specs.Data.{Answer, Stmt}
-use Rattle.node_rules.specs.NodeState.{Outcome}
+use Rattle.node_rules.specs.NodeState.{TurnOutput}
 use Rattle.run_rules.specs.Calls.{is_call_at, call_at, after_input, finished, stopped_calls}
 use Rattle.run_rules.specs.Data.{AnswerLine, Command, Happening, Said, Turn}
 use Rattle.run_rules.specs.Data.commands
@@ -73,10 +73,10 @@ module _ (t : History) (run : IsTheRunOf t) (command node session : ℕ) (text :
     -- ---- a turn
 
     module _ (u : Turn) (there : slice_get t.trace i ≡ Some (happenings.Turn u)) where
-      abbrev t1 : Option Outcome → RunReport
+      abbrev t1 : Option TurnOutput → RunReport
       t1 o = before_end t run i now u there o
 
-      before : (o : Option Outcome) → ToldBefore so_told (t1 o)
+      before : (o : Option TurnOutput) → ToldBefore so_told (t1 o)
       before o = before_so t run i now u there o
 
       -- a call of the command is of the session
@@ -87,7 +87,7 @@ module _ (t : History) (run : IsTheRunOf t) (command node session : ℕ) (text :
           let it : commands.At c.node c.session name.0 ≡ commands.At node session text = sym name.1 ∙ (ap (command_at t.commands) its ∙ named) in
           (let one : c.node ≡ node = cc in sym found.1 ∙ one, let two : c.session ≡ session = cc in sym found.2 ∙ two)
 
-      module _ (o : Option Outcome) (comes : outcome_at t.places f u ≡ o) where
+      module _ (o : Option TurnOutput) (comes : outcome_at t.places f u ≡ o) where
         abbrev turned : RunReport
         turned = report_turned f.command (node_at f u.node) so_told u o
 
@@ -97,7 +97,7 @@ module _ (t : History) (run : IsTheRunOf t) (command node session : ℕ) (text :
             none_if turned node session (λ e at. elim (leads.was node session e at) [ inl was ↦ cc (was, none) | inr next ↦ (let was = next.2 in cc (was, none)) ])
 
       -- the calls of the turn end
-      whole : (o : Outcome) → ((call_at so_told node session ≡ None → call_at (after_input f.command (finished f.command (t1 (Some o)) u.node o.ended) u.node u.input) node session ≡ None))
+      whole : (o : TurnOutput) → ((call_at so_told node session ≡ None → call_at (after_input f.command (finished f.command (t1 (Some o)) u.node o.ended) u.node u.input) node session ≡ None))
           → LineIsTold p → LineIsTold (record { facts = f; run_report = after_input f.command (finished f.command (t1 (Some o)) u.node o.ended) u.node u.input })
       whole o none is =
           let v : RunReport = t1 (Some o) in
@@ -128,7 +128,7 @@ module _ (t : History) (run : IsTheRunOf t) (command node session : ℕ) (text :
           ]
 
       -- it does not
-      still : (o : Option Outcome) → LineIsTold p → LineIsTold (record { facts = f; run_report = t1 o })
+      still : (o : Option TurnOutput) → LineIsTold p → LineIsTold (record { facts = f; run_report = t1 o })
       still o is =
           let same : ToldBefore so_told (t1 o) = before o in
           elim is [
@@ -139,7 +139,7 @@ module _ (t : History) (run : IsTheRunOf t) (command node session : ℕ) (text :
             ]
           ]
 
-      turn_keeps : LineIsTold p → (o : Option Outcome) → outcome_at t.places f u ≡ o → (cut : Bool) → u.cut ≡ cut → LineIsTold (record { facts = f; run_report = ends_calls f.command (t1 o) u cut o })
+      turn_keeps : LineIsTold p → (o : Option TurnOutput) → outcome_at t.places f u ≡ o → (cut : Bool) → u.cut ≡ cut → LineIsTold (record { facts = f; run_report = ends_calls f.command (t1 o) u cut o })
       turn_keeps is o comes true cut = still o is
       turn_keeps is None comes false cut = still None is
       turn_keeps is (Some o) comes false cut =
@@ -151,7 +151,7 @@ module _ (t : History) (run : IsTheRunOf t) (command node session : ℕ) (text :
       turn_told is = turn_keeps is (outcome_at t.places f u) refl u.cut refl
 
       -- the call of the command is answered so
-      ends_told : (o : Outcome) → u.cut ≡ false → outcome_at t.places f u ≡ Some o → u.node ≡ node → (c : Call) → call_at so_told u.node session ≡ Some c → c.command ≡ command → c.follows ≡ None → (b : Answer) → said.Node b ≡ a → answers_to session o.ended ≡ b ∷ []
+      ends_told : (o : TurnOutput) → u.cut ≡ false → outcome_at t.places f u ≡ Some o → u.node ≡ node → (c : Call) → call_at so_told u.node session ≡ Some c → c.command ≡ command → c.follows ≡ None → (b : Answer) → said.Node b ≡ a → answers_to session o.ended ≡ b ∷ []
           → LineIsTold (next t.places t.commands p (happenings.Turn u)) × (call_at (next t.places t.commands p (happenings.Turn u)).run_report u.node session ≡ None)
       unfolding next
       ends_told o uncut comes here c at its alone b says is =
@@ -259,7 +259,7 @@ module _ (t : History) (run : IsTheRunOf t) (command node session : ℕ) (text :
       let one : (i + 1) + n ≡ i + suc n = omega arith in subst (λ j. LineIsTold (past_upto t j)) one (later_told n (i + 1) (further_told i (slice_get t.trace i) refl is))
 
   -- the answer of the command's call
-  pub answer_told : (i : ℕ) (u : Turn) → slice_get t.trace i ≡ Some (happenings.Turn u) → u.cut ≡ false → (o : Outcome) → outcome_at t.places (past_upto t i).facts u ≡ Some o → u.node ≡ node → (c : Call)
+  pub answer_told : (i : ℕ) (u : Turn) → slice_get t.trace i ≡ Some (happenings.Turn u) → u.cut ≡ false → (o : TurnOutput) → outcome_at t.places (past_upto t i).facts u ≡ Some o → u.node ≡ node → (c : Call)
       → call_at (past_upto t i).run_report u.node session ≡ Some c → c.command ≡ command → c.follows ≡ None → (b : Answer) → said.Node b ≡ a → answers_to session o.ended ≡ b ∷ [] → LineIsTold (past_upto t (i + 1)) × (call_at (past_upto t (i + 1)).run_report u.node session ≡ None)
   answer_told i u there uncut o comes here c at its alone b says is =
       subst (λ (q : Past). LineIsTold q × (call_at q.run_report u.node session ≡ None)) (sym (one_more t i (happenings.Turn u) there)) (ends_told i u there o uncut comes here c at its alone b says is)

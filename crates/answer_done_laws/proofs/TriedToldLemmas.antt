@@ -12,7 +12,7 @@ use Rattle.node_rules.specs.Statement.{ran}
 use Rattle.node_rules.specs.Names.{way_of}
 use Rattle.node_rules.specs.Calls.{admit, reply_of}
 use Rattle.node_rules.specs.Commit.{beyond, next_on_decision, next_on_ack, next_on_forgotten}
-use Rattle.node_rules.specs.Turn.{turn_of, start_of, stand_of}
+use Rattle.node_rules.specs.Turn.{turn_of, start_of, status_of}
 use Rattle.node_rules.specs.Points.{passes, point_of}
 use Rattle.net_bag.specs.Net.{sent_on, delivered}
 use Rattle.run_rules.specs.Disks.{struck, after_append}
@@ -23,5 +23,5 @@ use Rattle.run_rules.specs.Due.{due_of, runs_on}
 use Rattle.answer_done_laws.specs.TriedTold.{TheTriedTold}
 
 pub the_tried_told : TheTriedTold
-unfolding digits decimal hex8 kept_after durable_after checked examined written meant_over applied stored_by weight step ran_over ran way_of admit reply_of beyond next_on_decision next_on_ack next_on_forgotten turn_of start_of stand_of passes point_of sent_on delivered struck after_append cut_by facts_after next due_of runs_on
+unfolding digits decimal hex8 kept_after durable_after checked examined written meant_over applied stored_by weight step ran_over ran way_of admit reply_of beyond next_on_decision next_on_ack next_on_forgotten turn_of start_of status_of passes point_of sent_on delivered struck after_append cut_by facts_after next due_of runs_on
 the_tried_told = record { first = refl; again = refl; last = refl; stand = refl }

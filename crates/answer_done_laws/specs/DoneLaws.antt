@@ -4,7 +4,7 @@
 -- and enabling RECO.)
 use Rattle.std.specs.Prelude.{◌≡◌, ℕ, ◌+◌, ◌==◌, ◌⊎◌, Bool, true, false, if◌then◌else◌, List, [], ◌∷◌, map, filter, find, IfSome, Option, Some, None, Ok}
 use Rattle.std.specs.List.{list_any}
-use Rattle.node_rules.specs.Data.{Table, Link, Synonym, Stmt, Done, Answer, Refusal, BranchId, RedoRecord, Standing, Place}
+use Rattle.node_rules.specs.Data.{Table, Link, Synonym, Stmt, Done, Answer, Refusal, BranchId, RedoRecord, KeptRow, Place}
 use Rattle.node_rules.specs.Data.answers
 use Rattle.node_rules.specs.Data.decisions
 use Rattle.node_rules.specs.Data.dones
@@ -13,7 +13,7 @@ use Rattle.node_rules.specs.Data.records
 use Rattle.node_rules.specs.Data.stmts
 use Rattle.node_rules.specs.Force.{branch_to_force, may_purge}
 use Rattle.node_rules.specs.Inputs.{IsCall}
-use Rattle.node_rules.specs.NodeState.{NodeState, Outcome}
+use Rattle.node_rules.specs.NodeState.{NodeState, TurnOutput}
 use Rattle.run_rules.specs.Data.{Finished, Turn, Happening}
 use Rattle.run_rules.specs.Data.happenings
 use Rattle.run_rules.specs.Facts.{Facts, place_at, node_at, outcome_at}
@@ -25,7 +25,7 @@ use Rattle.run_claims.specs.Recorded.{is_recorded, is_of_statement, Records}
 -- ---- what is answered
 
 -- what a turn comes to ends these calls
-abbrev pub ended_by : Option Outcome → List Finished
+abbrev pub ended_by : Option TurnOutput → List Finished
 ended_by None = []
 ended_by (Some o) = o.ended
 

@@ -24,7 +24,7 @@ use Rattle.run_rules.specs.Runs.{is_of_rows, is_accepted}
 use Rattle.run_rules.specs.RunReport.{Call}
 use Rattle.run_rules.specs.Trail.{trail_after}
 use Rattle.tree_laws.proofs.PrefixLemmas.{f_at, facts_join}
-use Rattle.tree_site_laws.proofs.TimeLemmas.{may_of, lawful_split}
+use Rattle.tree_laws.proofs.TimeLemmas.{may_of, lawful_split}
 use Rattle.tree_trail_laws.proofs.MomentLemmas.{tr_at, trail_one_on, at_moment}
 use Rattle.answer_origin_laws.specs.LeadLaws.{CallAnsweredBy, IsToldFor, EndsAsReplied, EndsAtOnce}
 use Rattle.answer_origin_laws.specs.ToldLaws.{EndedBy}

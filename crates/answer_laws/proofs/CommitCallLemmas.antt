@@ -16,12 +16,12 @@ use Rattle.session_tree.specs.Live.{new_edge}
 use Rattle.node_rules.specs.Calls.{call_pends, answered_sessions, hears_reply, heard_sessions, is_gone, with_edge}
 use Rattle.node_rules.specs.Client.{new_root}
 use Rattle.node_rules.specs.Commit.{decided_sessions}
-use Rattle.node_rules.specs.NodeState.{NodeState, Deed}
+use Rattle.node_rules.specs.NodeState.{NodeState, TurnDraft}
 use Rattle.node_rules.specs.Prepare.{abandoned_sessions, is_alone, act_turn}
 use Rattle.node_rules.specs.Refusals.{dtx}
 use Rattle.node_rules.specs.Sessions.{session_at, with_call, needs_rollback, no_transaction, commit_is_pending, commit_ended}
 use Rattle.node_rules.specs.Statement.{ran, after_run}
-use Rattle.node_rules.specs.Turn.{turn_of, start_of, deed_of}
+use Rattle.node_rules.specs.Turn.{turn_of, start_of, draft_of}
 use Rattle.node_rules.specs.Words.{numbered, set_numbered}
 use Rattle.node_rules.proofs.Steps as steps
 use Rattle.node_rules.proofs.Steps.{Step}
@@ -29,7 +29,7 @@ use Rattle.node_rules.proofs.HeardLemmas.{sessions_heard}
 use Rattle.run_rules.specs.Data.{Turn, Happening}
 use Rattle.run_rules.specs.Data.happenings
 use Rattle.run_rules.specs.Facts.{Facts, first_facts, place_at, flat, node_at, kept_after, with_boot, facts_after, facts_of}
-use Rattle.run_rules.specs.Lawful.{MayHappen, History, IsLawfulRun}
+use Rattle.run_rules.specs.Lawful.{History, IsLawfulRun}
 use Rattle.run_rules.proofs.AtNodeLemmas.{turn_here, turn_elsewhere}
 use Rattle.run_base_laws.proofs.EventsStandLemmas.{first_node, run_stands}
 use Rattle.run_base_laws.proofs.LawfulLemmas.{serves}
@@ -37,11 +37,12 @@ use Rattle.run_rules.proofs.ListLemmas.{all_append}
 use Rattle.run_base_laws.proofs.RootLemmas.{session_or_before}
 use Rattle.tran_ids.proofs.NumberedLemmas.{set_or_before}
 use Rattle.tree_laws.proofs.PrefixLemmas.{so_far, f_at, one_on}
-use Rattle.tree_site_laws.proofs.TimeLemmas.{Part, part_lawful, may_of, keep_on}
+use Rattle.tree_laws.proofs.TimeLemmas.{Part, part_lawful, keep_on}
 use Rattle.tree_trail_laws.proofs.CallLemmas.{call_free}
 use Rattle.run_ready_laws.proofs.TurnCallLemmas.{fresh_at}
 use Rattle.answer_origin_laws.proofs.NoCallLemmas.{IsNoCall}
 use Rattle.answer_laws.proofs.WhyEndsLemmas.{set_commit}
+use Rattle.tree_laws.proofs.AtTurn.{at_turn}
 
 -- ---- what a turn leaves pending
 
@@ -101,7 +102,7 @@ module _ (p : Place) (input : Input) (m : ℕ) where
   abbrev Came_now : Type 0
   Came_now = (comment : Option (List ℕ)) × (input ≡ inputs.Call m (Some (stmts.Commit comment)))
 
-  pub commits_on : {k : NodeState} {d : Deed} → Step p input k d → (session_at d.after.sessions m).call ≡ pending.Commit → ((session_at k.sessions m).call ≡ pending.Commit) ⊎ Came_now
+  pub commits_on : {k : NodeState} {d : TurnDraft} → Step p input k d → (session_at d.after.sessions m).call ≡ pending.Commit → ((session_at k.sessions m).call ≡ pending.Commit) ⊎ Came_now
   commits_on (steps.Begins {k = k} n s call rows range none step) is = elim (commits_on step is) [
     | inl was ↦ inl (call_same k.sessions m n (record (session_at k.sessions n) { seq = (new_root p k n).seq; root = Some (new_root p k n) }) refl was)
     | inr now ↦ inr now
@@ -172,14 +173,7 @@ module _ (t : History) (whole : IsLawfulRun t) where
   }
 
   module _ (hs : List Happening) (u : Turn) (rest : List Happening) (is : hs ++ happenings.Turn u ∷ rest ≡ t.trace) (now : CommitsCame hs (f_at t hs)) where
-    abbrev may : MayHappen t.places t.commands (f_at t hs) (happenings.Turn u)
-    may = may_of t whole hs (happenings.Turn u) rest is
-
-    abbrev k : NodeState
-    k = may.0
-
-    abbrev f1 : Facts
-    f1 = facts_after t.places t.commands (f_at t hs) (happenings.Turn u)
+    open at_turn t whole hs u rest is use {may, k, g as f1}
 
     even : length (f_at t hs).nodes ≡ length (f_at t hs).records
     even = (run_stands (so_far t hs) (part_lawful t whole hs (record { rest = happenings.Turn u ∷ rest; is = is }))).0.even
@@ -188,7 +182,7 @@ module _ (t : History) (whole : IsLawfulRun t) where
     uncalled : (m : ℕ) → (session_at k.sessions m).call ≡ pending.Commit → IsNoCall u.node m (happenings.Turn u)
     uncalled m commits = λ here s call. (let free = call_free (f_at t hs) k u.node u.input u.took m s call may.1.comes in absurd (cc (commits, free.1)))
 
-    own : (m : ℕ) → (session_at (deed_of (place_at t.places u.node) k u.input).after.sessions m).call ≡ pending.Commit → CommitCame (hs ++ happenings.Turn u ∷ []) u.node m
+    own : (m : ℕ) → (session_at (draft_of (place_at t.places u.node) k u.input).after.sessions m).call ≡ pending.Commit → CommitCame (hs ++ happenings.Turn u ∷ []) u.node m
     own m commits = elim (commits_on (place_at t.places u.node) u.input m (serves t.places (f_at t hs) u k may.1).step commits) [
       | inl was ↦ (let before : (session_at k.sessions m).call ≡ pending.Commit = subst (λ ss. (session_at ss m).call ≡ pending.Commit) (sessions_heard k u.input) was in
           came_on hs (happenings.Turn u) u.node m (uncalled m before) (now u.node k may.1.up m before))
@@ -200,9 +194,9 @@ module _ (t : History) (whole : IsLawfulRun t) where
     own_kept true cut j up m commits =
         let none : node_at f1 u.node ≡ None = (turn_here t.places t.commands (f_at t hs) even u k may.1.up).0 ∙ ap (λ c. kept_after c (Some (turn_of (place_at t.places u.node) k u.input))) cut in absurd (cc (none, up))
     own_kept false cut j up m commits =
-        let after : node_at f1 u.node ≡ Some (deed_of (place_at t.places u.node) k u.input).after = (turn_here t.places t.commands (f_at t hs) even u k may.1.up).0 ∙ ap (λ c. kept_after c (Some (turn_of (place_at t.places u.node) k u.input))) cut in
-        let both : Some (deed_of (place_at t.places u.node) k u.input).after ≡ Some j = sym after ∙ up in
-        let one : j ≡ (deed_of (place_at t.places u.node) k u.input).after = cc in
+        let after : node_at f1 u.node ≡ Some (draft_of (place_at t.places u.node) k u.input).after = (turn_here t.places t.commands (f_at t hs) even u k may.1.up).0 ∙ ap (λ c. kept_after c (Some (turn_of (place_at t.places u.node) k u.input))) cut in
+        let both : Some (draft_of (place_at t.places u.node) k u.input).after ≡ Some j = sym after ∙ up in
+        let one : j ≡ (draft_of (place_at t.places u.node) k u.input).after = cc in
         own m (subst (λ (x : NodeState). (session_at x.sessions m).call ≡ pending.Commit) one commits)
 
     turn_came : CommitsCame (hs ++ happenings.Turn u ∷ []) f1

@@ -9,24 +9,24 @@ use Rattle.node_rules.specs.declared.session.Finished.{Finished}
 use Rattle.node_rules.specs.declared.session.PendingCall.TheVariants as pending
 use Rattle.node_rules.specs.declared.session.Session.{Session}
 use Rattle.node_rules.specs.Inputs.{Came}
-use Rattle.node_rules.specs.NodeState.{NodeState, Outcome}
+use Rattle.node_rules.specs.NodeState.{NodeState, TurnOutput}
 use Rattle.node_rules.specs.Sessions.{session_at}
-use Rattle.node_rules.specs.Turn.{turn_of, heard, deed_of}
+use Rattle.node_rules.specs.Turn.{turn_of, heard, draft_of}
 use Rattle.node_rules.proofs.HeardLemmas.{sessions_heard}
 use Rattle.run_rules.specs.Births.{births_of}
 use Rattle.run_rules.specs.Data.{Turn, Happening}
 use Rattle.run_rules.specs.Data.happenings
 use Rattle.run_rules.specs.Each.{facts_upto}
 use Rattle.run_rules.specs.Facts.{node_at, place_at, served, outcome_at}
-use Rattle.run_rules.specs.Lawful.{MayHappen, History, IsLawfulRun}
+use Rattle.run_rules.specs.Lawful.{History, IsLawfulRun}
 use Rattle.run_base_laws.specs.RunEvents.{events_of}
 use Rattle.run_rules.specs.Runs.{is_of_rows, is_accepted}
 use Rattle.run_base_laws.proofs.BirthRunLemmas.{run_births}
 use Rattle.run_base_laws.proofs.LawfulLemmas.{serves}
 use Rattle.run_base_laws.proofs.RestLemmas.{Before}
 use Rattle.run_base_laws.proofs.RestRunLemmas.{NodeRests, heard_rests, heard_before, before_so, run_roots}
-use Rattle.tree_laws.proofs.PrefixLemmas.{so_far, f_at}
-use Rattle.tree_site_laws.proofs.TimeLemmas.{Part, part_lawful, may_of}
+use Rattle.tree_laws.proofs.PrefixLemmas.{f_at}
+use Rattle.tree_laws.proofs.TimeLemmas.{may_of}
 use Rattle.tree_trail_laws.proofs.CallLemmas.{call_free}
 use Rattle.answer_origin_laws.proofs.NoCallLemmas.{all_since, many_since, no_call_since}
 use Rattle.answer_origin_laws.proofs.PartLemmas.{split_at}
@@ -34,6 +34,7 @@ use Rattle.answer_origin_laws.proofs.ReplyRunLemmas.{prefix, happens_at}
 use Rattle.answer_laws.proofs.CommitCallLemmas.{CommitCame, commits_came}
 use Rattle.answer_laws.specs.EndLaws.{EndsFor, Is_refused, Is_own, Is_replied, Was_commit, forces_outcome, EndsFew, Ends_none, Ends_one, Ends_forced, CallsEndForCause, LastCall, PendingCommitsCame}
 use Rattle.answer_laws.proofs.WhyEndsLemmas.{few_on}
+use Rattle.tree_laws.proofs.AtTurn.{at_turn}
 
 -- How a call of a session ends with an answer that is no refusal.
 pub data Ending (input : Input) (ss : List Session) (fs : List Finished) (session : ℕ) (a : Answer) : Type 0 where
@@ -74,24 +75,11 @@ module _ (input : Input) (ss : List Session) (session : ℕ) (a : Answer) (good 
   only (Ends_forced f n s b refused commits call forces) (suc (suc (suc i))) at = absurd cc
 
 module _ (t : History) (whole : IsLawfulRun t) (hs : List Happening) (u : Turn) (rest : List Happening) (is : hs ++ happenings.Turn u ∷ rest ≡ t.trace) where
-  part0 : Part t whole hs
-  part0 = record { rest = happenings.Turn u ∷ rest; is = is }
-
-  abbrev s0 : History
-  s0 = so_far t hs
-
-  lawful0 : IsLawfulRun s0
-  lawful0 = part_lawful t whole hs part0
-
-  abbrev may : MayHappen t.places t.commands (f_at t hs) (happenings.Turn u)
-  may = may_of t whole hs (happenings.Turn u) rest is
+  open at_turn t whole hs u rest is use {part as part0, s as s0, lawful as lawful0, may, k}
 
   -- what its node keeps as it comes
   abbrev pub kept_there : NodeState
   kept_there = may.0
-
-  abbrev k : NodeState
-  k = kept_there
 
   rests : NodeRests (heard k u.input)
   rests = heard_rests k u.input (subst (λ o. IfSome o NodeRests) may.1.up (run_roots s0 lawful0 u.node))
@@ -100,20 +88,20 @@ module _ (t : History) (whole : IsLawfulRun t) (hs : List Happening) (u : Turn) 
   before = heard_before k u.input u.input (before_so t.places t.commands t.of_a_script.each (f_at t hs) (events_of s0) (births_of s0) (run_births s0 lawful0) (run_roots s0 lawful0) u k may.1)
 
   -- which calls it ends
-  pub turn_few : EndsFew u.input k.sessions (deed_of (place_at t.places u.node) k u.input).ended
+  pub turn_few : EndsFew u.input k.sessions (draft_of (place_at t.places u.node) k u.input).ended
   turn_few =
       let p : Place = place_at t.places u.node in
-      subst (λ ss. EndsFew u.input ss (deed_of p k u.input).ended) (sessions_heard k u.input) (few_on p u.input (serves t.places (f_at t hs) u k may.1).step rests.0 before.asked)
+      subst (λ ss. EndsFew u.input ss (draft_of p k u.input).ended) (sessions_heard k u.input) (few_on p u.input (serves t.places (f_at t hs) u k may.1).step rests.0 before.asked)
 
   -- and how
-  pub turn_ends : (o : Outcome) → outcome_at t.places (f_at t hs) u ≡ Some o → (session number : ℕ) (a : Answer) → is_accepted (Some a) ≡ true → slice_get o.ended number ≡ Some (record { session = session; answer = a })
+  pub turn_ends : (o : TurnOutput) → outcome_at t.places (f_at t hs) u ≡ Some o → (session number : ℕ) (a : Answer) → is_accepted (Some a) ≡ true → slice_get o.ended number ≡ Some (record { session = session; answer = a })
       → Ending u.input k.sessions o.ended session a
   unfolding turn_of
   turn_ends o outcome session number a good at =
       let p : Place = place_at t.places u.node in
       let both : Some (turn_of p k u.input) ≡ Some o = sym (ap (served p u.input) may.1.up) ∙ outcome in
       let one : turn_of p k u.input ≡ o = cc in
-      only u.input k.sessions session a good (subst (EndsFew u.input k.sessions) (ap (λ (y : Outcome). y.ended) one) turn_few) number at
+      only u.input k.sessions session a good (subst (EndsFew u.input k.sessions) (ap (λ (y : TurnOutput). y.ended) one) turn_few) number at
 
   -- a COMMIT that is pending is the last call of its session, up to this turn
   pub commit_last : (session : ℕ) → (session_at k.sessions session).call ≡ pending.Commit → (x : LastCall t u.node session (length hs)) × (comment : Option (List ℕ)) × (x.text ≡ Some (stmts.Commit comment))
@@ -151,7 +139,7 @@ module _ (t : History) (whole : IsLawfulRun t) (i : ℕ) (u : Turn) (there : sli
 
   for_cause : EndsFew u.input j.sessions (turn_of (place_at t.places u.node) j u.input).ended
   unfolding turn_of
-  for_cause = subst (λ (x : NodeState). EndsFew u.input x.sessions (deed_of (place_at t.places u.node) x u.input).ended) its_kept (turn_few t whole at.0 u at.1 at.2)
+  for_cause = subst (λ (x : NodeState). EndsFew u.input x.sessions (draft_of (place_at t.places u.node) x u.input).ended) its_kept (turn_few t whole at.0 u at.1 at.2)
 
   commit_came : (session : ℕ) → (session_at j.sessions session).call ≡ pending.Commit → (x : LastCall t u.node session i) × (comment : Option (List ℕ)) × (x.text ≡ Some (stmts.Commit comment))
   commit_came session commits =

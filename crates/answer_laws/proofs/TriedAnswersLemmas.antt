@@ -1,30 +1,13 @@
 -- Where the answers of the tried script come from, by computation.
 use Rattle.std.proofs.Common.{refl}
-use Rattle.std.specs.Fmt.{digits}
-use Rattle.tran_ids.specs.Numbers.{decimal, hex8}
-use Rattle.redo_record.specs.Kept.{kept_after}
-use Rattle.redo_record.specs.Durable.{durable_after}
-use Rattle.node_rules.specs.Meaning.{checked, examined, written, meant_over, meant}
-use Rattle.node_rules.specs.Records.{applied, stored_by}
-use Rattle.session_tree.specs.Tree.{weight, step}
-use Rattle.stmt_run.specs.Run.{ran_over}
-use Rattle.node_rules.specs.Statement.{ran}
-use Rattle.node_rules.specs.Names.{way_of}
-use Rattle.node_rules.specs.Calls.{admit, reply_of}
-use Rattle.node_rules.specs.Turn.{turn_of, start_of, stand_of}
 use Rattle.node_rules.specs.Points.{passes, point_of}
-use Rattle.net_bag.specs.Net.{sent_on, delivered}
-use Rattle.run_rules.specs.Book.{rows_of, in_doubt}
 use Rattle.run_rules.specs.Cuts.{cut_by}
 use Rattle.run_rules.specs.Disks.{struck, after_append}
 use Rattle.run_rules.specs.Due.{due_of, runs_on, happened}
-use Rattle.run_rules.specs.Facts.{facts_after}
 use Rattle.run_rules.specs.Past.{next}
-use Rattle.run_rules.specs.Runs.{run_in, view_by}
-use Rattle.run_rules.specs.Trail.{trail_after, trail_of}
 use Rattle.answer_laws.specs.TriedAnswers.{TheTriedAnswers}
+use Rattle.tree_laws.proofs.Trying.{trying, trying_trails}
 
 pub the_tried_answers : TheTriedAnswers
-unfolding digits decimal hex8 kept_after durable_after checked examined written meant_over meant applied stored_by weight step ran_over ran way_of admit reply_of turn_of start_of stand_of passes point_of sent_on delivered rows_of in_doubt cut_by struck after_append due_of
-    runs_on happened facts_after next run_in view_by trail_after trail_of
+unfolding trying trying_trails passes point_of cut_by struck after_append due_of runs_on happened next
 the_tried_answers = record { inserted = refl; count_is = refl; from = refl }

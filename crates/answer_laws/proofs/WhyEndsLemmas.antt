@@ -18,7 +18,7 @@ use Rattle.node_rules.specs.Calls.{answer_ends, hears_reply}
 use Rattle.node_rules.specs.Client.{new_root, begun_by}
 use Rattle.node_rules.specs.Commit.{decision_answers}
 use Rattle.node_rules.specs.Inputs.{Came}
-use Rattle.node_rules.specs.NodeState.{NodeState, Branch, Deed, live_at}
+use Rattle.node_rules.specs.NodeState.{NodeState, Branch, TurnDraft, live_at}
 use Rattle.node_rules.specs.Prepare.{abandon_ends, is_alone, act_turn}
 use Rattle.node_rules.specs.Sessions.{session_at, with_call, is_commit, commit_is_pending, commit_answer}
 use Rattle.node_rules.specs.Statement.{ran, after_run}
@@ -123,7 +123,7 @@ asked_own {k = k} fit below (steps.By_exec x from call given advice s came live 
 no_exec : {input : Input} {n : ℕ} {s : Option Stmt} (k : NodeState) → input ≡ inputs.Call n s → ExecsBelow input k
 no_exec {n = n} {s = q} k call from to number given advice s came l live none = let both : inputs.Call n q ≡ inputs.Message _ = sym call ∙ came.is in absurd cc
 
-pub few_on : (p : Place) (input : Input) {k : NodeState} {d : Deed} → Step p input k d → SessionsFit k → ExecsBelow input k → EndsFew input k.sessions d.ended
+pub few_on : (p : Place) (input : Input) {k : NodeState} {d : TurnDraft} → Step p input k d → SessionsFit k → ExecsBelow input k → EndsFew input k.sessions d.ended
 few_on p input (steps.Begins {k = k} {d = d} n s call rows range none step) fit below =
     few_before input k.sessions (begun_by p k n None).sessions
     (λ m is. inl (set_commit k.sessions n m (record (session_at k.sessions n) { seq = (new_root p k n).seq; root = Some (new_root p k n) }) (λ was. was) is))

@@ -13,18 +13,18 @@ use Rattle.node_rules.specs.declared.session.Finished.{Finished}
 use Rattle.node_rules.specs.declared.session.PendingCall.TheVariants as pending
 use Rattle.node_rules.specs.declared.session.Session.{Session}
 use Rattle.node_rules.specs.Inputs.{IsSession}
-use Rattle.node_rules.specs.NodeState.{NodeState, Branch, Deed, Outcome}
+use Rattle.node_rules.specs.NodeState.{NodeState, Branch, TurnDraft, TurnOutput}
 use Rattle.node_rules.specs.Names.{Way, Runs_here, Over, Through, Nowhere_to, A_table, named_by, table_of, ref_of, way_of}
 use Rattle.node_rules.specs.Sessions.{session_at, with_call}
 use Rattle.node_rules.specs.Statement.{ran, after_run}
 use Rattle.node_rules.specs.Calls.{answered_sessions, answer_ends, goes}
 use Rattle.node_rules.specs.Client.{new_root, begun_by, begun, root_by, root_at, statement_by, statement_call, call_turn}
-use Rattle.node_rules.specs.Turn.{turn_of, deed_of}
+use Rattle.node_rules.specs.Turn.{turn_of, draft_of}
 use Rattle.run_rules.specs.Branches.{Run, Seen, Trail, seen_id, is_live, is_live_at, is_root_of, root_at as told_root}
 use Rattle.run_rules.specs.Data.{Turn, Happening}
 use Rattle.run_rules.specs.Data.happenings
-use Rattle.run_rules.specs.Facts.{Facts, place_at, records_at, served, outcome_at}
-use Rattle.run_rules.specs.Lawful.{MayHappen, History, IsLawfulRun}
+use Rattle.run_rules.specs.Facts.{Facts, records_at, served, outcome_at}
+use Rattle.run_rules.specs.Lawful.{History, IsLawfulRun}
 use Rattle.run_claims.specs.Places.{LeadsTo, Runs_here as Runs_there, catalog_at}
 use Rattle.run_rules.specs.Runs.{asks, asks_root, bare_name, table_by, run_at_table, run_by, run_in, ended_answer, replied_answer, answer_or, answered_by, is_of_rows, is_accepted}
 use Rattle.run_rules.specs.Trail.{origin_by, next_root, root_seen, with_begun, roots_begun, children_begun, begun_in_turn, trail_after}
@@ -32,7 +32,6 @@ use Rattle.run_base_laws.proofs.RestRunLemmas.{NodeRests, run_roots}
 use Rattle.run_base_laws.proofs.RootLemmas.{RootsFit, SessionsFit, begun_so}
 use Rattle.run_base_laws.proofs.StoredLemmas.{records_are_kept}
 use Rattle.tree_laws.proofs.PrefixLemmas.{so_far, f_at}
-use Rattle.tree_site_laws.proofs.TimeLemmas.{Part, part_lawful, may_of}
 use Rattle.tree_trail_laws.specs.SeenLaws.{IsSeenRoot}
 use Rattle.tree_trail_laws.proofs.CallLemmas.{call_free}
 use Rattle.tree_trail_laws.proofs.OwnLiveLemmas.{root_there}
@@ -45,11 +44,12 @@ use Rattle.answer_origin_laws.proofs.EndedRootLemmas.{Freed, call_freed, roots_t
 use Rattle.answer_origin_laws.proofs.RootToldLemmas.{root_brought}
 use Rattle.answer_origin_laws.proofs.NameLemmas.{catalog_kept, same_names, table_at}
 use Rattle.answer_origin_laws.proofs.ReplyRunLemmas.{happens_at, prefix, moment_at, ran_there}
+use Rattle.tree_laws.proofs.AtTurn.{at_turn}
 
 -- ---- what the node does
 
 module _ (p : Place) (k : NodeState) (n : ℕ) (m : ℕ) (a : Answer) (good : is_accepted (Some a) ≡ true) (more : List Finished) where
-  abbrev Ends : Deed → Type 0
+  abbrev Ends : TurnDraft → Type 0
   Ends d = d.ended ≡ (record { session = m; answer = a }) ∷ more
 
   rows_turn : (s : Stmt) → is_of_rows s ≡ true → call_turn p k n s ≡ statement_call p (begun p k n) n s
@@ -114,7 +114,7 @@ module _ (p : Place) (k : NodeState) (n : ℕ) (m : ℕ) (a : Answer) (good : is
     pub frees : (s : Stmt) → is_of_rows s ≡ true → Ends (call_turn p k n s) → (m ≡ n) × Freed (call_turn p k n s).after.sessions n me
     frees s rows ended =
         let its = root_frees s (session_at (begun p k n).sessions n).code (root_at (begun p k n) n) (λ x at. mine_by (session_at (begun p k n).sessions n).root has x at) (subst Ends (rows_turn s rows) ended) in
-        (its.0, subst (λ (d : Deed). Freed d.after.sessions n me) (sym (rows_turn s rows)) its.1)
+        (its.0, subst (λ (d : TurnDraft). Freed d.after.sessions n me) (sym (rows_turn s rows)) its.1)
 
   pub its_table : (s : Stmt) → is_of_rows s ≡ true → Ends (call_turn p k n s) → (table : Table) × (named_by k.stored.durable (ref_of s) ≡ A_table table)
   its_table s rows ended =
@@ -191,30 +191,20 @@ module _ (f : Facts) (tr : Trail) (u : Turn) (uncut : u.cut ≡ false) (session 
       let one = and_parts (is_live_at u.node b) (is_none b.parent && (b.me.session == session)) passes in
       (eqb-true b.me.node u.node (and_parts (b.me.node == u.node) (is_live b) one.0).0, eqb-true b.me.session session (and_parts (is_none b.parent) (b.me.session == session) one.1).1)
 
-module _ (t : History) (whole : IsLawfulRun t) (hs : List Happening) (u : Turn) (rest : List Happening) (is : hs ++ happenings.Turn u ∷ rest ≡ t.trace) (uncut : u.cut ≡ false) (o : Outcome)
+module _ (t : History) (whole : IsLawfulRun t) (hs : List Happening) (u : Turn) (rest : List Happening) (is : hs ++ happenings.Turn u ∷ rest ≡ t.trace) (uncut : u.cut ≡ false) (o : TurnOutput)
     (outcome : outcome_at t.places (f_at t hs) u ≡ Some o) (session : ℕ) (s : Stmt) (call : u.input ≡ inputs.Call session (Some s)) (rows : is_of_rows s ≡ true)
     (n : ℕ) (a : Answer) (more : List Finished) (ended : o.ended ≡ (record { session = n; answer = a }) ∷ more) (good : is_accepted (Some a) ≡ true) where
-  lawful0 : IsLawfulRun (so_far t hs)
-  lawful0 = part_lawful t whole hs (record { rest = happenings.Turn u ∷ rest; is = is })
+  open at_turn t whole hs u rest is use {lawful as lawful0, may, k, p, part as part0}
 
-  abbrev may : MayHappen t.places t.commands (f_at t hs) (happenings.Turn u)
-  may = may_of t whole hs (happenings.Turn u) rest is
-
-  abbrev k : NodeState
-  k = may.0
-
-  abbrev p : Place
-  p = place_at t.places u.node
-
-  deed_ends : (call_turn p k session s).ended ≡ (record { session = n; answer = a }) ∷ more
+  draft_ends : (call_turn p k session s).ended ≡ (record { session = n; answer = a }) ∷ more
   unfolding turn_of
-  deed_ends =
+  draft_ends =
       let both : Some (turn_of p k u.input) ≡ Some o = sym (ap (served p u.input) may.1.up) ∙ outcome in
       let one_outcome : turn_of p k u.input ≡ o = cc in
-      ap (λ input. (deed_of p k input).ended) (sym call) ∙ (ap (λ (y : Outcome). y.ended) one_outcome ∙ ended)
+      ap (λ input. (draft_of p k input).ended) (sym call) ∙ (ap (λ (y : TurnOutput). y.ended) one_outcome ∙ ended)
 
   table : (x : Table) × (named_by k.stored.durable (ref_of s) ≡ A_table x)
-  table = its_table p k session n a good more s rows deed_ends
+  table = its_table p k session n a good more s rows draft_ends
 
   named : named_by (catalog t whole hs u.node) (ref_of s) ≡ A_table table.0
   named = sym (same_names k.stored.durable (catalog t whole hs u.node) (catalog_kept k (records_at (f_at t hs) u.node) (records_are_kept (so_far t hs) lawful0 u.node k may.1.up)) (ref_of s)) ∙ table.1
@@ -239,10 +229,6 @@ module _ (t : History) (whole : IsLawfulRun t) (hs : List Happening) (u : Turn) 
       let catalog_is : catalog_at t r.moment r.branch.node ≡ catalog t whole hs u.node = ap (λ i. catalog_at t i r.branch.node) (sym here) ∙ (ap (λ xs. durable (records_at (f_at t xs) r.branch.node)) (prefix t hs (happenings.Turn u) rest is) ∙ ap (catalog t whole hs) parts.0) in
       Runs_there (ap (λ d. named_by d (ref_of s)) catalog_is ∙ named)
 
-  -- the session has its root as the turn begins, and after it
-  part0 : Part t whole hs
-  part0 = record { rest = happenings.Turn u ∷ rest; is = is }
-
   fits : SessionsFit k
   fits = (subst (λ q. IfSome q NodeRests) may.1.up (run_roots (so_far t hs) lawful0 u.node)).0
 
@@ -260,10 +246,10 @@ module _ (t : History) (whole : IsLawfulRun t) (hs : List Happening) (u : Turn) 
 
   freed : (n ≡ session) × Freed (call_turn p k session s).after.sessions session me
   freed = frees p k session n a good more
-      (begun_fits (f_at t hs) (tr_at t hs) u uncut session s call rows p k comes.0 fits sees next) me (session_has (f_at t hs) (tr_at t hs) u uncut session s call rows p k comes.0 fits sees next) s rows deed_ends
+      (begun_fits (f_at t hs) (tr_at t hs) u uncut session s call rows p k comes.0 fits sees next) me (session_has (f_at t hs) (tr_at t hs) u uncut session s call rows p k comes.0 fits sees next) s rows draft_ends
 
   seen : (b : Seen) × (told_root (trail_after t.places (f_at t hs) (tr_at t hs) (happenings.Turn u)) u.node session ≡ Some b) × (b.me ≡ me)
-  seen = root_after t whole hs u rest is uncut session comes.0 me (subst (λ input. Freed (deed_of p k input).after.sessions session me) (sym call) freed.1)
+  seen = root_after t whole hs u rest is uncut session comes.0 me (subst (λ input. Freed (draft_of p k input).after.sessions session me) (sym call) freed.1)
 
   answered_so : CallAnsweredBy t (tr_at t hs).moment u.node session r.branch a r
   answered_so = record {

@@ -4,17 +4,17 @@ use Rattle.std.specs.Prelude.{option_to_list}
 use Rattle.std.specs.List.{list_any}
 use Rattle.commit_forget.specs.declared.next.Next.TheVariants as nexts
 use Rattle.redo_record.specs.Durable.{durable, durable_after}
-use Rattle.node_rules.specs.Data.{Table, TableRef, Link, Synonym, RedoRecord, Standing, Durable, Place, Input}
+use Rattle.node_rules.specs.Data.{Table, TableRef, Link, Synonym, RedoRecord, KeptRow, Durable, Place, Input}
 use Rattle.node_rules.specs.Data.acts
 use Rattle.node_rules.specs.Data.records
 use Rattle.node_rules.specs.Data.params
 use Rattle.node_rules.specs.Commit.{acked_by}
-use Rattle.node_rules.specs.NodeState.{NodeState, Deed, standing_id}
+use Rattle.node_rules.specs.NodeState.{NodeState, TurnDraft, kept_row_id}
 use Rattle.node_rules.specs.Names.{Behind, synonym_named, table_named, table_of, ref_named, named_by, node_named, target_of}
 use Rattle.node_rules.specs.Client.{is_used, is_link}
 use Rattle.node_rules.specs.Words.{same_text, put_item}
 use Rattle.node_rules.proofs.Steps as steps
-use Rattle.node_rules.proofs.Steps.{Step, Makes}
+use Rattle.node_rules.proofs.Steps.{Step}
 use Rattle.std.specs.Prelude.{unwrap_or}
 use Rattle.std.proofs.lemmas.List.Sums.{fold-append}
 use Rattle.std.specs.Cmp.Lexicographic.{bytes_decides}
@@ -22,7 +22,7 @@ use Rattle.tran_ids.proofs.NumberedLemmas.{set_or_before}
 use Rattle.redo_record.specs.Durable.{no_durable}
 use Rattle.node_rules.specs.Data.inputs
 use Rattle.node_rules.specs.NodeState.{Stored}
-use Rattle.node_rules.specs.Turn.{heard, deed_of}
+use Rattle.node_rules.specs.Turn.{heard, draft_of}
 use Rattle.node_rules.specs.Words.{numbered, set_numbered}
 use Rattle.run_rules.specs.Data.{Happening}
 use Rattle.run_rules.specs.Data.happenings
@@ -31,7 +31,7 @@ use Rattle.run_rules.specs.Lawful.{History, IsLawfulRun}
 use Rattle.run_base_laws.proofs.LawfulLemmas.{serves, of_wrote}
 use Rattle.run_base_laws.proofs.StoredLemmas.{records_are_kept}
 use Rattle.tree_laws.proofs.PrefixLemmas.{so_far, f_at, one_on}
-use Rattle.tree_site_laws.proofs.TimeLemmas.{Part, part_lawful, may_of, keep_on}
+use Rattle.tree_laws.proofs.TimeLemmas.{Part, part_lawful, may_of, keep_on}
 use Rattle.tree_trail_laws.proofs.PlanLemmas.{find_more}
 use Rattle.answer_origin_laws.proofs.NameLemmas.{OneCatalog, catalog_kept, same_names}
 
@@ -47,7 +47,7 @@ abbrev pub HasNewName : Durable → Option RedoRecord → Type 0
 HasNewName d None = Unit {0}
 HasNewName d (Some r) = IsNewName d r
 
-has_kept : (d : Durable) (ks : List Standing) (o : Option RedoRecord) → HasNewName (record d { kept = ks }) o → HasNewName d o
+has_kept : (d : Durable) (ks : List KeptRow) (o : Option RedoRecord) → HasNewName (record d { kept = ks }) o → HasNewName d o
 has_kept d ks None is = tt
 has_kept d ks (Some (records.Table t)) is = is
 has_kept d ks (Some (records.Link l)) is = is
@@ -56,11 +56,11 @@ has_kept d ks (Some _) is = tt
 
 module _ (p : Place) (input : Input) where
   -- each step writes records with new names
-  pub new_names : {k : NodeState} {d : Deed} → Step p input k d → HasNewName k.stored.durable d.wrote
+  pub new_names : {k : NodeState} {d : TurnDraft} → Step p input k d → HasNewName k.stored.durable d.wrote
   new_names (steps.Begins n s call rows fit none step) = new_names step
   new_names (steps.Pends n l given call has live code step) = new_names step
   new_names (steps.Lets_reads_go l comment site_below live begins step) = new_names step
-  new_names (steps.Counts_ack {k = k} {d = d} s from kept came counts step) = has_kept k.stored.durable (put_item standing_id k.stored.durable.kept (acked_by s from)) d.wrote (new_names step)
+  new_names (steps.Counts_ack {k = k} {d = d} s from kept came counts step) = has_kept k.stored.durable (put_item kept_row_id k.stored.durable.kept (acked_by s from)) d.wrote (new_names step)
   new_names (steps.Makes_record n s r d call (steps.Makes_table t free)) = free
   new_names (steps.Makes_record n s r d call (steps.Makes_link l free)) = free
   new_names (steps.Makes_record n s r d call (steps.Makes_synonym y free)) = free
@@ -237,8 +237,8 @@ module _ (t : History) (whole : IsLawfulRun t) where
       let p : Place = place_at t.places u.node in
       let serving = serves t.places (f_at t hs) u k may.1 in
       let one : OneCatalog k.stored.durable (catalog hs u.node) = catalog_kept k (records_at (f_at t hs) u.node) (records_are_kept s0 lawful0 u.node k may.1.up) in
-      let new : HasNewName k.stored.durable (deed_of p k u.input).wrote = subst (λ (s : Stored). HasNewName s.durable (deed_of p k u.input).wrote) (heard_stored k u.input) (new_names p u.input serving.step) in
-      let wrote : HasNewName (catalog hs u.node) u.wrote = of_wrote p k u serving (HasNewName (catalog hs u.node)) tt (has_by one (deed_of p k u.input).wrote new) in
+      let new : HasNewName k.stored.durable (draft_of p k u.input).wrote = subst (λ (s : Stored). HasNewName s.durable (draft_of p k u.input).wrote) (heard_stored k u.input) (new_names p u.input serving.step) in
+      let wrote : HasNewName (catalog hs u.node) u.wrote = of_wrote p k u serving (HasNewName (catalog hs u.node)) tt (has_by one (draft_of p k u.input).wrote new) in
       with_records (f_at t hs) u.node n (records_at (f_at t hs) u.node ++ option_to_list u.wrote) (option_to_list u.wrote) refl (one_more (records_at (f_at t hs) u.node) u.wrote wrote)
     where
       heard_stored : (k : NodeState) (input : Input) → (heard k input).stored ≡ k.stored

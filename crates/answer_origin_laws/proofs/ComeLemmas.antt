@@ -4,7 +4,7 @@ use Rattle.std.proofs.lemmas.Bool.Decides.{nat_tests}
 use Rattle.std.proofs.lemmas.Bool.{cond_both, and_parts, and_from, eq-eqb}
 use Rattle.node_rules.specs.Data.{Input, Stmt}
 use Rattle.node_rules.specs.Data.inputs
-use Rattle.node_rules.specs.NodeState.{Outcome}
+use Rattle.node_rules.specs.NodeState.{TurnOutput}
 use Rattle.node_rules.specs.Turn.{turn_of}
 use Rattle.run_rules.specs.Calls.{is_call_at, call_at, waits, waits_if_pending, after_input, finished}
 use Rattle.run_rules.specs.Data.{Happening, Turn}
@@ -192,21 +192,21 @@ module _ (t : History) where
       quiet_or_call (inl is) other = let call : is_call u.input ≡ true = ap is_call is.came in absurd (cc (call, other))
       quiet_or_call (inr none) other = none.1
 
-      abbrev pub before_end : Option Outcome → RunReport
+      abbrev pub before_end : Option TurnOutput → RunReport
       before_end o = without_following (delivered_more (turn_appends told u.node u.input (node_at f u.node) o) u.took) u.input
 
-      pub before_so : (o : Option Outcome) → ToldBefore told (before_end o)
+      pub before_so : (o : Option TurnOutput) → ToldBefore told (before_end o)
       before_so o = before_told told u.node u.input (node_at f u.node) o u.took (quiet_or_call (due_there (happenings.Turn u) there))
 
-      few_end : (o : Outcome) → outcome_at t.places f u ≡ Some o → EndsFew o.ended
+      few_end : (o : TurnOutput) → outcome_at t.places f u ≡ Some o → EndsFew o.ended
       few_end o comes =
           let may = may_at t run i (happenings.Turn u) there in
           let it : Some (turn_of (place_at t.places u.node) may.0 u.input) ≡ Some o = sym (ap (served (place_at t.places u.node) u.input) may.1.up) ∙ comes in
           let same : turn_of (place_at t.places u.node) may.0 u.input ≡ o = cc in
-          subst (λ (x : Outcome). EndsFew x.ended) same (turn_leaves_so t.places t.commands t.of_a_script.each f stands.events stands.births stands.born stands.roots stands.so.live u may.0 may.1).few
+          subst (λ (x : TurnOutput). EndsFew x.ended) same (turn_leaves_so t.places t.commands t.of_a_script.each f stands.events stands.births stands.born stands.roots stands.so.live u may.0 may.1).few
 
       -- the calls are those before
-      still_leads : (o : Option Outcome) (v : RunReport) → v.calls ≡ (before_end o).calls → v.next_call ≡ (before_end o).next_call → Leads t.commands told v
+      still_leads : (o : Option TurnOutput) (v : RunReport) → v.calls ≡ (before_end o).calls → v.next_call ≡ (before_end o).next_call → Leads t.commands told v
       still_leads o v calls next =
           let same : v.calls ≡ told.calls = calls ∙ (before_so o).calls in record {
             was = λ n s c at. inl (ap (find (is_call_at n s)) (sym same) ∙ at);
@@ -214,7 +214,7 @@ module _ (t : History) where
             next = λ c is. (let none : v.next_call ≡ None = next ∙ (before_so o).alone in absurd (cc (none, is)));
           }
 
-      ended_leads : (o : Outcome) → outcome_at t.places f u ≡ Some o → (cut : Bool) → Leads t.commands told (acts (ends_calls f.command (before_end (Some o)) u cut (Some o)))
+      ended_leads : (o : TurnOutput) → outcome_at t.places f u ≡ Some o → (cut : Bool) → Leads t.commands told (acts (ends_calls f.command (before_end (Some o)) u cut (Some o)))
       ended_leads o comes true = still_leads (Some o) (acts (before_end (Some o))) refl refl
       ended_leads o comes false =
           let v : RunReport = before_end (Some o) in
@@ -230,7 +230,7 @@ module _ (t : History) where
             next = λ c is. (let it = leads.next c (sym after.1 ∙ is) in (it.0, ap (find (is_call_at c.node c.session)) after.0 ∙ it.1));
           }
 
-      pub turn_leads : (o : Option Outcome) → outcome_at t.places f u ≡ o → Leads t.commands told (report_turned f.command (node_at f u.node) told u o)
+      pub turn_leads : (o : Option TurnOutput) → outcome_at t.places f u ≡ o → Leads t.commands told (report_turned f.command (node_at f u.node) told u o)
       turn_leads None comes = by u.cut
         where
           by : (cut : Bool) → Leads t.commands told (acts (ends_calls f.command (before_end None) u cut None))
@@ -247,7 +247,7 @@ module _ (t : History) where
       pub turn_so : CallsSo (i + 1) (next t.places t.commands p (happenings.Turn u))
       unfolding next
       turn_so =
-          let o : Option Outcome = outcome_at t.places f u in
+          let o : Option TurnOutput = outcome_at t.places f u in
           let v : RunReport = report_turned f.command (node_at f u.node) told u o in
           let leads : Leads t.commands told v = turn_leads o refl in record {
             shapes = leads.shapes;

@@ -3,7 +3,7 @@ use Rattle.std.proofs.Common.{◌≡◌, ℕ, ◌+◌, ◌==◌, ◌&&◌, ◌�
 use Rattle.std.proofs.lemmas.Bool.{cond_both}
 use Rattle.node_rules.specs.Data.{Place, Input}
 use Rattle.node_rules.specs.Data.inputs
-use Rattle.node_rules.specs.NodeState.{NodeState, Outcome}
+use Rattle.node_rules.specs.NodeState.{NodeState, TurnOutput}
 use Rattle.node_rules.specs.Turn.{turn_of}
 use Rattle.net_bag.specs.Net.{packet_at}
 use Rattle.run_rules.specs.Calls.{is_call_at, call_at}
@@ -52,12 +52,12 @@ module _ (P : Happening → Type 0) where
       → turn_at places t node input took o ≡ Some h → P h
   turn_is places t node input took None h each is = absurd cc
   turn_is places t node input took (Some k) h each is =
-      let o : Outcome = turn_of (place_at places node) k input in
+      let o : TurnOutput = turn_of (place_at places node) k input in
       let it : Some (turn_comes t node input took k o) ≡ Some h = is in
       let same : turn_comes t node input took k o ≡ h = cc in
       subst P same (by o (cut_by t node k input o))
     where
-      by : (o : Outcome) (c : Cut_by) → P (turn_by node input took o c)
+      by : (o : TurnOutput) (c : Cut_by) → P (turn_by node input took o c)
       by o By_nothing = each _ refl refl
       by o (By_strike stands) = each _ refl refl
       by o (By_point root numbers stands) = each _ refl refl
@@ -77,11 +77,7 @@ module _ (P : Happening → Type 0) where
 -- ---- what is due
 
 module _ (places : List Place) (asked : List Command) (count : ℕ) (p : Past) (stand : CallsStand asked count p.facts p.run_report) where
-  abbrev f : Facts
-  f = p.facts
-
-  abbrev t : RunReport
-  t = p.run_report
+  open p use {facts as f, run_report as t}
 
   -- a call comes
   pends_is : (c : Call) → ((n s : ℕ) → is_fresh f.command t n s ≡ ((c.node == n) && (c.session == s))) → ((call_at t c.node c.session ≡ Some c) × (f.command ≡ c.command)) ⊎ (t.next_call ≡ Some c)

@@ -10,19 +10,19 @@ use Rattle.node_rules.specs.Words.{numbered}
 use Rattle.node_rules.specs.Refusals.{dtx}
 use Rattle.node_rules.specs.Sessions.{fresh_session, session_at, with_call, needs_rollback}
 use Rattle.node_rules.specs.Calls.{heard_sessions, is_gone}
-use Rattle.node_rules.specs.Turn.{turn_of, deed_of}
+use Rattle.node_rules.specs.Turn.{turn_of, draft_of}
 use Rattle.run_rules.specs.Branches.{Seen, Trail, no_trail, root_at}
 use Rattle.run_rules.specs.Data.{Turn, Happening, Command}
 use Rattle.run_rules.specs.Data.happenings
 use Rattle.run_rules.specs.Each.{EachFrom}
-use Rattle.run_rules.specs.Facts.{Facts, place_at, node_at, kept_after, first_facts, facts_after}
-use Rattle.run_rules.specs.Lawful.{MayHappen, History, IsLawfulRun}
+use Rattle.run_rules.specs.Facts.{Facts, node_at, kept_after, first_facts, facts_after}
+use Rattle.run_rules.specs.Lawful.{History, IsLawfulRun}
 use Rattle.run_rules.specs.Trail.{trail_after}
 use Rattle.run_rules.proofs.AtNodeLemmas.{range_of, turn_here}
 use Rattle.run_base_laws.proofs.EventsStandLemmas.{run_stands}
 use Rattle.run_base_laws.proofs.RootLemmas.{RootsFit}
 use Rattle.tree_laws.proofs.PrefixLemmas.{so_far, f_at, one_on}
-use Rattle.tree_site_laws.proofs.TimeLemmas.{Part, part_lawful, part_on, may_of}
+use Rattle.tree_laws.proofs.TimeLemmas.{Part, part_lawful, part_on}
 use Rattle.tree_trail_laws.specs.SeenLaws.{TellsOwns, SeesRoots, Sees}
 use Rattle.tree_trail_laws.specs.TopLaws.{NamesNext}
 use Rattle.tree_trail_laws.proofs.CallLemmas.{seen_root}
@@ -30,6 +30,8 @@ use Rattle.tree_trail_laws.proofs.MomentLemmas.{tr_at, trail_one_on}
 use Rattle.tree_trail_laws.proofs.SeenRunLemmas.{all_is_seen}
 use Rattle.tree_trail_laws.proofs.TopFollowLemmas.{tops_follow}
 use Rattle.tree_trail_laws.proofs.TopNodeLemmas.{session_put}
+use Rattle.tree_laws.proofs.AtTurn.{at_turn}
+use Rattle.tree_trail_laws.proofs.AtTrail.{at_trail}
 
 -- ---- sessions
 
@@ -81,26 +83,8 @@ module _ (t : History) (whole : IsLawfulRun t) where
   next_told hs part = (tops_told hs part).1
 
   module _ (hs : List Happening) (u : Turn) (rest : List Happening) (is : hs ++ happenings.Turn u ∷ rest ≡ t.trace) (uncut : u.cut ≡ false) where
-    abbrev hs1 : List Happening
-    hs1 = hs ++ happenings.Turn u ∷ []
-
-    lawful0 : IsLawfulRun (so_far t hs)
-    lawful0 = part_lawful t whole hs (record { rest = happenings.Turn u ∷ rest; is = is })
-
-    abbrev may : MayHappen t.places t.commands (f_at t hs) (happenings.Turn u)
-    may = may_of t whole hs (happenings.Turn u) rest is
-
-    abbrev k : NodeState
-    k = may.0
-
-    abbrev p : Place
-    p = place_at t.places u.node
-
-    abbrev f1 : Facts
-    f1 = facts_after t.places t.commands (f_at t hs) (happenings.Turn u)
-
-    abbrev tr1 : Trail
-    tr1 = trail_after t.places (f_at t hs) (tr_at t hs) (happenings.Turn u)
+    open at_turn t whole hs u rest is use {after as hs1, lawful as lawful0, may, k, p, g as f1}
+    open at_trail t hs u use {tr_on as tr1}
 
     here_after : node_at f1 u.node ≡ Some (turn_of p k u.input).after
     here_after = (turn_here t.places t.commands (f_at t hs) (run_stands (so_far t hs) lawful0).0.even u k may.1.up).0 ∙ ap (λ cut. kept_after cut (Some (turn_of p k u.input))) uncut
@@ -109,9 +93,9 @@ module _ (t : History) (whole : IsLawfulRun t) where
     roots_after = subst₂ SeesRoots (one_on t hs (happenings.Turn u)) (trail_one_on t hs (happenings.Turn u)) (roots_told hs1 (part_on t whole hs (happenings.Turn u) rest is))
 
     -- the session's transaction after the turn
-    pub root_after : (session : ℕ) → IsSession session → (me : BranchId) → Freed (deed_of p k u.input).after.sessions session me → (s : Seen) × (root_at tr1 u.node session ≡ Some s) × (s.me ≡ me)
+    pub root_after : (session : ℕ) → IsSession session → (me : BranchId) → Freed (draft_of p k u.input).after.sessions session me → (s : Seen) × (root_at tr1 u.node session ≡ Some s) × (s.me ≡ me)
     unfolding turn_of
     root_after session range me freed =
-        let j : NodeState = (deed_of p k u.input).after in
+        let j : NodeState = (draft_of p k u.input).after in
         let found = seen_root tr1 j (root_at tr1 u.node session) (session_at j.sessions session).root me freed.root (roots_after u.node j here_after session range freed.free) in
         (found.0, found.1, found.2)

@@ -19,18 +19,20 @@ use Rattle.node_rules.specs.Data.kinds
 use Rattle.node_rules.specs.Words.{same, one, item_at, put_item}
 use Rattle.node_rules.specs.Refusals.{dtx, ora}
 use Rattle.node_rules.specs.Inputs.{Came}
-use Rattle.node_rules.specs.NodeState.{NodeState, Branch, live_id, work_id, live_at, with_work, standing_at, branch_at, nothing, saying, post}
+use Rattle.node_rules.specs.NodeState.{NodeState, Branch, live_id, work_id, live_at, with_work, kept_row_at, branch_at, nothing, saying, post}
 use Rattle.node_rules.specs.LiveBranches.{works_of, EachLive}
-use Rattle.node_rules.specs.Names.{Way, Runs_here, Over, Through, Nowhere_to, Named, A_table, Behind, Unknown, named_by, ref_of, passed_on, way_new, way_edge, way_target, way_named, way_of}
+use Rattle.node_rules.specs.Names.{Way, Runs_here, Over, Through, Nowhere_to, Named, A_table, Behind, Unknown, named_by, ref_of, passed_on, way_new, way_named, way_of}
 use Rattle.node_rules.specs.Statement.{ran, after_run, answer_of_run}
 use Rattle.node_rules.specs.Calls.{admit, reply_fields, kept_reply, with_answer, answer_says, answer_ends, replies, exec_to, nobody_at, called, waits_for_opened, goes, takes_call, says_again, exec_by, reply_of, reply_by, hears_reply, heard_answer, gone_reply, is_gone}
-use Rattle.node_rules.specs.Turn.{Stand, Is_live, Is_kept, Is_gone, live_or, stand_of, exec_turn, reply_turn}
+use Rattle.node_rules.specs.Turn.{BranchStatus, Is_live, Is_kept, Is_gone, live_or, status_of, exec_turn, reply_turn}
 use Rattle.node_rules.proofs.LiveLemmas.{each_put, each_same, branch_parts, work_is}
 use Rattle.node_rules.proofs.StandLemmas.{StandsSo, stands_so, live_so}
 use Rattle.run_rules.specs.Runs.{is_accepted}
 use Rattle.run_base_laws.proofs.KindSayLemmas.{AllSay}
 use Rattle.answer_origin_laws.proofs.PlainLemmas.{exec_mute}
 use Rattle.answer_origin_laws.proofs.TaleLemmas.{NoReply, IsMute, other_reply, Stays, Says_again, Takes, Answers, Hears, calls0, Told, AreGood, Tales, mute_good, mute_replies, came_one, each_of}
+use Rattle.tree_trail_laws.proofs.OwnAskLemmas.{target_no as way_target_not}
+use Rattle.tree_trail_laws.proofs.LowerLivesLemmas.{bool_cases as bool_by}
 
 -- a statement runs where its table is
 way_new_not : (p : Place) (l : Live) (given node : ℕ) (link table : List ℕ) (t : Table) → way_new p l given node link table ≡ Runs_here t → ⊥
@@ -40,14 +42,6 @@ way_new_not p l given node link table t is = by (nat_le depth_limit l.depth || (
     by true r at = absurd cc
     by false true at = absurd cc
     by false false at = absurd cc
-
-way_edge_not : (p : Place) (l : Live) (given node : ℕ) (link table : List ℕ) (o : Option ℕ) (t : Table) → way_edge p l given node link table o ≡ Runs_here t → ⊥
-way_edge_not p l given node link table (Some i) t is = absurd cc
-way_edge_not p l given node link table None t is = way_new_not p l given node link table t is
-
-way_target_not : (p : Place) (l : Live) (given : ℕ) (link table : List ℕ) (o : Option ℕ) (t : Table) → way_target p l given link table o ≡ Runs_here t → ⊥
-way_target_not p l given link table None t is = absurd cc
-way_target_not p l given link table (Some node) t is = way_edge_not p l given node link table _ t is
 
 way_named_table : (p : Place) (k : NodeState) (l : Live) (given : ℕ) (n : Named) (t : Table) → way_named p k.stored.durable l given n ≡ Runs_here t → n ≡ A_table t
 way_named_table p k l given Unknown t is = absurd cc
@@ -71,15 +65,11 @@ pub same_call : (c : Calls) (call : ℕ) → admit c call ≡ admits.Again → c
 unfolding admit
 same_call c call is = grind (arith, nat_tests)
 
-bool_by : (q : Bool) → (P : Type 0) → (q ≡ true → P) → (q ≡ false → P) → P
-bool_by true P at_true at_false = at_true refl
-bool_by false P at_true at_false = at_false refl
-
 -- one that is not live
-live_none : (k : NodeState) (b : BranchId) (o : Option Live) → live_at k b ≡ o → (st : Stand) → stand_of k b ≡ st → ((x : Branch) → st ≢ Is_live x) → o ≡ None
-unfolding stand_of
+live_none : (k : NodeState) (b : BranchId) (o : Option Live) → live_at k b ≡ o → (st : BranchStatus) → status_of k b ≡ st → ((x : Branch) → st ≢ Is_live x) → o ≡ None
+unfolding status_of
 live_none k b None at st is not_live = refl
-live_none k b (Some l) at st is not_live = absurd (not_live _ (sym is ∙ ap (λ o. live_or (with_work k o) (standing_at k b)) at))
+live_none k b (Some l) at st is not_live = absurd (not_live _ (sym is ∙ ap (λ o. live_or (with_work k o) (kept_row_at k b)) at))
 
 module _ (k : NodeState) (m : Msg) (there : (b : BranchId) → item_at live_id k.lives b ≡ None → item_at work_id k.works b ≡ None) where
   abbrev input : Input
@@ -239,10 +229,10 @@ module _ (k : NodeState) (m : Msg) (there : (b : BranchId) → item_at live_id k
       exec_so admits.Again at = again_so x.work.came.reply refl (same_call x.work.came call at)
       exec_so admits.Run at = goes_so (run_is_new x.work.came call at) (way_of p k.stored.durable y.live given s) refl
 
-    pub exec_tales : ((l : Live) → live_at k m.to ≡ Some l → l.parent ≡ Some m.from) → Tales k input (exec_turn p k m.from m.to call given advice s (stand_of k m.to))
-    exec_tales above = by (stand_of k m.to) refl (stands_so k m.to)
+    pub exec_tales : ((l : Live) → live_at k m.to ≡ Some l → l.parent ≡ Some m.from) → Tales k input (exec_turn p k m.from m.to call given advice s (status_of k m.to))
+    exec_tales above = by (status_of k m.to) refl (stands_so k m.to)
       where
-        by : (st : Stand) → stand_of k m.to ≡ st → StandsSo k m.to st → Tales k input (exec_turn p k m.from m.to call given advice s st)
+        by : (st : BranchStatus) → status_of k m.to ≡ st → StandsSo k m.to st → Tales k input (exec_turn p k m.from m.to call given advice s st)
         by (Is_live x) at so = exec_so x so.0 so.1 (above x.live (subst (λ b. live_at k b ≡ Some x.live) so.0 (live_so k x.live.me x so.1))) (admit x.work.came call) refl
         by (Is_kept z) at so = idle (λ y live to. absurd (unheard (live_none k m.to (live_at k m.to) refl (Is_kept z) at (λ x it. absurd cc)) y live to))
         by Is_gone at so = gone_so (live_none k m.to (live_at k m.to) refl Is_gone at (λ x it. absurd cc))
@@ -284,10 +274,10 @@ module _ (k : NodeState) (m : Msg) (there : (b : BranchId) → item_at live_id k
       reply_so None at = idle (λ y live to. no_exec y.me)
       reply_so (Some ie) at = heard_so ie at
 
-    pub reply_tales : Tales k input (reply_turn k m.from call weight count a (stand_of k m.to))
-    reply_tales = by (stand_of k m.to) (stands_so k m.to)
+    pub reply_tales : Tales k input (reply_turn k m.from call weight count a (status_of k m.to))
+    reply_tales = by (status_of k m.to) (stands_so k m.to)
       where
-        by : (st : Stand) → StandsSo k m.to st → Tales k input (reply_turn k m.from call weight count a st)
+        by : (st : BranchStatus) → StandsSo k m.to st → Tales k input (reply_turn k m.from call weight count a st)
         by (Is_live x) so = reply_so x so.0 so.1 (reply_of x m.from call) refl
         by (Is_kept s) so = idle (λ y live to. no_exec y.me)
         by Is_gone so = idle (λ y live to. no_exec y.me)

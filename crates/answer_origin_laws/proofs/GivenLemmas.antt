@@ -14,7 +14,7 @@ use Rattle.run_base_laws.specs.InTurnLaws.{said_in, newest_exec}
 use Rattle.run_rules.specs.Lawful.{History, IsLawfulRun}
 use Rattle.run_rules.proofs.ListLemmas.{all_append}
 use Rattle.tree_laws.proofs.PrefixLemmas.{f_at}
-use Rattle.tree_site_laws.proofs.TimeLemmas.{Part}
+use Rattle.tree_laws.proofs.TimeLemmas.{Part}
 use Rattle.answer_origin_laws.proofs.CatalogLemmas.{catalog}
 use Rattle.answer_origin_laws.proofs.LineGrowLemmas.{StillKnown}
 use Rattle.answer_origin_laws.proofs.NoCallLemmas.{IsNoCall}

@@ -8,7 +8,6 @@ use Rattle.session_tree.specs.Live.{children_of, edge_at}
 use Rattle.node_rules.specs.Data.{Answer, Advice, BranchId, Edge, Live, Post, Stmt, Input}
 use Rattle.node_rules.specs.Data.inputs
 use Rattle.node_rules.specs.Data.kinds
-use Rattle.node_rules.specs.Data.stmts
 use Rattle.node_rules.specs.declared.work.Waits.TheVariants as waiting
 use Rattle.node_rules.specs.declared.work.Going.{Going}
 use Rattle.node_rules.specs.declared.work.Work.{Work}
@@ -20,7 +19,6 @@ use Rattle.node_rules.specs.Names.{A_table, named_by, ref_of, passed_on, target_
 use Rattle.node_rules.specs.Turn.{heard}
 use Rattle.node_rules.proofs.LiveLemmas.{branch_parts}
 use Rattle.node_rules.proofs.Steps.{Is_answered, IsOfRows}
-use Rattle.run_rules.specs.Births.{Born, births_of}
 use Rattle.run_base_laws.specs.BirthLaws.{Began, IsChild, LiveIs, GoesSo}
 use Rattle.run_rules.specs.Branches.{Run, origin_at}
 use Rattle.run_rules.specs.Data.{Turn, Happening}
@@ -29,7 +27,6 @@ use Rattle.run_rules.specs.Facts.{first_facts, place_at, node_at, records_at}
 use Rattle.run_base_laws.specs.InTurnLaws.{packet_post, said_in, exec_number, newest_exec, WaitsFor, call_at, GoesOn}
 use Rattle.run_rules.specs.Lawful.{History, IsLawfulRun, facts_at}
 use Rattle.run_claims.specs.Places.{LeadsTo, Runs_here, Passes, catalog_at}
-use Rattle.run_rules.specs.Runs.{is_of_rows}
 use Rattle.run_base_laws.proofs.BirthRunLemmas.{messages_are_of_neighbors, nodes_name_the_born}
 use Rattle.run_base_laws.proofs.InTurnLemmas.{peer, reply_for}
 use Rattle.run_base_laws.proofs.InTurnLemmas as turns
@@ -42,8 +39,8 @@ use Rattle.run_base_laws.proofs.OwnLemmas.{all_found}
 use Rattle.run_base_laws.proofs.RestStepLemmas.{going_of}
 use Rattle.run_base_laws.proofs.RootLemmas.{SessionsFit, sessions_keep}
 use Rattle.tree_laws.proofs.FitLemmas.{said_all}
-use Rattle.tree_laws.proofs.PrefixLemmas.{so_far, f_at, facts_join}
-use Rattle.tree_site_laws.proofs.TimeLemmas.{Part, part_lawful, may_of}
+use Rattle.tree_laws.proofs.PrefixLemmas.{f_at, facts_join}
+use Rattle.tree_laws.proofs.TimeLemmas.{Part, may_of}
 use Rattle.tree_trail_laws.proofs.CallLemmas.{call_free}
 use Rattle.tree_trail_laws.proofs.MomentLemmas.{tr_at}
 use Rattle.answer_origin_laws.specs.LeadLaws.{NoCallSince, AnsweredBy, CallAnsweredBy, RepliesLeadToRuns, KeptAnswersLeadToRuns}
@@ -59,14 +56,8 @@ use Rattle.answer_origin_laws.proofs.PastLemmas.{all_before, reply_before}
 use Rattle.answer_origin_laws.proofs.ReplyRunLemmas.{happens_at, prefix, moment_at, ran_there, holds_at}
 use Rattle.answer_origin_laws.proofs.ReplyTurnLemmas.{RunsSo, PassesSo, Holds}
 use Rattle.answer_origin_laws.proofs.SentLemmas.{came_sent, exec_in}
-
--- a statement that has a table
-of_rows : (s : Stmt) → IsOfRows s → is_of_rows s ≡ true
-of_rows (stmts.Insert table columns given) is = refl
-of_rows (stmts.Update table sets cs) is = refl
-of_rows (stmts.Delete table cs) is = refl
-of_rows (stmts.Select list table cs for_update) is = refl
-of_rows _ is = absurd is
+use Rattle.tree_laws.proofs.AtTurn.{at_turn}
+use Rattle.tree_trail_laws.proofs.TopCountLemmas.{rows_so as of_rows}
 
 module _ (t : History) (whole : IsLawfulRun t) where
   abbrev Ans : BranchId → ℕ → Answer → Run → Type 0
@@ -107,17 +98,7 @@ module _ (t : History) (whole : IsLawfulRun t) where
   module _ (hs : List Happening) (u : Turn) (rest : List Happening) (is : hs ++ happenings.Turn u ∷ rest ≡ t.trace) (k : NodeState) (up : node_at (f_at t hs) u.node ≡ Some k)
       (x : Branch) (weight : Option ℕ) (count : ℕ) (a : Answer) (i : ℕ) (e : Edge) (h : Is_answered (heard k u.input) u.input x weight count a i e) (r : Run)
       (n : ℕ) (told : origin_at (tr_at t hs) n ≡ Some r) (ans : AnsweredBy t h.from h.call a r) where
-    part0 : Part t whole hs
-    part0 = record { rest = happenings.Turn u ∷ rest; is = is }
-
-    abbrev s0 : History
-    s0 = so_far t hs
-
-    lawful0 : IsLawfulRun s0
-    lawful0 = part_lawful t whole hs part0
-
-    abbrev bs0 : List Born
-    bs0 = births_of s0
+    open at_turn t whole hs u rest is use {part as part0, s as s0, lawful as lawful0, bs as bs0}
 
     abbrev me : BranchId
     me = x.live.me

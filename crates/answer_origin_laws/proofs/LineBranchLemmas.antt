@@ -8,7 +8,7 @@ use Rattle.node_rules.specs.Data.kinds
 use Rattle.node_rules.specs.declared.work.Work.{Work}
 use Rattle.node_rules.specs.Words.{same, numbered, put_item, drop_item}
 use Rattle.node_rules.specs.Inputs.{Came, IsCall}
-use Rattle.node_rules.specs.NodeState.{NodeState, Branch, Deed, live_id, work_id, branch_at}
+use Rattle.node_rules.specs.NodeState.{NodeState, Branch, TurnDraft, live_id, work_id, branch_at}
 use Rattle.node_rules.specs.LiveBranches.{works_of, EachLive}
 use Rattle.node_rules.specs.Names.{Behind, named_by, ref_of, passed_on, target_of}
 use Rattle.node_rules.specs.Sessions.{session_at}
@@ -58,11 +58,11 @@ module _ (E : BranchId → Option ℕ) (A : BranchId → Option BranchId) (G Her
   pub calm_here : (says : List Post) → AllSay IsCalm says → FromHere says
   calm_here says all = all_weaker (λ (x : Post). IsCalm x.kind) (λ (x : Post). is_calling x.kind ≡ true → Here x.from) (λ x is calls. absurd (cc (is, calls))) says all
 
-  -- what a deed leaves
+  -- what a draft leaves
   abbrev pub LeavesSo : List Live → List Work → List Post → Type 0
   LeavesSo ls ws says = EachLive (LineOf (said ++ says)) ls ws × FromHere says
 
-  abbrev pub Leaves : Deed → Type 0
+  abbrev pub Leaves : TurnDraft → Type 0
   Leaves d = LeavesSo d.after.lives d.after.works d.says
 
   pub fresh_line : (l : Live) (w : Work) → l.edges ≡ [] → w.going ≡ None → OpensLow p D Given Called said l.me 0 → LineOf said l w

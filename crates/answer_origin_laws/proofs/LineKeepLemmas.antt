@@ -17,14 +17,15 @@ use Rattle.node_rules.specs.declared.work.Work.{Work}
 use Rattle.node_rules.specs.Words.{same, numbered, set_numbered}
 use Rattle.node_rules.specs.NodeState.{Branch}
 use Rattle.node_rules.specs.Names.{target_of}
-use Rattle.node_rules.specs.Sessions.{fresh_session, session_at, with_call, needs_rollback}
+use Rattle.node_rules.specs.Sessions.{session_at, with_call, needs_rollback}
 use Rattle.node_rules.specs.Calls.{advice_of, exec_to, next_call, call_pends, called}
-use Rattle.node_rules.proofs.StandLemmas.{session_set, call_set}
+use Rattle.node_rules.proofs.StandLemmas.{call_set}
 use Rattle.run_base_laws.specs.InTurnLaws.{WaitsFor, call_at}
 use Rattle.run_rules.proofs.AtNodeLemmas.{there_too}
 use Rattle.run_base_laws.proofs.RootLemmas.{session_or_before}
 use Rattle.answer_origin_laws.proofs.LineLemmas.{Quiet, other_quiet, OpensLow, OpensTo, SentSo, more_by, more, WaitsSo, Line, low_more}
 use Rattle.answer_origin_laws.proofs.NumberLemmas.{all_numbered}
+use Rattle.tree_laws.proofs.HoldLemmas.{code_at}
 
 -- ---- codes of sessions
 
@@ -36,10 +37,6 @@ call_code ss n m c = elim (session_or_before ss n m (record (session_at ss n) { 
 
 pub pends_code : (ss : List Session) (l : Live) (m : ℕ) → (session_at (call_pends ss l) m).code ≡ (session_at ss m).code
 pends_code ss l m = cond_both (is_none l.parent) (with_call ss l.me.session pending.Statement) ss (λ xs. (session_at xs m).code ≡ (session_at ss m).code) (λ root. call_code ss l.me.session m pending.Statement) (λ below. refl)
-
-pub code_at : (ss : List Session) (n code : ℕ) (b : BranchId) (o : Option Session) → numbered ss n ≡ o → (unwrap_or o fresh_session).root ≡ Some b → session_at (needs_rollback ss n code) n ≡ record (session_at ss n) { code = Some code }
-code_at ss n code b None is has = absurd cc
-code_at ss n code b (Some s) is has = session_set ss n s (record (session_at ss n) { code = Some code }) is
 
 pub given_code : (ss : List Session) (n code : ℕ) (b : BranchId) → (session_at ss n).root ≡ Some b → (session_at (needs_rollback (with_call ss n pending.NoCall) n code) n).code ≡ None → ⊥
 given_code ss n code b has none =

@@ -6,24 +6,24 @@ use Rattle.std.specs.Prelude.{IfSome}
 use Rattle.std.specs.List.{AllByRecursion}
 use Rattle.std.proofs.lemmas.Bool.{cases_eq}
 use Rattle.tran_ids.proofs.NumberedLemmas.{set_or_before}
-use Rattle.node_rules.specs.Data.{BranchId, Durable, Live, Place, Post, RedoRecord}
+use Rattle.node_rules.specs.Data.{BranchId, Durable, Live, Post, RedoRecord}
 use Rattle.node_rules.specs.Words.{numbered, set_numbered}
-use Rattle.node_rules.specs.NodeState.{NodeState, Deed, live_id, live_at}
+use Rattle.node_rules.specs.NodeState.{NodeState, live_id, live_at}
 use Rattle.node_rules.specs.LiveBranches.{EachLive}
-use Rattle.node_rules.specs.Turn.{turn_of, start_of, made, deed_of}
+use Rattle.node_rules.specs.Turn.{turn_of, start_of, made}
 use Rattle.node_rules.proofs.LiveLemmas.{each_same, none_live}
 use Rattle.run_rules.specs.Data.{Turn, Happening}
 use Rattle.run_rules.specs.Data.happenings
 use Rattle.run_rules.specs.Facts.{Facts, place_at, flat, node_at, kept_after, with_boot, facts_after, facts_of}
 use Rattle.run_base_laws.specs.InTurnLaws.{post_of, said_in, GoesOn}
-use Rattle.run_rules.specs.Lawful.{MayHappen, IsOwed, History, IsLawfulRun}
+use Rattle.run_rules.specs.Lawful.{IsOwed, History, IsLawfulRun}
 use Rattle.run_rules.proofs.AtNodeLemmas.{turn_here, turn_elsewhere}
 use Rattle.run_base_laws.proofs.EventsStandLemmas.{first_node, run_stands, ids_name_their_node}
 use Rattle.run_rules.proofs.ListLemmas.{all_weaker}
 use Rattle.run_base_laws.proofs.OwnLemmas.{all_found}
 use Rattle.run_base_laws.proofs.SaidPostLemmas.{posts_back, said_after}
-use Rattle.tree_laws.proofs.PrefixLemmas.{so_far, f_at, one_on}
-use Rattle.tree_site_laws.proofs.TimeLemmas.{Part, part_on, part_lawful, may_of, keep_on}
+use Rattle.tree_laws.proofs.PrefixLemmas.{f_at, one_on}
+use Rattle.tree_laws.proofs.TimeLemmas.{Part, part_on, keep_on}
 use Rattle.answer_origin_laws.proofs.CatalogLemmas.{Extends, extends_same, catalog, catalog_on}
 use Rattle.answer_origin_laws.proofs.GivenLemmas.{GivenLast, CalledLast, last_soon, still_known}
 use Rattle.answer_origin_laws.proofs.LineGrowLemmas.{not_true, line_grows}
@@ -31,6 +31,7 @@ use Rattle.answer_origin_laws.proofs.LineLemmas.{is_calling, Line, Quiet, line_m
 use Rattle.answer_origin_laws.proofs.LineTurnLemmas as turn
 use Rattle.answer_origin_laws.proofs.NoCallLemmas.{IsNoCall}
 use Rattle.answer_origin_laws.proofs.TurnTaleLemmas as tales
+use Rattle.tree_laws.proofs.AtTurn.{at_turn}
 
 module _ (t : History) (whole : IsLawfulRun t) where
   abbrev pub LinesOf : List Happening → ℕ → Durable → List Post → NodeState → Type 0
@@ -39,41 +40,13 @@ module _ (t : History) (whole : IsLawfulRun t) where
   abbrev pub LinesAt : List Happening → Facts → Type 0
   LinesAt = turn.LinesAt t whole
 
-  abbrev pub Stand : List Happening → Type 0
-  Stand = turn.Stand t whole
+  abbrev pub BranchStatus : List Happening → Type 0
+  BranchStatus = turn.BranchStatus t whole
 
   -- ---- a turn
 
-  module _ (hs : List Happening) (u : Turn) (rest : List Happening) (is : hs ++ happenings.Turn u ∷ rest ≡ t.trace) (now : Stand hs) where
-    abbrev hs1 : List Happening
-    hs1 = hs ++ happenings.Turn u ∷ []
-
-    abbrev s0 : History
-    s0 = so_far t hs
-
-    lawful0 : IsLawfulRun s0
-    lawful0 = part_lawful t whole hs (record { rest = happenings.Turn u ∷ rest; is = is })
-
-    abbrev f0 : Facts
-    f0 = f_at t hs
-
-    abbrev f1 : Facts
-    f1 = facts_after t.places t.commands f0 (happenings.Turn u)
-
-    abbrev may : MayHappen t.places t.commands f0 (happenings.Turn u)
-    may = may_of t whole hs (happenings.Turn u) rest is
-
-    abbrev k : NodeState
-    k = may.0
-
-    abbrev p : Place
-    p = place_at t.places u.node
-
-    abbrev d : Deed
-    d = deed_of p k u.input
-
-    abbrev said : List Post
-    said = said_in f0
+  module _ (hs : List Happening) (u : Turn) (rest : List Happening) (is : hs ++ happenings.Turn u ∷ rest ≡ t.trace) (now : BranchStatus hs) where
+    open at_turn t whole hs u rest is use {after as hs1, s as s0, lawful as lawful0, f as f0, g as f1, may, k, p, d, said}
 
     even : length f0.nodes ≡ length f0.records
     even = (run_stands s0 lawful0).0.even
@@ -133,7 +106,7 @@ module _ (t : History) (whole : IsLawfulRun t) where
         by true cut there =
             let none : node_at f1 u.node ≡ None = (turn_here t.places t.commands f0 even u k may.1.up).0 ∙ ap (λ c. kept_after c (Some (turn_of p k u.input))) cut in absurd (cc (none, there))
 
-    pub turn_stands : Stand hs1
+    pub turn_stands : BranchStatus hs1
     turn_stands = subst (LinesAt hs1) (sym (one_on t hs (happenings.Turn u))) lines_then
 
   -- ---- other happenings
@@ -142,9 +115,9 @@ module _ (t : History) (whole : IsLawfulRun t) where
   unfolding start_of
   start_lines hs n D xs rs = none_live _
 
-  module _ (hs : List Happening) (h : Happening) (rest : List Happening) (is : hs ++ h ∷ rest ≡ t.trace) (now : Stand hs) where
+  module _ (hs : List Happening) (h : Happening) (rest : List Happening) (is : hs ++ h ∷ rest ≡ t.trace) (now : BranchStatus hs) where
     -- nothing is sent, and the nodes that are up were so or have just started
-    same_stands : ((node session : ℕ) → IsNoCall node session h) → (g : Facts) → facts_after t.places t.commands (f_at t hs) h ≡ g → said_in g ≡ said_in (f_at t hs) ++ [] → ((n : ℕ) (j : NodeState) → node_at g n ≡ Some j → (node_at (f_at t hs) n ≡ Some j) ⊎ ((D : Durable) (xs : List Post) → LinesOf (hs ++ h ∷ []) n D xs j)) → Stand (hs ++ h ∷ [])
+    same_stands : ((node session : ℕ) → IsNoCall node session h) → (g : Facts) → facts_after t.places t.commands (f_at t hs) h ≡ g → said_in g ≡ said_in (f_at t hs) ++ [] → ((n : ℕ) (j : NodeState) → node_at g n ≡ Some j → (node_at (f_at t hs) n ≡ Some j) ⊎ ((D : Durable) (xs : List Post) → LinesOf (hs ++ h ∷ []) n D xs j)) → BranchStatus (hs ++ h ∷ [])
     same_stands no_call g facts says still n j up =
         let fact : f_at t (hs ++ h ∷ []) ≡ g = one_on t hs h ∙ facts in
         let said : said_in (f_at t (hs ++ h ∷ [])) ≡ said_in (f_at t hs) = ap said_in fact ∙ (says ∙ append-nil (said_in (f_at t hs))) in
@@ -163,7 +136,7 @@ module _ (t : History) (whole : IsLawfulRun t) where
     | inr new ↦ inr (sym (ap flat new.1) ∙ up)
   ]
 
-  stand_on : (hs : List Happening) (h : Happening) (rest : List Happening) → hs ++ h ∷ rest ≡ t.trace → Stand hs → Stand (hs ++ h ∷ [])
+  stand_on : (hs : List Happening) (h : Happening) (rest : List Happening) → hs ++ h ∷ rest ≡ t.trace → BranchStatus hs → BranchStatus (hs ++ h ∷ [])
   unfolding facts_after
   stand_on hs (happenings.Turn u) rest is now = turn_stands hs u rest is now
   stand_on hs (happenings.Stopped m) rest is now =
@@ -184,14 +157,14 @@ module _ (t : History) (whole : IsLawfulRun t) where
   unfolding start_of
   made_lines n D xs = none_live _
 
-  first_stand : Stand []
+  first_stand : BranchStatus []
   unfolding facts_of
   first_stand n k up =
       subst (λ o. IfSome o (LinesOf [] n (catalog t whole [] n) (said_in (f_at t [])))) up
       (first_node (λ o. IfSome o (LinesOf [] n (catalog t whole [] n) (said_in (f_at t [])))) tt (made_lines n (catalog t whole [] n) (said_in (f_at t []))) t.places n)
 
-  pub stand_last : (hs : List Happening) → Part t whole hs → Stand hs
-  stand_last hs part = keep_on t whole Stand stand_on [] hs part first_stand
+  pub stand_last : (hs : List Happening) → Part t whole hs → BranchStatus hs
+  stand_last hs part = keep_on t whole BranchStatus stand_on [] hs part first_stand
 
   -- the same without what comes last
   pub stand_at : (hs : List Happening) → Part t whole hs → (n : ℕ) (k : NodeState) → node_at (f_at t hs) n ≡ Some k

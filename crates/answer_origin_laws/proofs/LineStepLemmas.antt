@@ -13,7 +13,7 @@ use Rattle.node_rules.specs.declared.session.PendingCall.TheVariants as pending
 use Rattle.node_rules.specs.declared.work.Work.{Work}
 use Rattle.node_rules.specs.Words.{put_item, drop_item}
 use Rattle.node_rules.specs.Refusals.{dtx}
-use Rattle.node_rules.specs.NodeState.{NodeState, Branch, Deed, live_id, work_id, no_work, post, to_one, to_each}
+use Rattle.node_rules.specs.NodeState.{NodeState, Branch, TurnDraft, live_id, work_id, no_work, post, to_one, to_each}
 use Rattle.node_rules.specs.LiveBranches.{works_of}
 use Rattle.node_rules.specs.Sessions.{session_at, with_call, needs_rollback}
 use Rattle.node_rules.specs.Statement.{ran, after_run, answer_of_run}
@@ -65,7 +65,7 @@ module _ (E : BranchId → Option ℕ) (A : BranchId → Option BranchId) (G Her
   abbrev LeavesSo : List Live → List Work → List Post → Type 0
   LeavesSo = base.LeavesSo E A G Here input said received p D Given Called
 
-  abbrev Leaves : Deed → Type 0
+  abbrev Leaves : TurnDraft → Type 0
   Leaves = base.Leaves E A G Here input said received p D Given Called
 
   module _ (known : base.Known E A G Here input said received p D Given Called) where
@@ -121,7 +121,7 @@ module _ (E : BranchId → Option ℕ) (A : BranchId → Option BranchId) (G Her
       first_news : {k : NodeState} → News Fresh p input k → News (NewBorn E A G Here input said received) p input k
       first_news news = record { root = λ n s call rows none. (news.root n s call rows none).0; child = λ to parent edge root depth came new. (news.child to parent edge root depth came new).0 }
 
-      pub lines_on : {k : NodeState} {d : Deed} → Step p input k d → Granted E A G Here input said received d → SessionsFit k → News Fresh p input k → OneCatalog k.stored.durable D → Nodes k → Lines said k → Leaves d
+      pub lines_on : {k : NodeState} {d : TurnDraft} → Step p input k d → Granted E A G Here input said received d → SessionsFit k → News Fresh p input k → OneCatalog k.stored.durable D → Nodes k → Lines said k → Leaves d
       lines_on (steps.Begins {k = k} n s call rows range none step) granted ss news cat now lines =
           lines_on step granted (begun_so k ss p n) (begun_news Fresh p input k n news) cat
           (begins_so E A G Here input said received k now (fresh_root p k (new_root p k n)) refl (place (new_root p k n) refl) (news.root n s call rows none).0)

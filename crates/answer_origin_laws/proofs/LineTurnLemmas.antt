@@ -5,29 +5,29 @@ use Rattle.std.specs.Prelude.{IfSome}
 use Rattle.std.specs.List.{AllByRecursion}
 use Rattle.std.proofs.lemmas.List.{length-append}
 use Rattle.tran_ids.proofs.ListedLemmas.{item_is}
-use Rattle.node_rules.specs.Data.{BranchId, Durable, Live, Place, Post, Stmt}
+use Rattle.node_rules.specs.Data.{BranchId, Durable, Live, Post, Stmt}
 use Rattle.node_rules.specs.Data.kinds
 use Rattle.node_rules.specs.declared.session.PendingCall.TheVariants as pending
 use Rattle.node_rules.specs.declared.work.Going.{Going}
 use Rattle.node_rules.specs.declared.work.Work.{Work}
 use Rattle.node_rules.specs.Inputs.{IsCall, IsSession}
 use Rattle.session_tree.specs.Live.{children_of}
-use Rattle.node_rules.specs.NodeState.{NodeState, Branch, Deed, live_id, live_at}
+use Rattle.node_rules.specs.NodeState.{NodeState, Branch, live_id, live_at}
 use Rattle.node_rules.specs.LiveBranches.{EachLive}
 use Rattle.node_rules.specs.Names.{Behind, named_by, ref_of, passed_on, target_of}
 use Rattle.node_rules.specs.Sessions.{session_at}
-use Rattle.node_rules.specs.Turn.{turn_of, heard, deed_of}
+use Rattle.node_rules.specs.Turn.{turn_of, heard}
 use Rattle.node_rules.proofs.LiveLemmas.{each_same}
 use Rattle.node_rules.proofs.Steps as steps
 use Rattle.node_rules.proofs.Steps.{Step, Asked}
 use Rattle.node_rules.proofs.HeardLemmas.{sessions_heard}
-use Rattle.run_rules.specs.Births.{Born, births_of, born_at}
+use Rattle.run_rules.specs.Births.{Born, born_at}
 use Rattle.run_base_laws.specs.BirthLaws.{Began, LiveIs, GoesSo}
 use Rattle.run_rules.specs.Data.{Turn, Happening}
 use Rattle.run_rules.specs.Data.happenings
-use Rattle.run_rules.specs.Facts.{Facts, place_at, node_at, records_at, facts_after}
+use Rattle.run_rules.specs.Facts.{Facts, place_at, node_at, records_at}
 use Rattle.run_base_laws.specs.InTurnLaws.{packet_post, said_in, newest_exec, GoesOn}
-use Rattle.run_rules.specs.Lawful.{MayHappen, Comes, History, IsLawfulRun}
+use Rattle.run_rules.specs.Lawful.{Comes, History, IsLawfulRun}
 use Rattle.run_base_laws.specs.RunEvents.{events_of}
 use Rattle.run_base_laws.proofs.BirthLemmas.{news_of}
 use Rattle.run_base_laws.proofs.BirthRunLemmas.{StandBorn, run_births, messages_are_of_neighbors, nodes_name_the_born}
@@ -49,8 +49,8 @@ use Rattle.run_base_laws.proofs.RestRunLemmas.{NodeRests, heard_rests, free_by, 
 use Rattle.run_base_laws.proofs.RootLemmas.{SessionsFit}
 use Rattle.run_base_laws.proofs.SaidPostLemmas.{unborn_silent}
 use Rattle.run_base_laws.proofs.StoredLemmas.{records_are_kept}
-use Rattle.tree_laws.proofs.PrefixLemmas.{so_far, f_at}
-use Rattle.tree_site_laws.proofs.TimeLemmas.{Part, part_on, part_lawful, may_of}
+use Rattle.tree_laws.proofs.PrefixLemmas.{f_at}
+use Rattle.tree_laws.proofs.TimeLemmas.{part_on}
 use Rattle.tree_trail_laws.proofs.CallLemmas.{call_free}
 use Rattle.answer_origin_laws.proofs.CatalogLemmas.{extends_same, catalog, catalog_on}
 use Rattle.answer_origin_laws.proofs.GivenLemmas.{GivenLast, CalledLast, last_soon, still_known}
@@ -62,6 +62,7 @@ use Rattle.answer_origin_laws.proofs.NameLemmas.{OneCatalog, catalog_kept}
 use Rattle.answer_origin_laws.proofs.NoCallLemmas.{IsNoCall}
 use Rattle.answer_origin_laws.proofs.OpenSentLemmas.{opened_sent}
 use Rattle.answer_origin_laws.proofs.TurnTaleLemmas as tales
+use Rattle.tree_laws.proofs.AtTurn.{at_turn}
 
 module _ (t : History) (whole : IsLawfulRun t) where
   -- the live branches of a node
@@ -71,50 +72,13 @@ module _ (t : History) (whole : IsLawfulRun t) where
   abbrev pub LinesAt : List Happening → Facts → Type 0
   LinesAt hs f = (n : ℕ) (k : NodeState) → node_at f n ≡ Some k → LinesOf hs n (catalog t whole hs n) (said_in f) k
 
-  abbrev pub Stand : List Happening → Type 0
-  Stand hs = LinesAt hs (f_at t hs)
+  abbrev pub BranchStatus : List Happening → Type 0
+  BranchStatus hs = LinesAt hs (f_at t hs)
 
   -- ---- a turn
 
-  module _ (hs : List Happening) (u : Turn) (rest : List Happening) (is : hs ++ happenings.Turn u ∷ rest ≡ t.trace) (now : Stand hs) where
-    abbrev hs1 : List Happening
-    hs1 = hs ++ happenings.Turn u ∷ []
-
-    part0 : Part t whole hs
-    part0 = record { rest = happenings.Turn u ∷ rest; is = is }
-
-    part1 : Part t whole hs1
-    part1 = part_on t whole hs (happenings.Turn u) rest is
-
-    abbrev s0 : History
-    s0 = so_far t hs
-
-    lawful0 : IsLawfulRun s0
-    lawful0 = part_lawful t whole hs part0
-
-    abbrev f0 : Facts
-    f0 = f_at t hs
-
-    abbrev f1 : Facts
-    f1 = facts_after t.places t.commands f0 (happenings.Turn u)
-
-    abbrev may : MayHappen t.places t.commands f0 (happenings.Turn u)
-    may = may_of t whole hs (happenings.Turn u) rest is
-
-    abbrev k : NodeState
-    k = may.0
-
-    abbrev p : Place
-    p = place_at t.places u.node
-
-    abbrev d : Deed
-    d = deed_of p k u.input
-
-    abbrev said : List Post
-    said = said_in f0
-
-    abbrev bs0 : List Born
-    bs0 = births_of s0
+  module _ (hs : List Happening) (u : Turn) (rest : List Happening) (is : hs ++ happenings.Turn u ∷ rest ≡ t.trace) (now : BranchStatus hs) where
+    open at_turn t whole hs u rest is use {after as hs1, part as part0, part_after as part1, s as s0, lawful as lawful0, f as f0, g as f1, may, k, p, d, said, bs as bs0}
 
     abbrev D0 : Durable
     D0 = catalog t whole hs u.node

@@ -8,6 +8,7 @@ use Rattle.node_rules.specs.Data.{BranchId, Post}
 use Rattle.node_rules.specs.Words.{same, numbered}
 use Rattle.run_rules.specs.Trail.{is_reply}
 use Rattle.answer_origin_laws.proofs.TaleLemmas.{NoReply}
+use Rattle.tree_laws.proofs.BeyondLemmas.{or_none as or_false}
 
 pub numbered_map : {A B : Type 0} (f : A → B) (xs : List A) (i : ℕ) → numbered (map f xs) i ≡ option_map f (numbered xs i)
 numbered_map f xs zero = refl
@@ -36,11 +37,6 @@ pub alone : {A : Type 0} (y : A) (n : ℕ) (x : A) → numbered (y ∷ []) n ≡
 alone y zero x is = absurd cc
 alone y (suc zero) x is = let it : Some y ≡ Some x = is in let here : y ≡ x = cc in (refl, here)
 alone y (suc (suc n)) x is = absurd cc
-
--- a Reply of a branch that says none
-or_false : (p q : Bool) → (p || q) ≡ false → (p ≡ false) × (q ≡ false)
-or_false true q is = absurd cc
-or_false false q is = (refl, is)
 
 pub no_reply_there : (b : BranchId) (xs : List Post) (n : ℕ) (x : Post) → NoReply b xs → numbered xs n ≡ Some x → x.from ≡ b → is_reply x.kind ≡ true → ⊥
 no_reply_there b xs zero x none is from reply = absurd cc

@@ -26,7 +26,7 @@ use Rattle.run_rules.proofs.ListLemmas.{all_append, all_weaker}
 use Rattle.run_base_laws.proofs.OwnLemmas.{all_found}
 use Rattle.run_base_laws.proofs.SaidPostLemmas.{posts_of, said_after}
 use Rattle.tree_laws.proofs.PrefixLemmas.{so_far, f_at, one_on, births_join}
-use Rattle.tree_site_laws.proofs.TimeLemmas.{Part, part_lawful, may_of, keep_on}
+use Rattle.tree_laws.proofs.TimeLemmas.{Part, part_lawful, may_of, keep_on}
 use Rattle.answer_origin_laws.proofs.SentLemmas.{came_sent}
 use Rattle.answer_origin_laws.proofs.TurnTaleLemmas as tales
 

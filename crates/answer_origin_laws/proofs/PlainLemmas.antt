@@ -13,7 +13,7 @@ use Rattle.node_rules.specs.declared.session.PendingCall.TheVariants as pending
 use Rattle.node_rules.specs.declared.session.Session.{Session}
 use Rattle.node_rules.specs.Words.{item_at, put_item, drop_item}
 use Rattle.node_rules.specs.Inputs.{Came}
-use Rattle.node_rules.specs.NodeState.{NodeState, Branch, Deed, live_id, work_id, work_or, branch_at, to_one, to_each}
+use Rattle.node_rules.specs.NodeState.{NodeState, Branch, TurnDraft, live_id, work_id, work_or, branch_at, to_one, to_each}
 use Rattle.node_rules.specs.LiveBranches.{works_of, EachLive}
 use Rattle.node_rules.specs.Names.{passed_on}
 use Rattle.node_rules.specs.Statement.{ran, after_run, answer_of_run}
@@ -52,7 +52,7 @@ module _ (k0 : NodeState) (p : Place) (input : Input) (no_exec : (from to : Bran
   abbrev pub HadNone : Born → Type 0
   HadNone x = item_at work_id k0.works x.me ≡ None
 
-  abbrev pub Leaves : Deed → Type 0
+  abbrev pub Leaves : TurnDraft → Type 0
   Leaves d = EachLive Was d.after.lives d.after.works × AllSay IsMute d.says
 
   module _ (k : NodeState) (now : EachLive Was k.lives k.works) where
@@ -115,7 +115,7 @@ module _ (k0 : NodeState) (p : Place) (input : Input) (no_exec : (from to : Bran
 
   -- ---- every step
 
-  pub plain_on : {k : NodeState} {d : Deed} → Step p input k d → SessionsFit k → News HadNone p input k → EachLive Was k.lives k.works → Leaves d
+  pub plain_on : {k : NodeState} {d : TurnDraft} → Step p input k d → SessionsFit k → News HadNone p input k → EachLive Was k.lives k.works → Leaves d
   plain_on (steps.Begins {k = k} n s call rows range none step) ss news now =
       plain_on step (begun_so k ss p n) (begun_news HadNone p input k n news) (each_begun Was Was k.lives k.works now (fresh_root p k (new_root p k n)) (λ below. absurd (below refl)) (λ y v live any is. is))
   plain_on (steps.Pends {k = k} n l given call has live code step) ss news now = plain_on step (pends_so k ss n pending.Commit) (pends_news HadNone p input k n given call news) now

@@ -4,21 +4,21 @@ use Rattle.std.specs.List.{AllByRecursion, list_any}
 use Rattle.std.proofs.lemmas.Bool.{cases_eq}
 use Rattle.std.proofs.lemmas.List.{length-map, length-append}
 use Rattle.tran_ids.proofs.ListedLemmas.{item_is}
-use Rattle.node_rules.specs.Data.{Answer, BranchId, Calls, Kind, Live, Msg, Place, Post}
+use Rattle.node_rules.specs.Data.{Answer, BranchId, Calls, Kind, Live, Msg, Post}
 use Rattle.node_rules.specs.Data.kinds
 use Rattle.node_rules.specs.Words.{same, numbered, item_at, is_item_of}
 use Rattle.node_rules.specs.Inputs.{Came}
-use Rattle.node_rules.specs.NodeState.{NodeState, Deed, live_id, work_or, live_at, post}
+use Rattle.node_rules.specs.NodeState.{NodeState, live_id, work_or, live_at, post}
 use Rattle.node_rules.specs.LiveBranches.{works_of}
-use Rattle.node_rules.specs.Turn.{turn_of, heard, deed_of, stamped}
+use Rattle.node_rules.specs.Turn.{turn_of, stamped}
 use Rattle.link_session.specs.Calls.{no_calls}
 use Rattle.run_rules.specs.Births.{births_of, born_at}
 use Rattle.run_rules.specs.Branches.{Run, Seen, Trail, Origin, seen_id, seen_at, newly_seen, origin_of, origin_at}
 use Rattle.run_rules.specs.Data.{Turn, Happening}
 use Rattle.run_rules.specs.Data.happenings
-use Rattle.run_rules.specs.Facts.{Facts, place_at, node_at, outcome_at, kept_after, facts_after}
+use Rattle.run_rules.specs.Facts.{Facts, node_at, outcome_at, kept_after}
 use Rattle.run_base_laws.specs.InTurnLaws.{post_of, packet_post, said_in}
-use Rattle.run_rules.specs.Lawful.{MayHappen, IsOwed, History, IsLawfulRun}
+use Rattle.run_rules.specs.Lawful.{IsOwed, History, IsLawfulRun}
 use Rattle.run_rules.specs.Runs.{is_accepted}
 use Rattle.run_rules.specs.Trail.{is_reply, answers, ended_by, origins_of, trail_after}
 use Rattle.run_rules.proofs.AtNodeLemmas.{turn_elsewhere}
@@ -27,8 +27,7 @@ use Rattle.run_base_laws.proofs.InTurnRunLemmas.{came_here}
 use Rattle.run_rules.proofs.ListLemmas.{all_weaker, all_append}
 use Rattle.run_base_laws.proofs.OwnLemmas.{all_found}
 use Rattle.run_base_laws.proofs.SaidPostLemmas.{posts_back, said_after}
-use Rattle.tree_laws.proofs.PrefixLemmas.{so_far, f_at, one_on}
-use Rattle.tree_site_laws.proofs.TimeLemmas.{Part, part_lawful, may_of}
+use Rattle.tree_laws.proofs.PrefixLemmas.{one_on}
 use Rattle.tree_trail_laws.specs.LowerLaws.{IsToldLive}
 use Rattle.tree_trail_laws.proofs.ChildRunLemmas.{tells_at}
 use Rattle.tree_trail_laws.proofs.ChildStepLemmas.{Grows, IsOpened}
@@ -36,13 +35,15 @@ use Rattle.tree_trail_laws.proofs.ChildTurnLemmas as kids
 use Rattle.tree_trail_laws.proofs.LowerRunLemmas.{lower_at}
 use Rattle.tree_trail_laws.proofs.MomentLemmas.{tr_at, trail_one_on}
 use Rattle.tree_trail_laws.proofs.PlanLemmas.{find_more}
-use Rattle.tree_trail_laws.proofs.SeenLemmas.{begun, brings, turned, seen_begun, seen_turned}
+use Rattle.tree_trail_laws.proofs.SeenLemmas.{brings, turned, seen_begun, seen_turned}
 use Rattle.answer_origin_laws.proofs.BroughtLemmas.{taken_still, said_on, ends_none, origins_low, origin_last}
 use Rattle.answer_origin_laws.proofs.NumberLemmas.{numbered_append, all_numbered, alone, no_reply_there, unspoken}
 use Rattle.answer_origin_laws.proofs.TaleLemmas.{is_good_reply, NoReply, Tale, calls0, IsGood}
 use Rattle.answer_origin_laws.proofs.TurnTaleLemmas as tales
 use Rattle.answer_origin_laws.proofs.ReplyTurnLemmas as told
 use Rattle.answer_origin_laws.proofs.SentLemmas.{more_found, none_at}
+use Rattle.tree_laws.proofs.AtTurn.{at_turn}
+use Rattle.tree_trail_laws.proofs.AtTrail.{at_trail}
 
 module _ (t : History) (whole : IsLawfulRun t) (Ans : BranchId → ℕ → Answer → Run → Type 0) where
   abbrev AreTold : Calls → BranchId → Seen → Type 0
@@ -55,47 +56,8 @@ module _ (t : History) (whole : IsLawfulRun t) (Ans : BranchId → ℕ → Answe
   RepliesOf = told.RepliesOf t whole Ans
 
   module _ (runs_so : told.RunsSo t whole Ans) (passes_so : told.PassesSo t whole Ans) (hs : List Happening) (u : Turn) (rest : List Happening) (is : hs ++ happenings.Turn u ∷ rest ≡ t.trace) (now : told.Holds t whole Ans hs) where
-    abbrev hs1 : List Happening
-    hs1 = hs ++ happenings.Turn u ∷ []
-
-    part0 : Part t whole hs
-    part0 = record { rest = happenings.Turn u ∷ rest; is = is }
-
-    abbrev s0 : History
-    s0 = so_far t hs
-
-    lawful0 : IsLawfulRun s0
-    lawful0 = part_lawful t whole hs part0
-
-    abbrev f0 : Facts
-    f0 = f_at t hs
-
-    abbrev f1 : Facts
-    f1 = facts_after t.places t.commands f0 (happenings.Turn u)
-
-    abbrev tr0 : Trail
-    tr0 = tr_at t hs
-
-    abbrev tr1 : Trail
-    tr1 = trail_after t.places f0 tr0 (happenings.Turn u)
-
-    abbrev may : MayHappen t.places t.commands f0 (happenings.Turn u)
-    may = may_of t whole hs (happenings.Turn u) rest is
-
-    abbrev k : NodeState
-    k = may.0
-
-    abbrev kk : NodeState
-    kk = heard k u.input
-
-    abbrev p : Place
-    p = place_at t.places u.node
-
-    abbrev d : Deed
-    d = deed_of p k u.input
-
-    abbrev tr_begun : Trail
-    tr_begun = begun t.places f0 tr0 u
+    open at_turn t whole hs u rest is use {after as hs1, part as part0, s as s0, lawful as lawful0, f as f0, g as f1, may, k, heard_k as kk, p, d, said as said0}
+    open at_trail t hs u use {tr as tr0, tr_on as tr1, begun_tr as tr_begun}
 
     abbrev origin : Option Run
     origin = (brings t.places f0 tr0 u).origin
@@ -226,9 +188,6 @@ module _ (t : History) (whole : IsLawfulRun t) (Ans : BranchId → ℕ → Answe
             subst (λ i. AreTold (works_of i.works l.me).came l.me s) it (calls_after cut l (subst (λ i. live_at i l.me ≡ Some l) (sym it) live) below s at)
 
     -- ---- Replies
-
-    abbrev said0 : List Post
-    said0 = said_in f0
 
     how_many : length f0.net.packets ≡ length said0
     how_many = sym (length-map f0.net.packets packet_post)

@@ -23,7 +23,7 @@ use Rattle.run_base_laws.proofs.EventsStandLemmas.{ids_name_their_node}
 use Rattle.run_base_laws.proofs.OwnLemmas.{all_found}
 use Rattle.run_base_laws.proofs.SaidPostLemmas.{said_after}
 use Rattle.tree_laws.proofs.PrefixLemmas.{so_far, f_at, one_on}
-use Rattle.tree_site_laws.proofs.TimeLemmas.{Part, part_lawful, keep_on}
+use Rattle.tree_laws.proofs.TimeLemmas.{Part, part_lawful, keep_on}
 use Rattle.tree_trail_laws.specs.ChildLaws.{trail_at}
 use Rattle.tree_trail_laws.proofs.LowerRunLemmas.{lower_at}
 use Rattle.tree_trail_laws.proofs.MomentLemmas.{tr_at, trail_one_on}

@@ -3,35 +3,36 @@ use Rattle.std.proofs.Common.{◌≡◌, ◌≢◌, ℕ, ◌<◌, ◌≤◌, ◌
 use Rattle.std.specs.List.{AllByRecursion, list_any}
 use Rattle.tran_ids.proofs.ListedLemmas.{item_is}
 use Rattle.redo_record.specs.Durable.{durable}
-use Rattle.node_rules.specs.Data.{Stmt, Answer, Advice, BranchId, Calls, Edge, Kind, Live, Msg, Place, Post, ReplyFields}
+use Rattle.node_rules.specs.Data.{Stmt, Answer, Advice, BranchId, Calls, Edge, Kind, Live, Msg, Post, ReplyFields}
 use Rattle.node_rules.specs.declared.session.Finished.{Finished}
 use Rattle.node_rules.specs.Data.kinds
 use Rattle.node_rules.specs.Words.{same, numbered}
 use Rattle.node_rules.specs.Inputs.{Came}
-use Rattle.node_rules.specs.NodeState.{NodeState, Branch, Deed, live_at, post}
+use Rattle.node_rules.specs.NodeState.{NodeState, Branch, live_at, post}
 use Rattle.node_rules.specs.LiveBranches.{works_of}
 use Rattle.node_rules.specs.Names.{A_table, named_by, ref_of}
-use Rattle.node_rules.specs.Turn.{turn_of, heard, deed_of, stamped}
+use Rattle.node_rules.specs.Turn.{turn_of, heard, stamped}
 use Rattle.node_rules.proofs.LiveLemmas.{branch_parts}
 use Rattle.node_rules.proofs.Steps.{Is_answered}
 use Rattle.run_rules.specs.Branches.{Run, Seen, Trail, Origin, seen_id, seen_at, origin_at, is_root_of}
 use Rattle.run_rules.specs.Data.{Took, Turn, Happening}
 use Rattle.run_rules.specs.Data.happenings
-use Rattle.run_rules.specs.Facts.{Facts, place_at, node_at, records_at, served, outcome_at, facts_after}
+use Rattle.run_rules.specs.Facts.{Facts, node_at, records_at, served, outcome_at}
 use Rattle.run_base_laws.specs.InTurnLaws.{said_in}
-use Rattle.run_rules.specs.Lawful.{MayHappen, IsOwed, History, IsLawfulRun}
+use Rattle.run_rules.specs.Lawful.{IsOwed, History, IsLawfulRun}
 use Rattle.run_rules.specs.Runs.{run_in, ended_answer, replied_answer, answer_or, answered_by, is_accepted}
-use Rattle.run_rules.specs.Trail.{is_reply, answers, ended_by, with_begun, trail_after}
+use Rattle.run_rules.specs.Trail.{is_reply, answers, ended_by, with_begun}
 use Rattle.run_base_laws.proofs.StoredLemmas.{records_are_kept}
-use Rattle.tree_laws.proofs.PrefixLemmas.{so_far, f_at}
-use Rattle.tree_site_laws.proofs.TimeLemmas.{Part, part_lawful, may_of}
+use Rattle.tree_laws.proofs.PrefixLemmas.{f_at}
 use Rattle.tree_trail_laws.proofs.MomentLemmas.{tr_at}
-use Rattle.tree_trail_laws.proofs.SeenLemmas.{begun, brings, turned}
+use Rattle.tree_trail_laws.proofs.SeenLemmas.{brings, turned}
 use Rattle.answer_origin_laws.proofs.BroughtLemmas.{taken_still, taken_new, said_on, says_one, ends_none, runs, again_brings, run_is, run_brings, reply_brings}
 use Rattle.answer_origin_laws.proofs.NameLemmas.{catalog_kept, same_names}
 use Rattle.answer_origin_laws.proofs.TaleLemmas.{NoReply, Tale, Stays, Says_again, Takes, Answers, Hears, calls0, came_one}
 use Rattle.answer_origin_laws.proofs.TurnTaleLemmas as tales
 use Rattle.answer_origin_laws.proofs.SentLemmas.{came_sent}
+use Rattle.tree_laws.proofs.AtTurn.{at_turn}
+use Rattle.tree_trail_laws.proofs.AtTrail.{at_trail}
 
 module _ (t : History) (whole : IsLawfulRun t) (Ans : BranchId → ℕ → Answer → Run → Type 0) where
   -- a run that answers at once answers so
@@ -66,47 +67,8 @@ module _ (t : History) (whole : IsLawfulRun t) (Ans : BranchId → ℕ → Answe
     pub calls : CallsOf (f_at t hs) (tr_at t hs)
 
   module _ (runs_so : RunsSo) (passes_so : PassesSo) (hs : List Happening) (u : Turn) (rest : List Happening) (is : hs ++ happenings.Turn u ∷ rest ≡ t.trace) (now : Holds hs) where
-    abbrev hs1 : List Happening
-    hs1 = hs ++ happenings.Turn u ∷ []
-
-    part0 : Part t whole hs
-    part0 = record { rest = happenings.Turn u ∷ rest; is = is }
-
-    abbrev s0 : History
-    s0 = so_far t hs
-
-    lawful0 : IsLawfulRun s0
-    lawful0 = part_lawful t whole hs part0
-
-    abbrev f0 : Facts
-    f0 = f_at t hs
-
-    abbrev f1 : Facts
-    f1 = facts_after t.places t.commands f0 (happenings.Turn u)
-
-    abbrev tr0 : Trail
-    tr0 = tr_at t hs
-
-    abbrev tr1 : Trail
-    tr1 = trail_after t.places f0 tr0 (happenings.Turn u)
-
-    abbrev may : MayHappen t.places t.commands f0 (happenings.Turn u)
-    may = may_of t whole hs (happenings.Turn u) rest is
-
-    abbrev k : NodeState
-    k = may.0
-
-    abbrev kk : NodeState
-    kk = heard k u.input
-
-    abbrev p : Place
-    p = place_at t.places u.node
-
-    abbrev d : Deed
-    d = deed_of p k u.input
-
-    abbrev tr_begun : Trail
-    tr_begun = begun t.places f0 tr0 u
+    open at_turn t whole hs u rest is use {after as hs1, part as part0, s as s0, lawful as lawful0, f as f0, g as f1, may, k, heard_k as kk, p, d}
+    open at_trail t hs u use {tr as tr0, tr_on as tr1, begun_tr as tr_begun}
 
     abbrev origin : Option Run
     origin = (brings t.places f0 tr0 u).origin

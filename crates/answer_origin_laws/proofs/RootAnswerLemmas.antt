@@ -9,11 +9,11 @@ use Rattle.node_rules.specs.declared.session.Finished.{Finished}
 use Rattle.node_rules.specs.declared.session.PendingCall.TheVariants as pending
 use Rattle.node_rules.specs.declared.session.Session.{Session}
 use Rattle.node_rules.specs.Inputs.{Came, IsSession}
-use Rattle.node_rules.specs.NodeState.{NodeState, Branch, Outcome, live_id, branch_at}
+use Rattle.node_rules.specs.NodeState.{NodeState, Branch, TurnOutput, live_id, branch_at}
 use Rattle.node_rules.specs.Calls.{answered_sessions, answer_ends, reply_of, reply_by, hears_reply, heard_answer, heard_sessions, is_gone}
 use Rattle.node_rules.specs.Sessions.{session_at, with_call}
 use Rattle.node_rules.specs.Refusals.{dtx}
-use Rattle.node_rules.specs.Turn.{Stand, Is_live, Is_kept, Is_gone, stand_of, reply_turn, turn_of, heard, deed_of}
+use Rattle.node_rules.specs.Turn.{BranchStatus, Is_live, Is_kept, Is_gone, status_of, reply_turn, turn_of, heard, draft_of}
 use Rattle.node_rules.specs.Words.{one}
 use Rattle.node_rules.proofs.StandLemmas.{StandsSo, stands_so, live_so}
 use Rattle.node_rules.proofs.Steps.{Is_answered}
@@ -21,14 +21,13 @@ use Rattle.run_rules.specs.Branches.{Run, origin_at}
 use Rattle.run_rules.specs.Data.{Took, Turn, Happening}
 use Rattle.run_rules.specs.Data.happenings
 use Rattle.run_rules.specs.Facts.{place_at, served, outcome_at}
-use Rattle.run_rules.specs.Lawful.{MayHappen, History, IsLawfulRun}
+use Rattle.run_rules.specs.Lawful.{History, IsLawfulRun}
 use Rattle.run_rules.specs.Runs.{is_accepted}
 use Rattle.run_base_laws.proofs.EventsStandLemmas.{ids_name_their_node}
 use Rattle.run_base_laws.proofs.RestLemmas.{branch_root}
 use Rattle.run_base_laws.proofs.RestRunLemmas.{NodeRests, heard_rests, run_roots}
 use Rattle.run_base_laws.proofs.OwnLemmas.{all_found}
 use Rattle.tree_laws.proofs.PrefixLemmas.{so_far, f_at}
-use Rattle.tree_site_laws.proofs.TimeLemmas.{Part, part_lawful, may_of}
 use Rattle.tree_trail_laws.proofs.MomentLemmas.{tr_at, by_moment}
 use Rattle.answer_origin_laws.specs.LeadLaws.{AnsweredBy, CallAnsweredBy, IsToldFor, EndsAsReplied, CallsEndAsReplied}
 use Rattle.tree_trail_laws.proofs.SeenLemmas.{begun}
@@ -38,6 +37,7 @@ use Rattle.answer_origin_laws.proofs.RootToldLemmas.{root_brought}
 use Rattle.answer_origin_laws.proofs.LeadLemmas.{answers_at, root_heard}
 use Rattle.answer_origin_laws.proofs.ReplyRunLemmas.{moment_at}
 use Rattle.answer_origin_laws.proofs.SentLemmas.{came_sent}
+use Rattle.tree_laws.proofs.AtTurn.{at_turn}
 
 -- an accepted answer is what the Reply said
 heard_same : (l : Live) (link : List ℕ) (said a : Answer) → heard_answer l link said ≡ a → is_accepted (Some a) ≡ true → said ≡ a
@@ -50,17 +50,7 @@ heard_same l link said a is good = by (is_none l.parent && is_gone said) is
 module _ (t : History) (whole : IsLawfulRun t) (hs : List Happening) (u : Turn) (rest : List Happening) (is : hs ++ happenings.Turn u ∷ rest ≡ t.trace)
     (took : Took) (took_is : u.took ≡ Some took) (from to : BranchId) (call : ℕ) (weight : Option ℕ) (count : ℕ) (said : Answer) (came : Came u.input from to (kinds.Reply call weight count said))
     (session : ℕ) (a : Answer) (good : is_accepted (Some a) ≡ true) where
-  part0 : Part t whole hs
-  part0 = record { rest = happenings.Turn u ∷ rest; is = is }
-
-  lawful0 : IsLawfulRun (so_far t hs)
-  lawful0 = part_lawful t whole hs part0
-
-  abbrev may : MayHappen t.places t.commands (f_at t hs) (happenings.Turn u)
-  may = may_of t whole hs (happenings.Turn u) rest is
-
-  abbrev k : NodeState
-  k = may.0
+  open at_turn t whole hs u rest is use {part as part0, lawful as lawful0, may, k}
 
   abbrev m : Msg
   m = record { from = from; to = to; scn = came.scn; kind = kinds.Reply call weight count said }
@@ -137,21 +127,21 @@ module _ (t : History) (whole : IsLawfulRun t) (hs : List Happening) (u : Turn) 
   by_reply x me found (Some ie) waits more ended =
       let first = first_ended x ie.0 ie.1 x.live.parent more ended in root_result x me found ie.0 ie.1 waits first.0 first.1 first.2
 
-  by_stand : (st : Stand) → StandsSo kk to st → (more : List Finished) → (reply_turn kk from call weight count said st).ended ≡ (record { session = session; answer = a }) ∷ more → Result (reply_turn kk from call weight count said st).after.sessions
+  by_stand : (st : BranchStatus) → StandsSo kk to st → (more : List Finished) → (reply_turn kk from call weight count said st).ended ≡ (record { session = session; answer = a }) ∷ more → Result (reply_turn kk from call weight count said st).after.sessions
   by_stand (Is_live x) so more ended = by_reply x so.0 so.1 (reply_of x from call) refl more ended
   by_stand (Is_kept s) so more ended = absurd cc
   by_stand Is_gone so more ended = absurd cc
 
-  pub ends_there : (more : List Finished) (o : Outcome) → outcome_at t.places (f_at t hs) u ≡ Some o → o.ended ≡ (record { session = session; answer = a }) ∷ more
+  pub ends_there : (more : List Finished) (o : TurnOutput) → outcome_at t.places (f_at t hs) u ≡ Some o → o.ended ≡ (record { session = session; answer = a }) ∷ more
       → (r : Run) × (root : BranchId) × (origin_at (tr_at t hs) took.number ≡ Some r) × CallAnsweredBy t (tr_at t hs).moment u.node session root a r × (u.cut ≡ false → IsToldFor t.places (f_at t hs) (tr_at t hs) u session root r)
   unfolding turn_of
   ends_there more o outcome ended =
       let p : Place = place_at t.places u.node in
       let both : Some (turn_of p k u.input) ≡ Some o = sym (ap (served p u.input) may.1.up) ∙ outcome in
       let one_outcome : turn_of p k u.input ≡ o = cc in
-      let its : (deed_of p k u.input).ended ≡ (record { session = session; answer = a }) ∷ more = ap (λ (y : Outcome). y.ended) one_outcome ∙ ended in
-      let found = by_stand (stand_of kk to) (stands_so kk to) more (ap (λ input. (deed_of p k input).ended) (sym came.is) ∙ its) in
-      let after : Freed (deed_of p k u.input).after.sessions session found.1 = subst (λ input. Freed (deed_of p k input).after.sessions session found.1) (sym came.is) found.5 in (
+      let its : (draft_of p k u.input).ended ≡ (record { session = session; answer = a }) ∷ more = ap (λ (y : TurnOutput). y.ended) one_outcome ∙ ended in
+      let found = by_stand (status_of kk to) (stands_so kk to) more (ap (λ input. (draft_of p k input).ended) (sym came.is) ∙ its) in
+      let after : Freed (draft_of p k u.input).after.sessions session found.1 = subst (λ input. Freed (draft_of p k input).after.sessions session found.1) (sym came.is) found.5 in (
         found.0,
         found.1,
         found.2,

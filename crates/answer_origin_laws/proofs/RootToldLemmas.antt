@@ -4,7 +4,7 @@ use Rattle.std.specs.List.{list_any}
 use Rattle.std.proofs.lemmas.Bool.{and_parts, and_from, or_right}
 use Rattle.node_rules.specs.Data.{Answer, Msg, Place}
 use Rattle.node_rules.specs.declared.session.Finished.{Finished}
-use Rattle.node_rules.specs.NodeState.{Outcome}
+use Rattle.node_rules.specs.NodeState.{TurnOutput}
 use Rattle.node_rules.specs.Words.{same}
 use Rattle.run_rules.specs.Branches.{Exit, Seen, Trail, is_live, is_live_at, is_root_of, root_at}
 use Rattle.run_rules.specs.Data.{Turn}
@@ -21,7 +21,7 @@ mapped_find p g (x ∷ xs) y is = by (p (g x)) refl is (mapped_find p g xs y)
     by true passes at later = let it : Some (g x) ≡ Some y = at in let here : g x ≡ y = cc in (x, here, passes)
     by false fails at later = later at
 
-module _ (places : List Place) (f : Facts) (tr : Trail) (u : Turn) (o : Outcome) (outcome : outcome_at places f u ≡ Some o) (session : ℕ) (a : Answer) (more : List Finished)
+module _ (places : List Place) (f : Facts) (tr : Trail) (u : Turn) (o : TurnOutput) (outcome : outcome_at places f u ≡ Some o) (session : ℕ) (a : Answer) (more : List Finished)
     (ended : o.ended ≡ (record { session = session; answer = a }) ∷ more) where
   abbrev made : Seen → Seen
   made s = turned places f tr u s

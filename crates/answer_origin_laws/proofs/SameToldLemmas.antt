@@ -5,7 +5,7 @@ use Rattle.std.proofs.lemmas.Bool.{cond_both}
 use Rattle.node_rules.specs.Data.{BranchId, Input}
 use Rattle.node_rules.specs.Data.inputs
 use Rattle.node_rules.specs.Data.stmts
-use Rattle.node_rules.specs.NodeState.{NodeState, Outcome}
+use Rattle.node_rules.specs.NodeState.{NodeState, TurnOutput}
 use Rattle.node_rules.specs.Sessions.{session_at}
 use Rattle.run_rules.specs.Cuts.{Cut_by, By_nothing, By_strike, By_point, appends_if, cut_appends, cut_by, arms_point, arms, turn_appends}
 use Rattle.run_rules.specs.Data.{Took}
@@ -49,7 +49,7 @@ module _ (t : RunReport) where
   took_told None = same_told t
   took_told (Some took) = record { calls = refl; next_call = refl; page = refl; lines = refl }
 
-pub turn_told : (t : RunReport) (n : ℕ) (input : Input) (k : Option NodeState) (o : Option Outcome) → SameTold t (turn_appends t n input k o)
+pub turn_told : (t : RunReport) (n : ℕ) (input : Input) (k : Option NodeState) (o : Option TurnOutput) → SameTold t (turn_appends t n input k o)
 turn_told t n input (Some k) (Some o) =
     let u : RunReport = cut_appends t n (is_some o.wrote) (cut_by t n k input o) in then_told t u (arms u n k input) (cut_told t n (is_some o.wrote) (cut_by t n k input o)) (arms_told u n k input)
 turn_told t n input None o = same_told t
@@ -62,7 +62,7 @@ pub record ToldBefore (t u : RunReport) : Type 0 where
   pub page : u.page ≡ t.page
   pub lines : u.lines ≡ t.lines
 
-pub before_told : (t : RunReport) (n : ℕ) (input : Input) (k : Option NodeState) (o : Option Outcome) (took : Option Took) → (is_call input ≡ false → t.next_call ≡ None)
+pub before_told : (t : RunReport) (n : ℕ) (input : Input) (k : Option NodeState) (o : Option TurnOutput) (took : Option Took) → (is_call input ≡ false → t.next_call ≡ None)
     → ToldBefore t (without_following (delivered_more (turn_appends t n input k o) took) input)
 before_told t n input k o took quiet =
     let u : RunReport = turn_appends t n input k o in

@@ -11,7 +11,7 @@ use Rattle.node_rules.specs.Data.kinds
 use Rattle.node_rules.specs.Words.{same, item_at}
 use Rattle.node_rules.specs.Inputs.{Came}
 use Rattle.link_session.specs.Calls.{taken}
-use Rattle.node_rules.specs.NodeState.{NodeState, Branch, Deed, live_id, work_id, post}
+use Rattle.node_rules.specs.NodeState.{NodeState, Branch, TurnDraft, live_id, work_id, post}
 use Rattle.node_rules.specs.LiveBranches.{works_of, EachLive}
 use Rattle.node_rules.specs.Names.{A_table, named_by, ref_of}
 use Rattle.node_rules.proofs.Steps.{Is_answered}
@@ -74,7 +74,7 @@ module _ (k : NodeState) (input : Input) where
   abbrev pub AreGood : List Live → List Post → Type 0
   AreGood ls says = AllByRecursion (IsGood ls) says
 
-  abbrev pub Tales : Deed → Type 0
+  abbrev pub Tales : TurnDraft → Type 0
   Tales d = EachLive (Told d.says d.ended) d.after.lives d.after.works × AreGood d.after.lives d.says
 
 -- messages without Replies

@@ -13,6 +13,7 @@ use Rattle.run_rules.specs.Lines.{is_reached, says_node, is_down, call_line_of, 
 use Rattle.run_rules.specs.Calls.{is_call_at, call_at, without_call, change_call, is_complete, second_of, call_follows, call_ends, ends_or_follows, finished_call, finished, stopped_calls}
 use Rattle.run_rules.proofs.ListLemmas.{all_filter}
 use Rattle.answer_origin_laws.proofs.CallAtLemmas.{find_kept, find_left}
+use Rattle.run_ready_laws.proofs.PendingLemmas.{found_so as found_holds}
 
 -- ---- lists
 
@@ -28,14 +29,6 @@ module _ (p : Call → Bool) (g : Call → Call) where
           (x, ap (λ b. if b then Some x else find p xs) is, same)
       by false is later =
           let more = later (sym (ap (λ b. if b then Some (g x) else find p (map g xs)) (all.0 ∙ is)) ∙ at) in (more.0, ap (λ b. if b then Some x else find p xs) is ∙ more.1, more.2)
-
-found_holds : (P : Call → Type 0) (p : Call → Bool) (xs : List Call) (c : Call) → AllByRecursion P xs → find p xs ≡ Some c → P c × (p c ≡ true)
-found_holds P p [] c all at = absurd cc
-found_holds P p (x ∷ xs) c all at = by (p x) refl at (found_holds P p xs c all.1)
-  where
-    by : (q : Bool) → p x ≡ q → (if q then Some x else find p xs) ≡ Some c → (find p xs ≡ Some c → P c × (p c ≡ true)) → P c × (p c ≡ true)
-    by true is here later = let it : Some x ≡ Some c = here in let same : x ≡ c = cc in (subst P same all.0, subst (λ y. p y ≡ true) same is)
-    by false is here later = later here
 
 parts_of : (n s : ℕ) (c : Call) → is_call_at n s c ≡ true → (c.node ≡ n) × (c.session ≡ s)
 parts_of n s c is = let both = and_parts (c.node == n) (c.session == s) is in (eqb-true c.node n both.0, eqb-true c.session s both.1)

@@ -6,7 +6,7 @@ use Rattle.std.proofs.lemmas.Bool.{cond_both}
 use Rattle.std.proofs.lemmas.List.{append_assoc}
 use Rattle.node_rules.specs.Data.{Answer, Input, Place, Stmt}
 use Rattle.node_rules.specs.Data.inputs
-use Rattle.node_rules.specs.NodeState.{NodeState, Outcome}
+use Rattle.node_rules.specs.NodeState.{NodeState, TurnOutput}
 use Rattle.run_rules.specs.Calls.{is_call_at, call_at, waits, waits_if_pending, after_input, finished, stopped_calls}
 use Rattle.run_rules.specs.Commands.{commits_first, has_transaction, call_of, has_call, calls_after, says_at_once}
 use Rattle.run_rules.specs.Cuts.{appends, turn_appends}
@@ -37,7 +37,7 @@ record StaysTold (t u : RunReport) : Type 0 where
   lines : u.lines ≡ t.lines
 
 -- so it is before a turn's calls end
-before_told : (t : RunReport) (n : ℕ) (input : Input) (k : Option NodeState) (o : Option Outcome) (took : Option Took) → StaysTold t (without_following (delivered_more (turn_appends t n input k o) took) input)
+before_told : (t : RunReport) (n : ℕ) (input : Input) (k : Option NodeState) (o : Option TurnOutput) (took : Option Took) → StaysTold t (without_following (delivered_more (turn_appends t n input k o) took) input)
 before_told t n input k o took =
     let u : RunReport = turn_appends t n input k o in
     let v : RunReport = delivered_more u took in
@@ -76,7 +76,7 @@ module _ (places : List Place) (asked : List Command) where
     rest : List Happening
     is : before ++ happenings.Turn turn ∷ rest ≡ hs
     uncut : turn.cut ≡ false
-    outcome : Outcome
+    outcome : TurnOutput
     comes : outcome_at places (p_at before).facts turn ≡ Some outcome
     session : ℕ
     number : ℕ
@@ -150,7 +150,7 @@ module _ (places : List Place) (asked : List Command) where
     wide : LinesFrom P f.command t
     wide = told_more hs h f.command t now.lines
 
-    module _ (o : Option Outcome) (comes : outcome_at places f u ≡ o) where
+    module _ (o : Option TurnOutput) (comes : outcome_at places f u ≡ o) where
       abbrev t1 : RunReport
       t1 = without_following (delivered_more (turn_appends t u.node u.input (node_at f u.node) o) u.took) u.input
 
@@ -166,13 +166,13 @@ module _ (places : List Place) (asked : List Command) where
       abbrev After : RunReport → Type 0
       After v = AreNamed asked v × LinesFrom P f.command v
 
-    abbrev whole_told : Option Outcome → RunReport
+    abbrev whole_told : Option TurnOutput → RunReport
     whole_told o = report_turned f.command (node_at f u.node) t u o
 
     none_too : (x y : RunReport) → x.calls ≡ y.calls → (n s : ℕ) → call_at y n s ≡ None → call_at x n s ≡ None
     none_too x y same n s none = ap (find (is_call_at n s)) same ∙ none
 
-    ends_so : (uncut : u.cut ≡ false) (o : Outcome) (comes : outcome_at places f u ≡ Some o) → After (Some o) comes (ends_calls f.command (t1 (Some o) comes) u false (Some o))
+    ends_so : (uncut : u.cut ≡ false) (o : TurnOutput) (comes : outcome_at places f u ≡ Some o) → After (Some o) comes (ends_calls f.command (t1 (Some o) comes) u false (Some o))
     unfolding next
     ends_so uncut o comes =
         let v : RunReport = t1 (Some o) comes in
@@ -201,7 +201,7 @@ module _ (places : List Place) (asked : List Command) where
               }))),
         )
 
-    by_cut : (c : Bool) → u.cut ≡ c → (o : Option Outcome) (comes : outcome_at places f u ≡ o) → After o comes (ends_calls f.command (t1 o comes) u c o)
+    by_cut : (c : Bool) → u.cut ≡ c → (o : Option TurnOutput) (comes : outcome_at places f u ≡ o) → After o comes (ends_calls f.command (t1 o comes) u c o)
     by_cut true cut o comes = (named1 o comes, from1 o comes)
     by_cut false cut None comes = (named1 None comes, from1 None comes)
     by_cut false cut (Some o) comes = ends_so cut o comes
@@ -209,7 +209,7 @@ module _ (places : List Place) (asked : List Command) where
     turn_so : ToldSo (hs ++ h ∷ []) (next places asked (p_at hs) h)
     unfolding next
     turn_so =
-        let o : Option Outcome = outcome_at places f u in
+        let o : Option TurnOutput = outcome_at places f u in
         let x : RunReport = ends_calls f.command (t1 o refl) u u.cut o in
         let it = by_cut u.cut refl o refl in
         record { named = it.0; lines = same_from P f.command x (acts x) refl refl it.1 }

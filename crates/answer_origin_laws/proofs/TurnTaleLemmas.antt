@@ -2,22 +2,21 @@
 use Rattle.std.proofs.Common.{◌≡◌, ℕ, List, ◌∷◌, ◌++◌, Option, Some, None, refl, sym, ap, subst, ◌∙◌}
 use Rattle.std.specs.Prelude.{IfSome}
 use Rattle.tran_ids.proofs.ListedLemmas.{item_is}
-use Rattle.node_rules.specs.Data.{Answer, Advice, BranchId, Kind, Live, Msg, Stmt, Place, Input}
+use Rattle.node_rules.specs.Data.{Answer, Advice, BranchId, Kind, Live, Msg, Stmt, Input}
 use Rattle.node_rules.specs.Data.inputs
 use Rattle.node_rules.specs.Data.kinds
 use Rattle.node_rules.specs.Words.{item_at}
 use Rattle.node_rules.specs.Inputs.{Came}
-use Rattle.node_rules.specs.NodeState.{NodeState, Deed, live_id, work_id, live_at}
+use Rattle.node_rules.specs.NodeState.{TurnDraft, live_id, work_id, live_at}
 use Rattle.node_rules.specs.LiveBranches.{works_of, EachLive}
-use Rattle.node_rules.specs.Turn.{heard, deed_of, kind_turn, stand_of}
+use Rattle.node_rules.specs.Turn.{heard, draft_of, kind_turn, status_of}
 use Rattle.node_rules.proofs.LiveLemmas.{each_same}
-use Rattle.run_rules.specs.Births.{Born, births_of, born_at}
+use Rattle.run_rules.specs.Births.{Born, born_at}
 use Rattle.run_base_laws.specs.BirthLaws.{Began, IsChild, LiveIs, GoesSo}
 use Rattle.run_rules.specs.Data.{Turn, Happening}
 use Rattle.run_rules.specs.Data.happenings
-use Rattle.run_rules.specs.Facts.{Facts, place_at}
 use Rattle.run_base_laws.specs.InTurnLaws.{said_in}
-use Rattle.run_rules.specs.Lawful.{MayHappen, History, IsLawfulRun}
+use Rattle.run_rules.specs.Lawful.{History, IsLawfulRun}
 use Rattle.run_base_laws.specs.RunEvents.{events_of}
 use Rattle.run_base_laws.proofs.BirthLemmas.{news_of}
 use Rattle.run_base_laws.proofs.BirthRunLemmas.{StandBorn, run_births, messages_are_of_neighbors, nodes_name_the_born}
@@ -32,36 +31,13 @@ use Rattle.run_base_laws.proofs.NodeLemmas.{kept_alone}
 use Rattle.run_base_laws.proofs.OwnLemmas.{all_found}
 use Rattle.run_base_laws.proofs.RootLemmas.{SessionsFit, sessions_keep}
 use Rattle.run_base_laws.proofs.TurnEventLemmas.{number_is}
-use Rattle.tree_laws.proofs.PrefixLemmas.{so_far, f_at}
-use Rattle.tree_site_laws.proofs.TimeLemmas.{part_lawful, may_of}
 use Rattle.answer_origin_laws.proofs.ExecLemmas.{exec_tales, reply_tales}
 use Rattle.answer_origin_laws.proofs.PlainLemmas.{Was, HadNone, plain_on}
 use Rattle.answer_origin_laws.proofs.TaleLemmas.{Stays, Told, Tales, mute_good, mute_replies, came_one}
+use Rattle.tree_laws.proofs.AtTurn.{at_turn}
 
 module _ (t : History) (whole : IsLawfulRun t) (hs : List Happening) (u : Turn) (rest : List Happening) (is : hs ++ happenings.Turn u ∷ rest ≡ t.trace) where
-  abbrev s0 : History
-  s0 = so_far t hs
-
-  lawful0 : IsLawfulRun s0
-  lawful0 = part_lawful t whole hs (record { rest = happenings.Turn u ∷ rest; is = is })
-
-  abbrev f0 : Facts
-  f0 = f_at t hs
-
-  abbrev may : MayHappen t.places t.commands f0 (happenings.Turn u)
-  may = may_of t whole hs (happenings.Turn u) rest is
-
-  abbrev k : NodeState
-  k = may.0
-
-  abbrev kk : NodeState
-  kk = heard k u.input
-
-  abbrev p : Place
-  p = place_at t.places u.node
-
-  abbrev bs0 : List Born
-  bs0 = births_of s0
+  open at_turn t whole hs u rest is use {s as s0, lawful as lawful0, f as f0, may, k, heard_k as kk, p, bs as bs0}
 
   stand : StandBorn t.places t.commands t.of_a_script.each f0 (events_of s0) bs0
   stand = run_births s0 lawful0
@@ -125,11 +101,11 @@ module _ (t : History) (whole : IsLawfulRun t) (hs : List Happening) (u : Turn) 
   -- ---- the tales
 
   plain : ((from to : BranchId) (call given : ℕ) (advice : Option Advice) (s : Stmt) → Came u.input from to (kinds.Exec call given advice s) → ⊥)
-      → ((from to : BranchId) (call : ℕ) (weight : Option ℕ) (count : ℕ) (a : Answer) → Came u.input from to (kinds.Reply call weight count a) → ⊥) → Tales kk u.input (deed_of p k u.input)
+      → ((from to : BranchId) (call : ℕ) (weight : Option ℕ) (count : ℕ) (a : Answer) → Came u.input from to (kinds.Reply call weight count a) → ⊥) → Tales kk u.input (draft_of p k u.input)
   plain none never =
       let now : EachLive (Was kk p u.input none never) kk.lives kk.works = record { there = heard_there; each = λ b l found below. ap (λ c. (works_of kk.works c).came) (sym (item_is live_id kk.lives b l found)) } in
       let left = plain_on kk p u.input none never (serves t.places f0 u k may.1).step (heard_fit u.input) (news none never) now in
-      let d : Deed = deed_of p k u.input in (
+      let d : TurnDraft = draft_of p k u.input in (
         each_same (Was kk p u.input none never) (Told kk u.input d.says d.ended) d.after.lives d.after.works left.0
             (λ y v live any was below. Stays (was below) (mute_replies y.me d.says left.1) (λ from call given advice s came. absurd (none from y.me call given advice s came))),
         mute_good kk u.input d.after.lives d.says left.1,
@@ -145,15 +121,15 @@ module _ (t : History) (whole : IsLawfulRun t) (hs : List Happening) (u : Turn) 
       above_of bs0 l lives m.from (child_parent bs0 l.me m.from (subst (λ b. IsChild (Began bs0) b m.from) (sym (item_is live_id k.lives m.to l found)) child))
 
   abbrev HasTales : Input → Type 0
-  HasTales input = Tales (heard k input) input (deed_of p k input)
+  HasTales input = Tales (heard k input) input (draft_of p k input)
 
   message : (m : Msg) → u.input ≡ inputs.Message m → (kind : Kind) → m.kind ≡ kind → HasTales (inputs.Message m)
   message m input (kinds.Exec call given advice s) kind =
-      subst (λ x. Tales (heard k (inputs.Message m)) (inputs.Message m) (kind_turn p (heard k (inputs.Message m)) m.from m.to x (stand_of (heard k (inputs.Message m)) m.to))) (sym kind)
+      subst (λ x. Tales (heard k (inputs.Message m)) (inputs.Message m) (kind_turn p (heard k (inputs.Message m)) m.from m.to x (status_of (heard k (inputs.Message m)) m.to))) (sym kind)
       (exec_tales (heard k (inputs.Message m)) m (subst (λ i. (b : BranchId) → item_at live_id (heard k i).lives b ≡ None → item_at work_id (heard k i).works b ≡ None) input heard_there) p call given advice s kind
       (subst (λ i. (l : Live) → live_at (heard k i) m.to ≡ Some l → l.parent ≡ Some m.from) input (above m input call given advice s kind)))
   message m input (kinds.Reply call weight count a) kind =
-      subst (λ x. Tales (heard k (inputs.Message m)) (inputs.Message m) (kind_turn p (heard k (inputs.Message m)) m.from m.to x (stand_of (heard k (inputs.Message m)) m.to))) (sym kind)
+      subst (λ x. Tales (heard k (inputs.Message m)) (inputs.Message m) (kind_turn p (heard k (inputs.Message m)) m.from m.to x (status_of (heard k (inputs.Message m)) m.to))) (sym kind)
       (reply_tales (heard k (inputs.Message m)) m (subst (λ i. (b : BranchId) → item_at live_id (heard k i).lives b ≡ None → item_at work_id (heard k i).works b ≡ None) input heard_there) call weight count a kind)
   message m input kind is =
       subst HasTales input (plain
@@ -169,5 +145,5 @@ module _ (t : History) (whole : IsLawfulRun t) (hs : List Happening) (u : Turn) 
   by_input (inputs.GiveUp n) at = other_input _ at (λ m it. absurd cc)
   by_input inputs.Reco at = other_input _ at (λ m it. absurd cc)
 
-  pub turn_tales : Tales kk u.input (deed_of p k u.input)
+  pub turn_tales : Tales kk u.input (draft_of p k u.input)
   turn_tales = by_input u.input refl

@@ -18,7 +18,7 @@ use Rattle.run_rules.specs.RunReport.{Past, start}
 use Rattle.run_base_laws.proofs.BirthRunLemmas.{StandBorn, stand_born_on, stand_born_first}
 use Rattle.run_rules.proofs.FactLemmas.{facts_are}
 use Rattle.run_base_laws.proofs.RestRunLemmas.{RootsStand, roots_stand_on, first_rests}
-use Rattle.run_ready_laws.proofs.RunLawfulLemmas.{Standing_so, goes_on, first_stands}
+use Rattle.run_ready_laws.proofs.RunLawfulLemmas.{KeptRow_so, goes_on, first_stands}
 
 -- ---- one happening further
 
@@ -64,7 +64,7 @@ module _ (places : List Place) (asked : List Command) where
       pub births : List Born
       pub born : StandBorn places asked script.each p.facts events births
       pub roots : RootsStand places asked script.each p.facts
-      pub so : Standing_so places asked p
+      pub so : KeptRow_so places asked p
 
     stands_next : (p : Past) (h : Happening) → StandsAt p → comes_next places asked p ≡ Some h → StandsAt (next places asked p h)
     stands_next p h now is =

@@ -6,7 +6,7 @@ use Rattle.node_rules.specs.Data.{Advice, Answer, BranchId, Live, Place, ReplyFi
 use Rattle.node_rules.specs.Data.inputs
 use Rattle.node_rules.specs.Data.kinds
 use Rattle.node_rules.specs.Inputs.{Came}
-use Rattle.node_rules.specs.NodeState.{NodeState, Outcome, live_at, work_at}
+use Rattle.node_rules.specs.NodeState.{NodeState, TurnOutput, live_at, work_at}
 use Rattle.net_bag.specs.Net.{packet_at}
 use Rattle.run_rules.specs.Branches.{Run, Seen, Trail, root_at, seen_at, origin_at}
 use Rattle.run_rules.specs.Data.{Finished, Packet, Took, Turn, Happening}
@@ -76,7 +76,7 @@ pub record IsToldFor (places : List Place) (f : Facts) (tr : Trail) (u : Turn) (
 -- from the root that is the session's transaction after the turn.
 abbrev pub EndsAsReplied : History → List Place → Facts → Trail → Happening → Type 0
 EndsAsReplied t places f tr (happenings.Turn u) =
-    (o : Outcome) → outcome_at places f u ≡ Some o → (took : Took) → u.took ≡ Some took → (from to : BranchId) (call : ℕ) (weight : Option ℕ) (count : ℕ) (said : Answer) → Came u.input from to (kinds.Reply call weight count said)
+    (o : TurnOutput) → outcome_at places f u ≡ Some o → (took : Took) → u.took ≡ Some took → (from to : BranchId) (call : ℕ) (weight : Option ℕ) (count : ℕ) (said : Answer) → Came u.input from to (kinds.Reply call weight count said)
     → (session : ℕ) (a : Answer) (more : List Finished) → o.ended ≡ (record { session = session; answer = a }) ∷ more → is_accepted (Some a) ≡ true
     → (r : Run) × (root : BranchId) × (origin_at tr took.number ≡ Some r) × CallAnsweredBy t tr.moment u.node session root a r × (u.cut ≡ false → IsToldFor places f tr u session root r)
 EndsAsReplied t places f tr _ = Unit {0}
@@ -89,7 +89,7 @@ CallsEndAsReplied = (t : History) → IsLawfulRun t → AtEach (EndsAsReplied t)
 -- it, at the root that is the session's transaction after the turn.
 abbrev pub EndsAtOnce : History → List Place → Facts → Trail → Happening → Type 0
 EndsAtOnce t places f tr (happenings.Turn u) =
-    u.cut ≡ false → (o : Outcome) → outcome_at places f u ≡ Some o → (session : ℕ) (s : Stmt) → u.input ≡ inputs.Call session (Some s) → is_of_rows s ≡ true
+    u.cut ≡ false → (o : TurnOutput) → outcome_at places f u ≡ Some o → (session : ℕ) (s : Stmt) → u.input ≡ inputs.Call session (Some s) → is_of_rows s ≡ true
     → (n : ℕ) (a : Answer) (more : List Finished) → o.ended ≡ (record { session = n; answer = a }) ∷ more → is_accepted (Some a) ≡ true
     → (r : Run) × (root : BranchId) × (run_in f (with_begun f tr u) u ≡ Some r) × CallAnsweredBy t tr.moment u.node n root a r × IsToldFor places f tr u n root r
 EndsAtOnce t places f tr _ = Unit {0}

@@ -2,7 +2,7 @@
 -- (Database Administrator's Guide, "Distributed Transactions Concepts": the session that waits for its call.)
 use Rattle.std.specs.Prelude.{◌≡◌, ℕ, ◌+◌, false, slice_get, Option, Some, None}
 use Rattle.node_rules.specs.Data.{Answer, Stmt}
-use Rattle.node_rules.specs.NodeState.{Outcome}
+use Rattle.node_rules.specs.NodeState.{TurnOutput}
 use Rattle.run_rules.specs.Calls.{call_at}
 use Rattle.run_rules.specs.Data.{Turn}
 use Rattle.run_rules.specs.Data.commands
@@ -20,7 +20,7 @@ pub record EndedBy (t : History) (command : ℕ) (a : Answer) : Type 0 where
   pub turn : Turn
   pub there : slice_get t.trace ended ≡ Some (happenings.Turn turn)
   pub uncut : turn.cut ≡ false
-  pub outcome : Outcome
+  pub outcome : TurnOutput
   pub comes : outcome_at t.places (facts_upto t ended) turn ≡ Some outcome
   pub session : ℕ
   pub number : ℕ

@@ -4,22 +4,22 @@ use Rattle.std.proofs.lemmas.List.{append-nil}
 use Rattle.block_disk.specs.Images.{IsWritten}
 use Rattle.block_disk.specs.Happenings.{Happening, content_of, wrote}
 use Rattle.block_disk.specs.MemDisk.{DiskState, after_write}
-use Rattle.block_disk.specs.Plan.{Plan, strikes, after_call, is_next, counted_down, write_of, stop_counted_down, left_of, left_by_stop, left_by_plan, GoesByPlan, IsLeftByPlan}
+use Rattle.block_disk.specs.Plan.{FaultPlan, strikes, after_call, is_next, counted_down, write_of, stop_counted_down, left_of, left_by_stop, left_by_plan, GoesByPlan, IsLeftByPlan}
 use Rattle.block_disk.specs.Orders.{plan_of, after_orders, fault_strike, strike_by, strike_of, left_by}
-use Rattle.block_disk.specs.declared.order.How.{How}
-use Rattle.block_disk.specs.declared.order.Stop.{Stop}
-use Rattle.block_disk.specs.declared.orders.Orders.{Orders}
-use Rattle.block_disk.specs.declared.orders.Strike.{Strike}
-use Rattle.block_disk.specs.declared.orders.Strike.TheVariants.{Spares, Fails, Stops}
+use Rattle.block_disk.specs.declared.fault.How.{How}
+use Rattle.block_disk.specs.declared.fault.Stop.{Stop}
+use Rattle.block_disk.specs.declared.faults.DiskFaults.{DiskFaults}
+use Rattle.block_disk.specs.declared.faults.Strike.{Strike}
+use Rattle.block_disk.specs.declared.faults.Strike.TheVariants.{Spares, Fails, Stops}
 
-either : (b : Bool) (x y : Orders) → plan_of (if b then x else y) ≡ (if b then plan_of x else plan_of y)
+either : (b : Bool) (x y : DiskFaults) → plan_of (if b then x else y) ≡ (if b then plan_of x else plan_of y)
 either true x y = refl
 either false x y = refl
 
-pub plan_after_look : (orders : Orders) → plan_of (after_orders orders false) ≡ after_call (plan_of orders) false
+pub plan_after_look : (orders : DiskFaults) → plan_of (after_orders orders false) ≡ after_call (plan_of orders) false
 plan_after_look orders = either orders.stopped orders (record orders { fault = counted_down orders.fault })
 
-pub plan_after_write : (orders : Orders) → plan_of (after_orders orders true) ≡ after_call (plan_of orders) true
+pub plan_after_write : (orders : DiskFaults) → plan_of (after_orders orders true) ≡ after_call (plan_of orders) true
 plan_after_write orders = either orders.stopped orders (record { stopped = is_next (write_of orders.stop); stop = stop_counted_down orders.stop; fault = counted_down orders.fault })
 
 -- a write is spared where neither order strikes it
@@ -34,7 +34,7 @@ spared_by (Some stop) fault is = by (stop.write == 1) is where
   by true stops = absurd cc
   by false spares = spared_by_fault (is_next fault) spares
 
-pub spared : (orders : Orders) → strike_of orders ≡ Spares → strikes (plan_of orders) true ≡ false
+pub spared : (orders : DiskFaults) → strike_of orders ≡ Spares → strikes (plan_of orders) true ≡ false
 spared orders is = by orders.stopped is where
   by : (b : Bool) → (if b then Fails else strike_by orders.stop orders.fault) ≡ Spares → (b || (is_next (write_of orders.stop) || is_next orders.fault)) ≡ false
   by true fails = absurd cc
@@ -63,7 +63,7 @@ part_written happenings at [] =
     sym (ap (λ (l : List ℕ). l ++ drop (at + 0) content) (append-nil (take at content)) ∙ (ap (λ (n : ℕ). take at content ++ drop n content) (omega arith) ∙ take-append-drop at content))
 part_written happenings at (byte ∷ bytes) = refl
 
-left_written : (orders : Orders) (happenings : List Happening) (at : ℕ) (bytes : List ℕ) (strike : Strike) → strike_of orders ≡ strike → (strike ≡ Spares → ⊥)
+left_written : (orders : DiskFaults) (happenings : List Happening) (at : ℕ) (bytes : List ℕ) (strike : Strike) → strike_of orders ≡ strike → (strike ≡ Spares → ⊥)
     → IsWritten (content_of happenings) at (left_by_plan (plan_of orders) bytes) (content_of (wrote at (left_by strike bytes) happenings))
 left_written orders happenings at bytes strike is struck =
     subst (λ (l : List ℕ). IsWritten (content_of happenings) at l (content_of (wrote at (left_by strike bytes) happenings)))

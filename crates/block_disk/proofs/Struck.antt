@@ -4,9 +4,9 @@ use Rattle.std.proofs.lemmas.List.{drop-drop, length-take}
 use Rattle.block_disk.specs.Images.{MayBeTorn, TearsOnly, GoesOn}
 use Rattle.block_disk.specs.Happenings.{Happening, content_of, wrote, IsImage, IsImageSince}
 use Rattle.block_disk.specs.Orders.{left_by}
-use Rattle.block_disk.specs.declared.order.How.TheVariants.{Keep, Leave}
-use Rattle.block_disk.specs.declared.orders.Strike.{Strike}
-use Rattle.block_disk.specs.declared.orders.Strike.TheVariants.{Spares, Fails, Stops}
+use Rattle.block_disk.specs.declared.fault.How.TheVariants.{Keep, Leave}
+use Rattle.block_disk.specs.declared.faults.Strike.{Strike}
+use Rattle.block_disk.specs.declared.faults.Strike.TheVariants.{Spares, Fails, Stops}
 use Rattle.block_disk.proofs.Torn.{tears_only}
 
 -- what is left of a write is no longer than the write

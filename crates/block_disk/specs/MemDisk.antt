@@ -5,8 +5,8 @@ use Rattle.block_disk.specs.Images.{MayBeTorn}
 use Rattle.block_disk.specs.Counts.{next_count}
 use Rattle.block_disk.specs.Plan.{strikes}
 use Rattle.block_disk.specs.Happenings.{Happening, wrote, synced}
-use Rattle.block_disk.specs.declared.order.Order.{Order}
-use Rattle.block_disk.specs.declared.orders.Orders.{Orders}
+use Rattle.block_disk.specs.declared.fault.DiskFault.{DiskFault}
+use Rattle.block_disk.specs.declared.faults.DiskFaults.{DiskFaults}
 use Rattle.block_disk.specs.Orders.{plan_of, after_order, powered, after_orders, strike_of, left_by}
 
 -- A disk in memory.
@@ -16,7 +16,7 @@ pub record DiskState : Type 0 where
   pub faults : ℕ  -- how many calls failed, at most 2^64 - 1
   pub calls : ℕ  -- how many counted calls were made, modulo 2^64
   pub writes : ℕ  -- how many of them were writes, modulo 2^64
-  pub orders : Orders  -- whether it is stopped, and the orders that have not struck
+  pub orders : DiskFaults  -- whether it is stopped, and the orders that have not struck
 
 -- an empty disk that was not called yet, with no order
 abbrev pub blank : DiskState
@@ -59,7 +59,7 @@ abbrev pub after_sync : DiskState → DiskState
 after_sync disk = record (after_look disk) { happenings = synced disk.happenings }
 
 -- with a new order
-abbrev pub after_arm : DiskState → Order → DiskState
+abbrev pub after_arm : DiskState → DiskFault → DiskState
 after_arm disk order = record disk { orders = after_order disk.orders order }
 
 -- with the power on again

@@ -3,12 +3,12 @@ ghost use Rattle.std.specs.Prelude.{◌≡◌};
 ghost use Rattle.block_disk.specs.Images.{AddsNone, GoesOn};
 ghost use Rattle.block_disk.specs.Orders.{ordered};
 
-use crate::{Disk, Order};
+use crate::{Disk, DiskFault};
 
 /// A disk that can be ordered to stop in a write, or to fail in a call.
 pub trait Armable: Disk {
     /// Takes an order, in place of an earlier one of its kind. It changes the plan alone, and is not a counted call.
-    fn arm(&mut self, order: Order)
+    fn arm(&mut self, order: DiskFault)
         ensures plan { Self.plan self.new ≡ ordered (Self.plan self.old) order }
         ensures content { Self.content self.new ≡ Self.content self.old }
         ensures images { AddsNone (Self.images self.old) (Self.images self.new) }

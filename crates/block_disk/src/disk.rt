@@ -3,7 +3,7 @@ ghost use Rattle.std.specs.Prelude.{◌≡◌, ◌+◌, ◌-◌, ◌≤◌, ◌<
 ghost use Rattle.dtx_ports.specs.Causes.{HasCause};
 ghost use Rattle.block_disk.specs.Images.{IsWritten, TearsOnly, AddsNone, IsOnly, GoesOn};
 ghost use Rattle.block_disk.specs.Counts.{next_count};
-ghost use Rattle.block_disk.specs.Plan.{Plan, GoesByPlan, IsLeftByPlan};
+ghost use Rattle.block_disk.specs.Plan.{FaultPlan, GoesByPlan, IsLeftByPlan};
 
 use dtx_ports::Failed;
 use std::alloc::AllocError;
@@ -37,7 +37,7 @@ pub trait Disk {
     ghost writes: { Self → ℕ };
 
     /// The orders to stop or to fail that have not struck yet, where the disk shows them.
-    ghost plan: { Self → Option Plan };
+    ghost plan: { Self → Option FaultPlan };
 
     /// The number of its bytes. Fails only where the disk's faults rose.
     fn len(&mut self) -> Result<u64, Failed>

@@ -9,14 +9,14 @@
 
 mod armable;
 mod disk;
+mod fault;
+mod faults;
 mod mem_disk;
-mod order;
-mod orders;
 mod past;
 mod surface;
 
 pub use armable::Armable;
 pub use disk::Disk;
 pub use dtx_ports::Failed;
+pub use fault::{DiskFault, How, Stop};
 pub use mem_disk::MemDisk;
-pub use order::{How, Order, Stop};

@@ -7,9 +7,9 @@ ghost use Rattle.block_disk.specs.MemDisk.{blank, after_fault, after_look, after
 ghost use Rattle.block_disk.specs.Orders.{plan_of};
 ghost use Rattle.block_disk.specs.ImageLaws.{IsImage-content_of, IsImageSince-now, IsImageSince-length};
 
-use crate::orders::{Orders, Strike};
+use crate::faults::{DiskFaults, Strike};
 use crate::surface::Surface;
-use crate::{Armable, Disk, Failed, Order};
+use crate::{Armable, Disk, DiskFault, Failed};
 use std::alloc::{AllocError, Global};
 use std::marker::Model;
 
@@ -18,7 +18,7 @@ use std::marker::Model;
 #[derive(Drop)]
 pub struct MemDisk {
     surface: Surface,
-    orders: Orders,
+    orders: DiskFaults,
     faults: u64,
     calls: u64,
     writes: u64,
@@ -48,7 +48,7 @@ impl MemDisk {
     {
         MemDisk {
             surface: Surface::new(alloc),
-            orders: Orders::new(),
+            orders: DiskFaults::new(),
             faults: 0,
             calls: 0,
             writes: 0,
@@ -195,7 +195,7 @@ impl Disk for MemDisk {
 }
 
 impl Armable for MemDisk {
-    fn arm(&mut self, order: Order)
+    fn arm(&mut self, order: DiskFault)
         ensures { self.new ≡ after_arm self.old order }
     {
         self.orders.add(order);

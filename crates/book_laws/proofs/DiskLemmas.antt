@@ -21,7 +21,7 @@ use Rattle.run_rules.proofs.FactLemmas.{book_is}
 use Rattle.run_base_laws.proofs.LaterLemmas.{events_keep}
 use Rattle.run_rules.proofs.AtNodeLemmas.{turn_elsewhere, turn_here, start_elsewhere, start_here}
 use Rattle.run_base_laws.proofs.TurnEventLemmas.{cases_nat, record_own}
-use Rattle.run_base_laws.proofs.EventsStandLemmas.{Stand, stand_on, stand_first, node_so, owned_so, first_disk}
+use Rattle.run_base_laws.proofs.EventsStandLemmas.{BranchStatus, stand_on, stand_first, node_so, owned_so, first_disk}
 use Rattle.book_laws.specs.DiskLaws.{node_of, is_of_node, BooksAreOfDisks}
 
 -- ---- the entry of a record is of its node
@@ -81,7 +81,7 @@ booted_kept n boot rs = flat_map-append (entry_of n) rs (records.Boot boot ∷ [
 abbrev pub HasDisks : Facts → Type 0
 HasDisks f = (n : ℕ) → filter (is_of_node n) f.book ≡ flat_map (entry_of n) (records_at f n)
 
-module _ (places : List Place) (asked : List Command) (each : (n : ℕ) (p : Place) → numbered places n ≡ Some p → IsPlace places n p) (f : Facts) (t : List Event) (stand : Stand places asked each f t)
+module _ (places : List Place) (asked : List Command) (each : (n : ℕ) (p : Place) → numbered places n ≡ Some p → IsPlace places n p) (f : Facts) (t : List Event) (stand : BranchStatus places asked each f t)
     (now : HasDisks f) where
   module _ (u : Turn) (may : MayHappen places asked f (happenings.Turn u)) where
     abbrev g : Facts
@@ -121,7 +121,7 @@ has_first places n = first_disk (λ (rs : List RedoRecord). [] ≡ flat_map (ent
 
 pub books_are_of_disks : BooksAreOfDisks
 books_are_of_disks t lawful n =
-    let last : Stand t.places t.commands t.of_a_script.each (facts_at t) (events_of t) × HasDisks (facts_at t) = events_keep t.places t.commands (λ f s. Stand t.places t.commands t.of_a_script.each f s × HasDisks f)
+    let last : BranchStatus t.places t.commands t.of_a_script.each (facts_at t) (events_of t) × HasDisks (facts_at t) = events_keep t.places t.commands (λ f s. BranchStatus t.places t.commands t.of_a_script.each f s × HasDisks f)
     (λ f s h now may. (stand_on t.places t.commands t.of_a_script.each f s h now.0 may, has_on t.places t.commands t.of_a_script.each f s now.0 now.1 h may))
     (first_facts t.places) t.trace [] (stand_first t.places t.commands t.of_a_script.each, has_first t.places) lawful in
     ap (filter (is_of_node n)) (sym (book_is t.places t.commands (first_facts t.places) t.trace)) ∙ last.1 n

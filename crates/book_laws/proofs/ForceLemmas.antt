@@ -14,7 +14,7 @@ use Rattle.agreement.proofs.AgreementLaws.{exit_sealed}
 use Rattle.agreement.proofs.BookTests.{has_sealed, no_end}
 use Rattle.agreement.proofs.Invariant.{Inv}
 use Rattle.agreement.proofs.InvariantKept.{inv}
-use Rattle.node_rules.specs.Data.{BranchId, Decision, RedoRecord, Sealed as SealedRecord, Standing, State}
+use Rattle.node_rules.specs.Data.{BranchId, Decision, RedoRecord, Sealed as SealedRecord, KeptRow, State}
 use Rattle.node_rules.specs.Data.decisions
 use Rattle.node_rules.specs.Data.records
 use Rattle.node_rules.specs.Data.states
@@ -63,7 +63,7 @@ some_of (Some a) is = (a, refl)
 some_of None is = absurd (true≢false (sym is))
 
 -- the only row that is named
-alone_named : (id : List ℕ) (ss : List Standing) (b : BranchId) → one_named id (named_among ss) ≡ Ok b → (s : Standing) × (ss ≡ s ∷ []) × (s.me ≡ b)
+alone_named : (id : List ℕ) (ss : List KeptRow) (b : BranchId) → one_named id (named_among ss) ≡ Ok b → (s : KeptRow) × (ss ≡ s ∷ []) × (s.me ≡ b)
 alone_named id [] b is = absurd cc
 alone_named id (s ∷ []) b is = (s, refl, cc is)
 alone_named id (s ∷ x ∷ ss) b is = absurd cc
@@ -91,7 +91,7 @@ sealed_there (records.Hidden c ∷ rs) b r is = (let rest = sealed_there rs b r 
 -- ---- rows
 
 -- a row of a branch in doubt is sealed
-module _ (e : List Event) (s : Standing) (scn : ℕ) (is : RowIs e s) (sealed : exit e s.me ≡ Some (Sealed scn)) (unlearned : learned e s.me ≡ None) (unforced : forced e s.me ≡ None) where
+module _ (e : List Event) (s : KeptRow) (scn : ℕ) (is : RowIs e s) (sealed : exit e s.me ≡ Some (Sealed scn)) (unlearned : learned e s.me ≡ None) (unforced : forced e s.me ≡ None) where
   undecided_row : (d : Option Decision) → IsKnown e s d → d ≡ None
   undecided_row None known = refl
   undecided_row (Some (decisions.Commit n)) (inl decided) = absurd (cc (sealed, decided))
@@ -105,7 +105,7 @@ module _ (e : List Event) (s : Standing) (scn : ℕ) (is : RowIs e s) (sealed : 
   sealed_by states.ForcedRollback force = absurd (cc (unforced, force))
 
 -- and the branch of a sealed row is sealed, and neither learned nor was forced
-open_row : (e : List Event) (s : Standing) → RowIs e s → is_sealed s.state ≡ true → (exit e s.me ≡ Some (Sealed s.scn)) × (learned e s.me ≡ None) × (forced e s.me ≡ None)
+open_row : (e : List Event) (s : KeptRow) → RowIs e s → is_sealed s.state ≡ true → (exit e s.me ≡ Some (Sealed s.scn)) × (learned e s.me ≡ None) × (forced e s.me ≡ None)
 open_row e s is sealed = by s.state is.force sealed
   where
     by : (state : State) → IsForcedAs e s.me state s.decision → is_sealed state ≡ true → (exit e s.me ≡ Some (Sealed s.scn)) × (learned e s.me ≡ None) × (forced e s.me ≡ None)
@@ -117,7 +117,7 @@ open_row e s is sealed = by s.state is.force sealed
 pub one_born : (bs : List Born) (x y : Born) → Began bs x → Began bs y → x.me ≡ y.me → x ≡ y
 one_born bs x y first second same_id = let at : born_at bs x.me ≡ Some y = ap (born_at bs) same_id ∙ second in cc (first, at)
 
-row_before : (c : BranchId) (ks : List Standing) → list_any (stands_at c) (map unacked_row ks) ≡ true → list_any (stands_at c) ks ≡ true
+row_before : (c : BranchId) (ks : List KeptRow) → list_any (stands_at c) (map unacked_row ks) ≡ true → list_any (stands_at c) ks ≡ true
 row_before c [] there = there
 row_before c (s ∷ ks) there = by (same s.me c) there (row_before c ks)
   where
@@ -144,7 +144,7 @@ module _ (t : History) (lawful : IsLawfulRun t) (n : ℕ) (k : NodeState) (up : 
   rows = (nodes_are_as_events t lawful n k up).1
 
   -- a row names the root of its branch's record
-  root_same : (s : Standing) (r : SealedRecord) → IsOne s k.stored.durable.kept → sealed_in (records_at (facts_at t) n) s.me ≡ Some r → r.root ≡ s.root
+  root_same : (s : KeptRow) (r : SealedRecord) → IsOne s k.stored.durable.kept → sealed_in (records_at (facts_at t) n) s.me ≡ Some r → r.root ≡ s.root
   root_same s r there is =
       let at = sealed_there (records_at (facts_at t) n) s.me r is in
       let row : KeptIs (Began (births_of t)) s = one_of_all (KeptIs (Began (births_of t))) s k.stored.durable.kept (nodes_name_the_born t lawful n k up).1 there in
@@ -173,13 +173,13 @@ module _ (t : History) (lawful : IsLawfulRun t) (n : ℕ) (k : NodeState) (up : 
   abbrev names_it : BranchId → Bool
   names_it c = is_id_of names id c (sealed_in (records_at (facts_at t) n) c)
 
-  named_same : (s : Standing) → IsOne s k.stored.durable.kept → stands (is_sealed_of s.me) (book_of (events_of t)) ≡ true → names_it s.me ≡ is_row_of names id s
+  named_same : (s : KeptRow) → IsOne s k.stored.durable.kept → stands (is_sealed_of s.me) (book_of (events_of t)) ≡ true → names_it s.me ≡ is_row_of names id s
   named_same s there sealed =
       let r = record_there s.me (one_of_all (λ x. x.me.node ≡ n) s k.stored.durable.kept own there) sealed in
       ap (is_id_of names id s.me) r.1 ∙ ap (λ z. bytes_eq (local_text s.me) id || bytes_eq (global_text names z) id) (root_same s r.0 there r.1)
 
   -- a branch in doubt has a sealed row
-  row_of : (c : BranchId) → IsOpenIn (book_of (events_of t)) n c → (s : Standing) × IsOne s k.stored.durable.kept × (s.me ≡ c) × (is_sealed s.state ≡ true)
+  row_of : (c : BranchId) → IsOpenIn (book_of (events_of t)) n c → (s : KeptRow) × IsOne s k.stored.durable.kept × (s.me ≡ c) × (is_sealed s.state ≡ true)
   row_of c is =
       let sealed : exit (events_of t) c ≡ Some (Sealed is.scn) = exit_sealed (forest_of t) (events_of t) c is.global is.scn is.changes l (has_seal (events_of t) c is.global is.changes is.scn is.sealed) in
       let untold = open_events (forest_of t) (events_of t) c l is.endless in
@@ -199,7 +199,7 @@ module _ (t : History) (lawful : IsLawfulRun t) (n : ℕ) (k : NodeState) (up : 
       not_done c scn sealed unlearned (inr forgot) = elim (i.forgets c forgot).0.1 [ inl decided ↦ absurd (cc (sealed, decided)) | inr told ↦ absurd (cc (unlearned, told)) ]
 
   -- and a sealed row is of a branch in doubt
-  open_of_row : (s : Standing) → IsOne s k.stored.durable.kept → is_sealed s.state ≡ true → IsOpenIn (book_of (events_of t)) n s.me
+  open_of_row : (s : KeptRow) → IsOne s k.stored.durable.kept → is_sealed s.state ≡ true → IsOpenIn (book_of (events_of t)) n s.me
   open_of_row s there sealed =
       let row = open_row (events_of t) s (one_of_all (RowIs (events_of t)) s k.stored.durable.kept rows there) sealed in
       let x = found (is_sealed_of s.me) (book_of (events_of t)) (has_sealed (events_of t) s.me s.scn row.0) in
@@ -217,7 +217,7 @@ module _ (t : History) (lawful : IsLawfulRun t) (n : ℕ) (k : NodeState) (up : 
   sealed_entry : (c : BranchId) → IsOpenIn (book_of (events_of t)) n c → stands (is_sealed_of c) (book_of (events_of t)) ≡ true
   sealed_entry c is = finds (is_sealed_of c) (entries.Sealed c is.global is.changes is.scn) (book_of (events_of t)) is.sealed (same_from_equal c c refl)
 
-  module _ (s : Standing) (alone : filter (is_named_by names id) k.stored.durable.kept ≡ s ∷ []) where
+  module _ (s : KeptRow) (alone : filter (is_named_by names id) k.stored.durable.kept ≡ s ∷ []) where
     only : (c : BranchId) → IsOne c (filter names_it (in_doubt (book_of (events_of t)) n)) → c ≡ s.me
     only c there =
         let parts = one_filtered names_it c (in_doubt (book_of (events_of t)) n) there in
@@ -228,8 +228,8 @@ module _ (t : History) (lawful : IsLawfulRun t) (n : ℕ) (k : NodeState) (up : 
         let kept : IsOne row.0 (filter (is_named_by names id) k.stored.durable.kept) = one_kept (is_named_by names id) row.0 k.stored.durable.kept row.1 (and_from (is_sealed row.0.state) (is_row_of names id row.0) row.3 by_row) in
         sym row.2 ∙ one_row row.0 (subst (IsOne row.0) alone kept)
       where
-        one_row : (x : Standing) → IsOne x (s ∷ []) → x.me ≡ s.me
-        one_row x (inl here) = ap (λ (z : Standing). z.me) (sym here)
+        one_row : (x : KeptRow) → IsOne x (s ∷ []) → x.me ≡ s.me
+        one_row x (inl here) = ap (λ (z : KeptRow). z.me) (sym here)
         one_row x (inr none) = absurd none
 
     there_is : IsOne s.me (filter names_it (in_doubt (book_of (events_of t)) n))

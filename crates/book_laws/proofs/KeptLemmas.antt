@@ -3,9 +3,9 @@ use Rattle.std.proofs.Common.{◌≡◌, ◌≤◌, Bool, true, false, if◌then
 use Rattle.std.specs.Prelude.{fold}
 use Rattle.std.specs.List.{AllByRecursion}
 use Rattle.redo_record.specs.Durable.{durable_after, durable}
-use Rattle.node_rules.specs.Data.{BranchId, RedoRecord, Standing}
+use Rattle.node_rules.specs.Data.{BranchId, RedoRecord, KeptRow}
 use Rattle.node_rules.specs.Words.{same, item_at}
-use Rattle.node_rules.specs.NodeState.{NodeState, Stored, standing_id}
+use Rattle.node_rules.specs.NodeState.{NodeState, Stored, kept_row_id}
 use Rattle.node_rules.specs.Records.{applied, nothing_stored, stored_by}
 use Rattle.run_base_laws.specs.NodeLaws.{count_of, unacked_row}
 use Rattle.run_rules.proofs.ListLemmas.{all_weaker}
@@ -25,27 +25,27 @@ find_so {A} P test (x ∷ xs) a all found = by (test x) refl found (find_so P te
 
 -- ---- rows
 
-durable_stored : (s : Stored) (rs : List RedoRecord) → (stored_by s rs).durable ≡ fold durable_after s.durable rs
+pub durable_stored : (s : Stored) (rs : List RedoRecord) → (stored_by s rs).durable ≡ fold durable_after s.durable rs
 unfolding stored_by applied
 durable_stored s [] = refl
 durable_stored s (r ∷ rs) = durable_stored (applied s r) rs
 
-row_unacked : (ks : List Standing) (b : BranchId) (s : Standing) → item_at standing_id ks b ≡ Some s → item_at standing_id (map unacked_row ks) b ≡ Some (unacked_row s)
+row_unacked : (ks : List KeptRow) (b : BranchId) (s : KeptRow) → item_at kept_row_id ks b ≡ Some s → item_at kept_row_id (map unacked_row ks) b ≡ Some (unacked_row s)
 row_unacked [] b s found = absurd cc
 row_unacked (x ∷ ks) b s found = by (same x.me b) found (row_unacked ks b s)
   where
-    by : (q : Bool) → (if q then Some x else item_at standing_id ks b) ≡ Some s → (item_at standing_id ks b ≡ Some s → item_at standing_id (map unacked_row ks) b ≡ Some (unacked_row s))
-        → (if q then Some (unacked_row x) else item_at standing_id (map unacked_row ks) b) ≡ Some (unacked_row s)
+    by : (q : Bool) → (if q then Some x else item_at kept_row_id ks b) ≡ Some s → (item_at kept_row_id ks b ≡ Some s → item_at kept_row_id (map unacked_row ks) b ≡ Some (unacked_row s))
+        → (if q then Some (unacked_row x) else item_at kept_row_id (map unacked_row ks) b) ≡ Some (unacked_row s)
     by true found rest = let here : x ≡ s = cc found in ap (λ z. Some (unacked_row z)) here
     by false found rest = rest found
 
 -- these rows have one of the branch that is hidden, mixed and in a state as this one
-abbrev pub IsKnownRow : List Standing → Standing → Type 0
-IsKnownRow ks s = (row : Standing) × (item_at standing_id ks s.me ≡ Some row) × (row.hidden ≡ s.hidden) × (row.mixed ≡ s.mixed) × (row.state ≡ s.state)
+abbrev pub IsKnownRow : List KeptRow → KeptRow → Type 0
+IsKnownRow ks s = (row : KeptRow) × (item_at kept_row_id ks s.me ≡ Some row) × (row.hidden ≡ s.hidden) × (row.mixed ≡ s.mixed) × (row.state ≡ s.state)
 
-pub rows_known : (k : NodeState) (rs : List RedoRecord) → StoresOf rs k → ((b : BranchId) → count_of standing_id b k.stored.durable.kept ≤ 1) → AllByRecursion (IsKnownRow (durable rs).kept) k.stored.durable.kept
+pub rows_known : (k : NodeState) (rs : List RedoRecord) → StoresOf rs k → ((b : BranchId) → count_of kept_row_id b k.stored.durable.kept ≤ 1) → AllByRecursion (IsKnownRow (durable rs).kept) k.stored.durable.kept
 rows_known k rs stored one =
     let rows : map unacked_row k.stored.durable.kept ≡ (durable rs).kept = ap (λ (s : Stored). s.durable.kept) stored ∙ ap (λ d. d.kept) (durable_stored nothing_stored rs) in
-    all_weaker (λ s. item_at standing_id k.stored.durable.kept s.me ≡ Some s) (IsKnownRow (durable rs).kept)
-    (λ s found. (unacked_row s, subst (λ (ks : List Standing). item_at standing_id ks s.me ≡ Some (unacked_row s)) rows (row_unacked k.stored.durable.kept s.me s found), refl, refl, refl)) k.stored.durable.kept
+    all_weaker (λ s. item_at kept_row_id k.stored.durable.kept s.me ≡ Some s) (IsKnownRow (durable rs).kept)
+    (λ s found. (unacked_row s, subst (λ (ks : List KeptRow). item_at kept_row_id ks s.me ≡ Some (unacked_row s)) rows (row_unacked k.stored.durable.kept s.me s found), refl, refl, refl)) k.stored.durable.kept
     (rows_found k.stored.durable.kept one)

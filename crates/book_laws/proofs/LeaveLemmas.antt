@@ -11,15 +11,14 @@ use Rattle.node_rules.specs.Data.walks
 use Rattle.node_rules.specs.Data.acts
 use Rattle.node_rules.specs.Data.nexts
 use Rattle.node_rules.specs.Data.stmts
-use Rattle.node_rules.specs.Data.inputs
 use Rattle.node_rules.specs.Inputs.{Came, IsCall}
-use Rattle.node_rules.specs.NodeState.{NodeState, Deed, live_id}
+use Rattle.node_rules.specs.NodeState.{NodeState, TurnDraft, live_id}
 use Rattle.node_rules.specs.Client.{begun_by}
 use Rattle.node_rules.specs.Prepare.{collecting, with_comment, with_prepare_sent}
-use Rattle.node_rules.specs.Turn.{heard, deed_of}
+use Rattle.node_rules.specs.Turn.{draft_of}
 use Rattle.node_rules.specs.Words.{item_at}
 use Rattle.node_rules.proofs.Steps as steps
-use Rattle.node_rules.proofs.Steps.{Step, IsOfRows, Collects, Answers, Collected, Acting, vote_kind}
+use Rattle.node_rules.proofs.Steps.{Step, IsOfRows, Collects, Collected, Acting, vote_kind}
 use Rattle.run_rules.specs.Births.{Born, births_of}
 use Rattle.run_base_laws.specs.BirthLaws.{Began, IsChild, LiveIs, GoesSo}
 use Rattle.run_rules.specs.Data.{Turn, Happening}
@@ -40,6 +39,7 @@ use Rattle.run_rules.specs.Lawful.{facts_at}
 use Rattle.book_laws.specs.LeaveLaws.{IsCommit, SealsOn, DecidesOn, LeavesOn, LeavesDuly, BranchesLeaveDuly}
 use Rattle.book_laws.proofs.ForceLemmas.{one_born}
 use Rattle.book_laws.proofs.WriteLemmas.{of_events, none_there}
+use Rattle.tree_laws.proofs.AnswerRunLemmas.{lives_heard as heard_lives}
 
 -- ---- what came
 
@@ -129,7 +129,7 @@ module _ (input : Input) (m : ℕ) (s : Stmt) (call : IsCall input m s) (rows : 
   none_leave before lives (Some _) on = tt
 
 module _ (p : Place) (input : Input) where
-  leaves_on : {k : NodeState} {d : Deed} → Step p input k d → FromAbove k.lives input → IfSome d.wrote (LeavesOn k.lives input)
+  leaves_on : {k : NodeState} {d : TurnDraft} → Step p input k d → FromAbove k.lives input → IfSome d.wrote (LeavesOn k.lives input)
   leaves_on (steps.Begins {k = k} {d = d} m s call rows fit none step) above =
       none_leave input m s call rows k.lives (begun_by p k m None).lives d.wrote (leaves_on step (λ l live from kind down came. absurd (came_apart m s came call)))
   leaves_on (steps.Pends m l comment call has live code step) above = leaves_on step above
@@ -161,12 +161,6 @@ module _ (p : Place) (input : Input) where
 
 -- ---- every run
 
-heard_lives : (k : NodeState) (input : Input) → (heard k input).lives ≡ k.lives
-heard_lives k (inputs.Message m) = refl
-heard_lives k (inputs.Call n s) = refl
-heard_lives k (inputs.GiveUp n) = refl
-heard_lives k inputs.Reco = refl
-
 module _ (t : History) (lawful : IsLawfulRun t) (u : Turn) (k : NodeState) (may : MayTurn t.places (facts_at t) u k) where
   -- the one that is born so has this parent
   child_of : (l : Live) (from : BranchId) → item_at live_id k.lives l.me ≡ Some l → IsChild (Began (births_of t)) l.me from → l.parent ≡ Some from
@@ -186,7 +180,7 @@ module _ (t : History) (lawful : IsLawfulRun t) (u : Turn) (k : NodeState) (may 
   turn_leaves : IfSome u.wrote (LeavesOn k.lives u.input)
   turn_leaves =
       of_wrote (place_at t.places u.node) k u (serves t.places (facts_at t) u k may) (λ w. IfSome w (LeavesOn k.lives u.input)) tt
-      (subst (λ (ls : List Live). IfSome (deed_of (place_at t.places u.node) k u.input).wrote (LeavesOn ls u.input)) (heard_lives k u.input)
+      (subst (λ (ls : List Live). IfSome (draft_of (place_at t.places u.node) k u.input).wrote (LeavesOn ls u.input)) (heard_lives k u.input)
       (leaves_on (place_at t.places u.node) u.input (serves t.places (facts_at t) u k may).step (subst (λ (ls : List Live). FromAbove ls u.input) (sym (heard_lives k u.input)) from_above)))
 
 leaves_so : (t : History) (before : List Happening) (lawful : IsLawfulRun (so_far t before)) (h : Happening) → MayHappen t.places t.commands (f_at t before) h → LeavesDuly (f_at t before) h

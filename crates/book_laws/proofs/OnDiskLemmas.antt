@@ -98,7 +98,7 @@ disk_ends n b (r ∷ rs) = ap (λ q. q || list_any (ends b) rs) (record_ends n b
 -- ---- a place of the book on the disk
 
 -- On a disk stands the record of an entry, after the records of those entries.
-pub record Standing (n : ℕ) (rs : List RedoRecord) (before : List Entry) (e : Entry) : Type 0 where
+pub record EntryOnDisk (n : ℕ) (rs : List RedoRecord) (before : List Entry) (e : Entry) : Type 0 where
   pub older : List RedoRecord
   pub newer : List RedoRecord
   pub one : RedoRecord
@@ -107,30 +107,30 @@ pub record Standing (n : ℕ) (rs : List RedoRecord) (before : List Entry) (e : 
   pub is : entry_of n one ≡ e ∷ []
 
 module _ (n : ℕ) where
-  one_more : (r : RedoRecord) (rs : List RedoRecord) (before : List Entry) (e : Entry) (s : Standing n rs before e) → Standing n (r ∷ rs) (entry_of n r ++ before) e
+  one_more : (r : RedoRecord) (rs : List RedoRecord) (before : List Entry) (e : Entry) (s : EntryOnDisk n rs before e) → EntryOnDisk n (r ∷ rs) (entry_of n r ++ before) e
   one_more r rs before e s = record { older = r ∷ s.older; newer = s.newer; one = s.one; split = ap (λ xs. r ∷ xs) s.split; first = ap (λ es. entry_of n r ++ es) s.first; is = s.is }
 
   first_of : (r : RedoRecord) (rs : List RedoRecord) (x : Entry) (before later : List Entry) (e : Entry) → entry_of n r ≡ x ∷ [] → x ∷ flat_map (entry_of n) rs ≡ before ++ e ∷ later
-      → ((es : List Entry) → flat_map (entry_of n) rs ≡ es ++ e ∷ later → Standing n rs es e) → Standing n (r ∷ rs) before e
+      → ((es : List Entry) → flat_map (entry_of n) rs ≡ es ++ e ∷ later → EntryOnDisk n rs es e) → EntryOnDisk n (r ∷ rs) before e
   first_of r rs x [] later e is all rest = record { older = []; newer = rs; one = r; split = refl; first = refl; is = is ∙ (let here : x ≡ e = cc all in ap (λ z. z ∷ []) here) }
   first_of r rs x (y ∷ before) later e is all rest =
       let here : x ≡ y = cc all in
       let there : flat_map (entry_of n) rs ≡ before ++ e ∷ later = cc all in
-      subst (λ es. Standing n (r ∷ rs) es e) (ap (λ es. es ++ before) is ∙ ap (λ z. z ∷ before) here) (one_more r rs before e (rest before there))
+      subst (λ es. EntryOnDisk n (r ∷ rs) es e) (ap (λ es. es ++ before) is ∙ ap (λ z. z ∷ before) here) (one_more r rs before e (rest before there))
 
   -- where the entries of a disk are parted, the disk is
-  disk_parted : (rs : List RedoRecord) (before later : List Entry) (e : Entry) → flat_map (entry_of n) rs ≡ before ++ e ∷ later → Standing n rs before e
+  disk_parted : (rs : List RedoRecord) (before later : List Entry) (e : Entry) → flat_map (entry_of n) rs ≡ before ++ e ∷ later → EntryOnDisk n rs before e
   disk_parted [] [] later e all = absurd cc
   disk_parted [] (x ∷ before) later e all = absurd cc
   disk_parted (r ∷ rs) before later e all = elim (none_or_one n r) [
     | inl none ↦ (let rest = disk_parted rs before later e (sym (ap (λ es. es ++ flat_map (entry_of n) rs) none) ∙ all) in
-        subst (λ es. Standing n (r ∷ rs) es e) (ap (λ es. es ++ before) none) (one_more r rs before e rest))
+        subst (λ es. EntryOnDisk n (r ∷ rs) es e) (ap (λ es. es ++ before) none) (one_more r rs before e rest))
     | inr some ↦ first_of r rs some.0 before later e some.1 (sym (ap (λ es. es ++ flat_map (entry_of n) rs) some.1) ∙ all) (λ es at. disk_parted rs es later e at)
   ]
 
   module _ (book : List Entry) (rs : List RedoRecord) (disk : filter (is_of_node n) book ≡ flat_map (entry_of n) rs) where
     -- the record of an entry stands after those of the entries of its node before it
-    pub on_disk : (k : ℕ) (e : Entry) → At book k e → node_of e ≡ n → Standing n rs (filter (is_of_node n) (take k book)) e
+    pub on_disk : (k : ℕ) (e : Entry) → At book k e → node_of e ≡ n → EntryOnDisk n rs (filter (is_of_node n) (take k book)) e
     on_disk k e at here =
         let parts = parted e book k at in
         disk_parted rs (filter (is_of_node n) (take k book)) (filter (is_of_node n) parts.0) e
@@ -138,7 +138,7 @@ module _ (n : ℕ) where
         ∙ ap (λ q. filter (is_of_node n) (take k book) ++ (if q then e ∷ filter (is_of_node n) parts.0 else filter (is_of_node n) parts.0)) (eq-eqb (node_of e) n here))))
 
     -- and so does the record of an entry before it
-    pub older_on_disk : (k m : ℕ) (d e : Entry) → At book k d → k < m → node_of d ≡ n → (s : Standing n rs (filter (is_of_node n) (take m book)) e) → (r : RedoRecord) × IsOne r s.older × (entry_of n r ≡ d ∷ [])
+    pub older_on_disk : (k m : ℕ) (d e : Entry) → At book k d → k < m → node_of d ≡ n → (s : EntryOnDisk n rs (filter (is_of_node n) (take m book)) e) → (r : RedoRecord) × IsOne r s.older × (entry_of n r ≡ d ∷ [])
     older_on_disk k m d e at less here s =
         let kept : IsOne d (filter (is_of_node n) (take m book)) = one_kept (is_of_node n) d (take m book) (one_before d book k m at less) (eq-eqb (node_of d) n here) in
         let there = one_of_flat (entry_of n) d s.older (subst (IsOne d) (sym s.first) kept) in
@@ -148,7 +148,7 @@ module _ (n : ℕ) where
     pub leaves_later : (k m : ℕ) (x y g h : BranchId) (cs ds : List Change) (d e : Entry) → At book k d → At book m e → k < m → IsOf x g cs d → IsOf y h ds e → node_of d ≡ n → node_of e ≡ n
         → have_a_key_in_common cs ds ≡ true → LeavesAfter rs x y
     leaves_later k m x y g h cs ds d e at later less of of_later here there common =
-        let s : Standing n rs (filter (is_of_node n) (take m book)) e = on_disk m e later there in
+        let s : EntryOnDisk n rs (filter (is_of_node n) (take m book)) e = on_disk m e later there in
         let r = older_on_disk k m d e at less here s in
         let one = leaves_by n x g cs d r.0 r.2 of in
         let other = leaves_by n y h ds e s.one s.is of_later in

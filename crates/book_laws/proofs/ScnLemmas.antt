@@ -34,7 +34,7 @@ use Rattle.book_laws.specs.SealLaws.{ComesFirst}
 use Rattle.book_laws.proofs.PlaceLemmas.{IsOne, found, finds, both_ways, one_of_flat, place_of, one_at, place_before, one_before, any_unfiltered, at_place}
 use Rattle.book_laws.proofs.DiskLemmas.{books_are_of_disks}
 use Rattle.book_laws.proofs.SealLemmas.{seals_come_first, lawful_events}
-use Rattle.book_laws.proofs.OnDiskLemmas.{common_too, IsOf, leaves_by, disk_ends, Standing, on_disk, older_on_disk, leaves_later}
+use Rattle.book_laws.proofs.OnDiskLemmas.{common_too, IsOf, leaves_by, disk_ends, EntryOnDisk, on_disk, older_on_disk, leaves_later}
 use Rattle.book_laws.proofs.DecisionLemmas.{has_end, unforced_events, DecidedAt, one_decision, by_decision, site_decided, root_of, root_before}
 
 -- ---- the branch that changed a key
@@ -105,7 +105,7 @@ one_transaction x y g h cs ds (entries.Ended b d) one other = absurd one
 one_transaction x y g h cs ds (entries.Forced b d) one other = absurd one
 one_transaction x y g h cs ds (entries.Met b d mixed) one other = absurd one
 
-decision_on : (g : BranchId) (n : ℕ) (e : Entry) → is_decision_at g n e ≡ true → is_decision_on g e ≡ true
+pub decision_on : (g : BranchId) (n : ℕ) (e : Entry) → is_decision_at g n e ≡ true → is_decision_on g e ≡ true
 decision_on g n (entries.Decided b h cs m) is = (and_parts (same h g) (m == n) is).0
 decision_on g n (entries.Made k x) is = absurd (true≢false (sym is))
 decision_on g n (entries.Sealed b h cs m) is = absurd (true≢false (sym is))
@@ -129,7 +129,7 @@ all_done older x (records.Sealed r) leaves order = order.0
 all_done older x (records.Decided r) leaves order = order.0
 all_done older x _ leaves order = absurd leaves
 
-done_in : (P : RedoRecord → Type 0) (r : RedoRecord) (rs : List RedoRecord) → AllByRecursion P rs → IsOne r rs → P r
+pub done_in : (P : RedoRecord → Type 0) (r : RedoRecord) (rs : List RedoRecord) → AllByRecursion P rs → IsOne r rs → P r
 done_in P r [] all there = absurd there
 done_in P r (s ∷ rs) all (inl here) = subst P here all.0
 done_in P r (s ∷ rs) all (inr there) = done_in P r rs all.1 there
@@ -175,7 +175,7 @@ module _ (p : Forest) (w : IsForest p) (t : List Event) (l : Lawful p t) (agrees
       end_before : (y f x g : BranchId) (ds es : List Change) (scn k m : ℕ) (e : Entry) → At (book_of t) k (entries.Sealed y f ds scn) → At (book_of t) m e → k < m → y.node ≡ n → node_of e ≡ n → IsOf x g es e
           → have_a_key_in_common ds es ≡ true → stands (is_end_of y) (take m (book_of t)) ≡ true
       end_before y f x g ds es scn k m e at later less here there of common =
-          let s : Standing n rs (filter (is_of_node n) (take m (book_of t))) e = on_disk n (book_of t) rs disk m e later there in
+          let s : EntryOnDisk n rs (filter (is_of_node n) (take m (book_of t))) e = on_disk n (book_of t) rs disk m e later there in
           let r = older_on_disk n (book_of t) rs disk k m (entries.Sealed y f ds scn) e at less here s in
           let other = leaves_by n x g es e s.one s.is of in
           let comes : ComesInOrder s.older s.one = at_split [] s.older s.one s.newer (subst (InOrderFrom []) s.split order) in

@@ -9,7 +9,7 @@ use Rattle.std.specs.List.{AllByRecursion}
 use Rattle.session_tree.specs.Live.{is_branch}
 use Rattle.redo_record.specs.Rows.{toward_of}
 use Rattle.agreement.specs.Events.{Event}
-use Rattle.node_rules.specs.Data.{BranchId, Decision, RedoRecord, Standing, Input, Place, Post, Done, Stmt}
+use Rattle.node_rules.specs.Data.{BranchId, Decision, RedoRecord, KeptRow, Input, Place, Post, Done, Stmt}
 use Rattle.node_rules.specs.Data.records
 use Rattle.node_rules.specs.Data.nexts
 use Rattle.node_rules.specs.Data.acts
@@ -19,7 +19,7 @@ use Rattle.node_rules.specs.Words.{item_at}
 use Rattle.node_rules.specs.Ids.{local_text}
 use Rattle.node_rules.specs.Force.{is_sealed, may_purge, branch_to_force}
 use Rattle.redo_record.specs.Durable.{durable}
-use Rattle.node_rules.specs.NodeState.{NodeState, Deed, standing_id}
+use Rattle.node_rules.specs.NodeState.{NodeState, TurnDraft, kept_row_id}
 use Rattle.node_rules.specs.Commit.{acked_by}
 use Rattle.node_rules.specs.Inputs.{IsCall}
 use Rattle.node_rules.specs.Turn.{heard}
@@ -37,7 +37,7 @@ use Rattle.run_rules.specs.BranchRecords.{sealed_in, decided_in, toward_in, towa
 use Rattle.run_rules.specs.Lawful.{MayHappen, MayTurn, History, IsLawfulRun, facts_at}
 use Rattle.run_base_laws.specs.NodeLaws.{EachFactFrom}
 use Rattle.run_base_laws.specs.RunEvents.{events_after}
-use Rattle.run_base_laws.proofs.EventsStandLemmas.{Stand, run_stands, node_so, ids_name_their_node}
+use Rattle.run_base_laws.proofs.EventsStandLemmas.{BranchStatus, run_stands, node_so, ids_name_their_node}
 use Rattle.run_base_laws.proofs.LawfulLemmas.{of_wrote, serves, turn_of_node}
 use Rattle.run_base_laws.proofs.OwnLemmas.{all_found, all_with}
 use Rattle.run_branch_laws.proofs.QuietLemmas.{came_apart}
@@ -68,7 +68,7 @@ module _ (f : Facts) where
   TowardSo b None = decided_in (records_at f b.node) b ≢ None
   TowardSo b (Some x) = toward_at f b ≡ Some x
 
-  abbrev pub RowSo : Standing → Type 0
+  abbrev pub RowSo : KeptRow → Type 0
   RowSo s = TowardSo s.me s.toward
 
   abbrev RecordSo : RedoRecord → Type 0
@@ -90,10 +90,10 @@ module _ (f : Facts) where
 -- ---- steps
 
 module _ (p : Place) (f : Facts) (held : NodeState) (n : ℕ) (input : Input) where
-  toward_said : (s : Standing) (from : BranchId) → RowSo f s → is_branch from s.toward ≡ true → toward_at f s.me ≡ Some from
+  toward_said : (s : KeptRow) (from : BranchId) → RowSo f s → is_branch from s.toward ≡ true → toward_at f s.me ≡ Some from
   toward_said s from so on = subst (TowardSo f s.me) (branch_found from s.toward on) so
 
-  module _ (s : Standing) (so : RowSo f s) where
+  module _ (s : KeptRow) (so : RowSo f s) where
     ends_so : {clock : ℕ} {from : BranchId} {d : Decision} → Doing clock input s from (nexts.End d) → HeardFromToward f s.me d input
     ends_so {from = from} (steps.Ends_so d brings toward none sealed met) = (from, toward_said s from so toward, brings)
 
@@ -104,23 +104,23 @@ module _ (p : Place) (f : Facts) (held : NodeState) (n : ℕ) (input : Input) wh
     forgets_so (steps.Forgets_first came knows new all site) undecided = absurd (subst (TowardSo f s.me) (none_there s.toward site) so undecided)
     forgets_so {from = from} (steps.Forgets_after came knows toward new) undecided = (from, toward_said s from so toward, came)
 
-  module _ (s : Standing) (known : IsKnownRow (durable (records_at f n)).kept s) where
-    hides_by : (row : Option Standing) → row ≡ Some known.0 → s.hidden ≡ false
+  module _ (s : KeptRow) (known : IsKnownRow (durable (records_at f n)).kept s) where
+    hides_by : (row : Option KeptRow) → row ≡ Some known.0 → s.hidden ≡ false
         → (IsCallOf (stmts.PurgeMixed (local_text s.me)) input × (s.mixed ≡ true)) ⊎ (IsCallOf (stmts.PurgeLost (local_text s.me)) input × (is_sealed s.state ≡ false)) → IsPurge row s.me input
     hides_by row is shown (inl (call, mixed)) = subst (λ o. IsPurge o s.me input) (sym is) (known.2 ∙ shown, inl (call, known.3 ∙ mixed))
     hides_by row is shown (inr (call, lost)) = subst (λ o. IsPurge o s.me input) (sym is) (known.2 ∙ shown, inr (call, ap is_sealed known.4 ∙ lost))
 
-    hides_so : (m : ℕ) (mixed : Bool) (id : List ℕ) → IsCall input m (steps.purge_of mixed id) → may_purge mixed id s ≡ true → IsPurge (item_at standing_id (durable (records_at f n)).kept s.me) s.me input
+    hides_so : (m : ℕ) (mixed : Bool) (id : List ℕ) → IsCall input m (steps.purge_of mixed id) → may_purge mixed id s ≡ true → IsPurge (item_at kept_row_id (durable (records_at f n)).kept s.me) s.me input
     hides_so m true id call may =
         let one = and_parts (not s.hidden) (bytes_eq (local_text s.me) id && s.mixed) may in
         let two = and_parts (bytes_eq (local_text s.me) id) s.mixed one.1 in
         let text : id ≡ local_text s.me = sym ((bytes_decides (local_text s.me) id).0 two.0) in
-        hides_by (item_at standing_id (durable (records_at f n)).kept s.me) known.1 (not_false s.hidden one.0) (inl ((m, subst (λ x. IsCall input m (stmts.PurgeMixed x)) text call), two.1))
+        hides_by (item_at kept_row_id (durable (records_at f n)).kept s.me) known.1 (not_false s.hidden one.0) (inl ((m, subst (λ x. IsCall input m (stmts.PurgeMixed x)) text call), two.1))
     hides_so m false id call may =
         let one = and_parts (not s.hidden) (bytes_eq (local_text s.me) id && not (is_sealed s.state)) may in
         let two = and_parts (bytes_eq (local_text s.me) id) (not (is_sealed s.state)) one.1 in
         let text : id ≡ local_text s.me = sym ((bytes_decides (local_text s.me) id).0 two.0) in
-        hides_by (item_at standing_id (durable (records_at f n)).kept s.me) known.1 (not_false s.hidden one.0) (inr ((m, subst (λ x. IsCall input m (stmts.PurgeLost x)) text call), not_false (is_sealed s.state) two.1))
+        hides_by (item_at kept_row_id (durable (records_at f n)).kept s.me) known.1 (not_false s.hidden one.0) (inr ((m, subst (λ x. IsCall input m (stmts.PurgeLost x)) text call), not_false (is_sealed s.state) two.1))
 
   -- an outcome that is forced, where a call came
   abbrev pub ForcedSo : NodeState → Type 0
@@ -133,17 +133,17 @@ module _ (p : Place) (f : Facts) (held : NodeState) (n : ℕ) (input : Input) wh
   made_so m call (steps.Sets_recovery on) = λ before after. (m, call)
 
   -- what is known of a row
-  abbrev pub RowDue : Standing → Type 0
+  abbrev pub RowDue : KeptRow → Type 0
   RowDue s = RowSo f s × IsKnownRow (durable (records_at f n)).kept s
 
-  row_found : (k : NodeState) (s : Standing) → AllByRecursion RowDue k.stored.durable.kept → steps.IsKept k s → RowDue s
-  row_found k s now kept = all_found RowDue standing_id k.stored.durable.kept s.me s now kept
+  row_found : (k : NodeState) (s : KeptRow) → AllByRecursion RowDue k.stored.durable.kept → steps.IsKept k s → RowDue s
+  row_found k s now kept = all_found RowDue kept_row_id k.stored.durable.kept s.me s now kept
 
-  step_due : {k : NodeState} {d : Deed} → Step p input k d → AllByRecursion RowDue k.stored.durable.kept → ForcedSo k → IfSome d.wrote (IsToBeWritten p f held n input)
+  step_due : {k : NodeState} {d : TurnDraft} → Step p input k d → AllByRecursion RowDue k.stored.durable.kept → ForcedSo k → IfSome d.wrote (IsToBeWritten p f held n input)
   step_due (steps.Begins m s call rows fit none step) now forced = step_due step now forced
   step_due (steps.Pends m l comment call has live code step) now forced = step_due step now forced
   step_due (steps.Lets_reads_go l comment site_below live begins step) now forced = step_due step now forced
-  step_due (steps.Counts_ack {k = k} s from kept came counts step) now forced = step_due step (all_with RowDue standing_id k.stored.durable.kept (acked_by s from) now (row_found k s now kept)) (λ m x call. absurd (came_apart m x came call))
+  step_due (steps.Counts_ack {k = k} s from kept came counts step) now forced = step_due step (all_with RowDue kept_row_id k.stored.durable.kept (acked_by s from) now (row_found k s now kept)) (λ m x call. absurd (came_apart m x came call))
   step_due (steps.Acts l site_below acts.Seal why) now forced = tt
   step_due (steps.Acts l site_below (acts.SealAndPass i) why) now forced = tt
   step_due (steps.Acts l site_below acts.Decide why) now forced = tt
@@ -183,7 +183,7 @@ module _ (t : History) (before : List Happening) (lawful : IsLawfulRun (so_far t
   abbrev f : Facts
   f = f_at t before
 
-  stands : Stand t.places t.commands t.of_a_script.each (f_at t before) (e_at t before)
+  stands : BranchStatus t.places t.commands t.of_a_script.each (f_at t before) (e_at t before)
   stands = run_stands (so_far t before) lawful
 
   turn_due : (said : List Post) → DisksLead said (f_at t before) → (u : Turn) (k : NodeState) → MayTurn t.places (f_at t before) u k → IfSome u.wrote (IsToBeWritten (place_at t.places u.node) (f_at t before) k u.node u.input)
@@ -200,7 +200,7 @@ module _ (t : History) (before : List Happening) (lawful : IsLawfulRun (so_far t
       let own : AllByRecursion (λ s. s.me.node ≡ u.node) k.stored.durable.kept = (ids_name_their_node (so_far t before) lawful u.node k may.up).rows in
       of_wrote (place_at t.places u.node) k u (serves t.places (f_at t before) u k may) (λ w. IfSome w (IsToBeWritten (place_at t.places u.node) (f_at t before) k u.node u.input)) tt
       (step_due (place_at t.places u.node) (f_at t before) k u.node u.input (serves t.places (f_at t before) u k may).step
-      (subst (λ (ks : List Standing). AllByRecursion (λ s. RowSo (f_at t before) s × IsKnownRow (durable rs).kept s) ks) (sym (heard_rows k u.input)) due)
+      (subst (λ (ks : List KeptRow). AllByRecursion (λ s. RowSo (f_at t before) s × IsKnownRow (durable rs).kept s) ks) (sym (heard_rows k u.input)) due)
       (λ m x call. subst (λ z. (z.clock ≡ k.clock) × ((id : List ℕ) (b : BranchId) → branch_to_force (place_at t.places u.node).names z.stored.durable.kept id ≡ Ok b → named_in_doubt (place_at t.places u.node).names (f_at t before) (place_at t.places u.node).number id ≡ b ∷ []))
       (sym (heard_call k u.input m x call)) (refl, λ id b named. subst (λ i. named_in_doubt (place_at t.places u.node).names (f_at t before) i id ≡ b ∷ []) (sym number) (named_one (so_far t before) lawful u.node k may.up node.stored own (place_at t.places u.node).names id b named))))
 

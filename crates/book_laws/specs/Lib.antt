@@ -5,3 +5,6 @@ pub mod WriteLaws
 pub mod LifeLaws
 pub mod LeaveLaws
 pub mod TriedBook
+pub mod RowLaws
+pub mod TriedBookRows
+pub mod TriedForcedRows

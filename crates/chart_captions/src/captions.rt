@@ -1,8 +1,10 @@
-//! What is told of each command.
+//! The captions of commands: the text and the answers of each.
 ghost use Rattle.std.specs.Prelude.{◌≡◌, ◌++◌, flat_map, IfOk, OnOk};
 ghost use Rattle.report.specs.Report.{said_text};
-ghost use Rattle.chart_captions.specs.Tale.{wrapped as wrapped_text, answer_if, reported_of, tale_from};
+ghost use Rattle.chart_captions.specs.Lines.{in_lines};
+ghost use Rattle.chart_captions.specs.Tale.{answer_if, reported_of, tale_from};
 
+use crate::broken::Broken;
 use crate::command::put_command;
 use book::{AnswerLine, Said};
 use chart_marks::Told;
@@ -11,23 +13,15 @@ use report::{answer_lines, notice_lines};
 use script_read::Command;
 use std::alloc::{AllocError, Global};
 
-const LINE_WIDTH: usize = 58;
-
 // A text in lines.
-fn wrapped(alloc: Global, text: &[u8]) -> Result<Vec<Bytes>, AllocError>
-    ensures { IfOk result (λ lines. lines.items ≡ wrapped_text text.now) }
+fn text_lines(alloc: Global, text: &[u8]) -> Result<Vec<Bytes>, AllocError>
+    ensures { IfOk result (λ lines. lines.items ≡ in_lines text.now) }
 {
-    let mut lines = Vec::new(alloc);
-    let mut line = Vec::new(alloc);
+    let mut broken = Broken::new(alloc);
     for byte in text {
-        if line.len() == LINE_WIDTH {
-            lines.push(Listing::of(line))?;
-            line = Vec::new(alloc);
-        }
-        line.push(*byte)?;
+        broken.put(alloc, *byte)?;
     }
-    lines.push(Listing::of(line))?;
-    Ok(lines)
+    broken.into_lines(alloc)
 }
 
 fn said_lines(alloc: Global, said: &Said) -> Result<Vec<Bytes>, AllocError>
@@ -40,10 +34,10 @@ fn said_lines(alloc: Global, said: &Said) -> Result<Vec<Bytes>, AllocError>
 }
 
 fn put_all(lines: &mut Vec<Bytes>, alloc: Global, texts: &[Bytes]) -> Result<(), AllocError>
-    ensures { OnOk result (lines.new.items ≡ lines.old.items ++ flat_map wrapped_text texts.now) }
+    ensures { OnOk result (lines.new.items ≡ lines.old.items ++ flat_map in_lines texts.now) }
 {
     for text in texts {
-        let mut more = wrapped(alloc, text.as_slice())?;
+        let mut more = text_lines(alloc, text.as_slice())?;
         lines.append(&mut more)?;
     }
     Ok(())
@@ -85,7 +79,7 @@ fn told(
 {
     let mut text = Vec::new(alloc);
     put_command(&mut text, alloc, names, command)?;
-    let lines = wrapped(alloc, &text)?;
+    let lines = text_lines(alloc, &text)?;
     let answer = answer(alloc, answers, number)?;
     Ok(Told {
         text: Listing::of(lines),
@@ -93,7 +87,7 @@ fn told(
     })
 }
 
-/// What is told of each command, where these are the names of all nodes. Fails where memory runs out.
+/// The text and the answers of each command, where these are the names of all nodes. Fails where memory runs out.
 pub fn tale(
     alloc: Global,
     names: &[Name],

@@ -3,13 +3,13 @@ use Rattle.std.specs.Prelude.{ℕ, ◌+◌, ◌&&◌, ◌==◌, Bool, true, fals
 use Rattle.tran_ids.specs.Branch.{same}
 use Rattle.tran_ids.specs.Listed.{numbered, set_numbered}
 use Rattle.wire_msg.specs.Names.{name_of_kind}
-use Rattle.chart_marks.specs.Data.{BranchId, Decision, RedoRecord, Msg, Input, Took, Turn, Happening, Told, Band, End, Arrow, Repeat, Deed, Side, Left, Right, Note, Doubt, Outage, Parting, Marks}
+use Rattle.chart_marks.specs.Data.{BranchId, Decision, RedoRecord, Msg, Input, Took, Turn, Happening, Told, Band, End, Arrow, Repeat, NoteKind, Side, Left, Right, Note, Doubt, Outage, Parting, Marks}
 use Rattle.chart_marks.specs.Data.decisions
 use Rattle.chart_marks.specs.Data.records
 use Rattle.chart_marks.specs.Data.inputs
 use Rattle.chart_marks.specs.Data.happenings
 use Rattle.chart_marks.specs.Data.ends
-use Rattle.chart_marks.specs.Data.deeds
+use Rattle.chart_marks.specs.Data.note_kinds
 use Rattle.chart_marks.specs.Rows.{start, along, rows_of}
 
 -- the band of a command, with what was told of it
@@ -92,37 +92,37 @@ repeats_after rs row (happenings.Turn t) = rs ++ repeats_in row t.took t.input
 repeats_after rs row _ = rs
 
 -- what comes to a node beside messages, which have their arrows
-abbrev pub deed_of_input : Input → Option Deed
-deed_of_input (inputs.Call session s) = Some (deeds.Call session)
-deed_of_input (inputs.GiveUp session) = Some (deeds.GiveUp session)
-deed_of_input (inputs.Message m) = None
-deed_of_input inputs.Reco = Some deeds.Reco
+abbrev pub note_kind_of_input : Input → Option NoteKind
+note_kind_of_input (inputs.Call session s) = Some (note_kinds.Call session)
+note_kind_of_input (inputs.GiveUp session) = Some (note_kinds.GiveUp session)
+note_kind_of_input (inputs.Message m) = None
+note_kind_of_input inputs.Reco = Some note_kinds.Reco
 
 -- the decision reaches a prepared branch
-abbrev pub deed_ended : Decision → Deed
-deed_ended (decisions.Commit scn) = deeds.Committed scn
-deed_ended decisions.Rollback = deeds.RolledBack
+abbrev pub note_kind_ended : Decision → NoteKind
+note_kind_ended (decisions.Commit scn) = note_kinds.Committed scn
+note_kind_ended decisions.Rollback = note_kinds.RolledBack
 
 -- an administrator forces a prepared branch
-abbrev pub deed_forced : Decision → Deed
-deed_forced (decisions.Commit scn) = deeds.ForcedCommit scn
-deed_forced decisions.Rollback = deeds.ForcedRollback
+abbrev pub note_kind_forced : Decision → NoteKind
+note_kind_forced (decisions.Commit scn) = note_kinds.ForcedCommit scn
+note_kind_forced decisions.Rollback = note_kinds.ForcedRollback
 
 -- what a record says of a branch
-abbrev pub deed_of : RedoRecord → Option Deed
-deed_of (records.Sealed r) = Some deeds.Prepared
-deed_of (records.Decided r) = Some (deeds.Decided r.scn)
-deed_of (records.Ended me d) = Some (deed_ended d)
-deed_of (records.Forced me d given) = Some (deed_forced d)
-deed_of (records.Met me d mixed) = Some (if mixed then deeds.MetMixed else deeds.Met)
-deed_of (records.Forgot me) = Some deeds.Forgotten
-deed_of (records.Hidden me) = Some deeds.Purged
-deed_of _ = None
+abbrev pub note_kind_of : RedoRecord → Option NoteKind
+note_kind_of (records.Sealed r) = Some note_kinds.Prepared
+note_kind_of (records.Decided r) = Some (note_kinds.Decided r.scn)
+note_kind_of (records.Ended me d) = Some (note_kind_ended d)
+note_kind_of (records.Forced me d given) = Some (note_kind_forced d)
+note_kind_of (records.Met me d mixed) = Some (if mixed then note_kinds.MetMixed else note_kinds.Met)
+note_kind_of (records.Forgot me) = Some note_kinds.Forgotten
+note_kind_of (records.Hidden me) = Some note_kinds.Purged
+note_kind_of _ = None
 
 -- the same, where a record was written
-abbrev pub deed_written : Option RedoRecord → Option Deed
-deed_written None = None
-deed_written (Some r) = deed_of r
+abbrev pub note_kind_written : Option RedoRecord → Option NoteKind
+note_kind_written None = None
+note_kind_written (Some r) = note_kind_of r
 
 -- the side from which a message comes, and calls from the left
 abbrev pub side_of : ℕ → Input → Side
@@ -135,16 +135,16 @@ across Left = Right
 across Right = Left
 
 -- a note, where there is something to say
-abbrev pub noted : ℕ → ℕ → Side → Option Deed → List Note
+abbrev pub noted : ℕ → ℕ → Side → Option NoteKind → List Note
 noted node row side None = []
-noted node row side (Some d) = record { node = node; row = row; side = side; deed = d } ∷ []
+noted node row side (Some d) = record { node = node; row = row; side = side; note_kind = d } ∷ []
 
 -- what came in stands on the side from which it came, and what was written on the other
 abbrev pub notes_after : List Note → ℕ → Happening → List Note
 notes_after ns row (happenings.Turn t) =
-    ns ++ noted t.node row (side_of t.node t.input) (deed_of_input t.input) ++ noted t.node row (across (side_of t.node t.input)) (deed_written t.wrote)
-notes_after ns row (happenings.Stopped node) = ns ++ noted node row Right (Some deeds.Stopped)
-notes_after ns row (happenings.Started node boot) = ns ++ noted node row Right (Some (deeds.Started boot))
+    ns ++ noted t.node row (side_of t.node t.input) (note_kind_of_input t.input) ++ noted t.node row (across (side_of t.node t.input)) (note_kind_written t.wrote)
+notes_after ns row (happenings.Stopped node) = ns ++ noted node row Right (Some note_kinds.Stopped)
+notes_after ns row (happenings.Started node boot) = ns ++ noted node row Right (Some (note_kinds.Started boot))
 notes_after ns row _ = ns
 
 -- a doubt of this branch ends in this row, if it has not ended before

@@ -20,5 +20,5 @@ mod walk;
 pub use all_marks::marks;
 pub use laws::each_message_has_its_arrow;
 pub use mark::{
-    Arrow, Band, Deed, Doubt, End, Marks, Note, Outage, Parting, Repeat, Side, Tale, Told,
+    Arrow, Band, Doubt, End, Marks, Note, NoteKind, Outage, Parting, Repeat, Side, Tale, Told,
 };

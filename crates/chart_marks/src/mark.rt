@@ -102,7 +102,7 @@ pub struct Repeat {
 
 /// What a note on a lane says.
 #[derive(Clone, Copy, Debug, PartialEq, Eq)]
-pub enum Deed {
+pub enum NoteKind {
     /// A client's call came in, at this session.
     Call(u32),
     /// The pending call of this session was given up.
@@ -154,7 +154,7 @@ pub struct Note {
     /// On which side of the lane it stands: that of a record where no arrow comes in.
     pub side: Side,
     /// What it says.
-    pub deed: Deed,
+    pub note_kind: NoteKind,
 }
 
 /// A branch in doubt: prepared, and neither told of the decision nor forced.

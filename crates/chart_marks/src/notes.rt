@@ -1,52 +1,52 @@
 //! What nodes did or met, beside their lanes.
 ghost use Rattle.std.specs.Prelude.{◌≡◌, ◌++◌, OnOk};
-ghost use Rattle.chart_marks.specs.Marks.{deed_of_input, deed_ended, deed_forced, deed_of as deed_of_record, deed_written, side_of, across as across_from, noted, notes_after};
+ghost use Rattle.chart_marks.specs.Marks.{note_kind_of_input, note_kind_ended, note_kind_forced, note_kind_of as note_kind_of_record, note_kind_written, side_of, across as across_from, noted, notes_after};
 
-use crate::mark::{Deed, Note, Side};
+use crate::mark::{Note, NoteKind, Side};
 use crate::walk::Marked;
 use book::{Happening, Turn};
 use redo_record::{Decision, RedoRecord};
 use std::alloc::AllocError;
 use wire_msg::Input;
 
-fn deed_taken(input: &Input) -> Option<Deed>
-    ensures { result ≡ deed_of_input input.now }
+fn note_kind_taken(input: &Input) -> Option<NoteKind>
+    ensures { result ≡ note_kind_of_input input.now }
 {
     match input {
         Input::Call {
             session,
             statement: _statement,
-        } => Some(Deed::Call(*session)),
-        Input::GiveUp { session } => Some(Deed::GiveUp(*session)),
+        } => Some(NoteKind::Call(*session)),
+        Input::GiveUp { session } => Some(NoteKind::GiveUp(*session)),
         Input::Message(_) => None,
-        Input::Reco => Some(Deed::Reco),
+        Input::Reco => Some(NoteKind::Reco),
     }
 }
 
-fn ended(decision: &Decision) -> Deed
-    ensures { result ≡ deed_ended decision.now }
+fn ended(decision: &Decision) -> NoteKind
+    ensures { result ≡ note_kind_ended decision.now }
 {
     match decision {
-        Decision::Commit(scn) => Deed::Committed(*scn),
-        Decision::Rollback => Deed::RolledBack,
+        Decision::Commit(scn) => NoteKind::Committed(*scn),
+        Decision::Rollback => NoteKind::RolledBack,
     }
 }
 
-fn forced(decision: &Decision) -> Deed
-    ensures { result ≡ deed_forced decision.now }
+fn forced(decision: &Decision) -> NoteKind
+    ensures { result ≡ note_kind_forced decision.now }
 {
     match decision {
-        Decision::Commit(scn) => Deed::ForcedCommit(*scn),
-        Decision::Rollback => Deed::ForcedRollback,
+        Decision::Commit(scn) => NoteKind::ForcedCommit(*scn),
+        Decision::Rollback => NoteKind::ForcedRollback,
     }
 }
 
-fn deed_of(item: &RedoRecord) -> Option<Deed>
-    ensures { result ≡ deed_of_record item.now }
+fn note_kind_of(item: &RedoRecord) -> Option<NoteKind>
+    ensures { result ≡ note_kind_of_record item.now }
 {
     match item {
-        RedoRecord::Sealed(_) => Some(Deed::Prepared),
-        RedoRecord::Decided(decided) => Some(Deed::Decided(decided.scn)),
+        RedoRecord::Sealed(_) => Some(NoteKind::Prepared),
+        RedoRecord::Decided(decided) => Some(NoteKind::Decided(decided.scn)),
         RedoRecord::Ended { me: _me, decision } => Some(ended(decision)),
         RedoRecord::Forced {
             me: _me,
@@ -57,19 +57,23 @@ fn deed_of(item: &RedoRecord) -> Option<Deed>
             me: _me,
             decision: _decision,
             mixed,
-        } => Some(if *mixed { Deed::MetMixed } else { Deed::Met }),
-        RedoRecord::Forgot(_) => Some(Deed::Forgotten),
-        RedoRecord::Hidden(_) => Some(Deed::Purged),
+        } => Some(if *mixed {
+            NoteKind::MetMixed
+        } else {
+            NoteKind::Met
+        }),
+        RedoRecord::Forgot(_) => Some(NoteKind::Forgotten),
+        RedoRecord::Hidden(_) => Some(NoteKind::Purged),
         _ => None,
     }
 }
 
-fn deed_of_written(wrote: &Option<RedoRecord>) -> Option<Deed>
-    ensures { result ≡ deed_written wrote.now }
+fn note_kind_of_written(wrote: &Option<RedoRecord>) -> Option<NoteKind>
+    ensures { result ≡ note_kind_written wrote.now }
 {
     match wrote {
         None => None,
-        Some(item) => deed_of(item),
+        Some(item) => note_kind_of(item),
     }
 }
 
@@ -96,16 +100,16 @@ fn note(
     node: u8,
     row: u32,
     side: Side,
-    deed: Option<Deed>,
+    note_kind: Option<NoteKind>,
 ) -> Result<(), AllocError>
-    ensures { OnOk result (notes.new.items ≡ notes.old.items ++ noted node row side deed) }
+    ensures { OnOk result (notes.new.items ≡ notes.old.items ++ noted node row side note_kind) }
 {
-    if let Some(deed) = deed {
+    if let Some(note_kind) = note_kind {
         notes.push(Note {
             node,
             row,
             side,
-            deed,
+            note_kind,
         })?;
     }
     Ok(())
@@ -113,17 +117,17 @@ fn note(
 
 fn turn(notes: &mut Vec<Note>, row: u32, turn: &Turn) -> Result<(), AllocError>
     ensures { OnOk result (notes.new.items ≡ notes.old.items
-        ++ noted turn.now.node row (side_of turn.now.node turn.now.input) (deed_of_input turn.now.input)
-        ++ noted turn.now.node row (across_from (side_of turn.now.node turn.now.input)) (deed_written turn.now.wrote)) }
+        ++ noted turn.now.node row (side_of turn.now.node turn.now.input) (note_kind_of_input turn.now.input)
+        ++ noted turn.now.node row (across_from (side_of turn.now.node turn.now.input)) (note_kind_written turn.now.wrote)) }
 {
     let side = side(turn.node, &turn.input);
-    note(notes, turn.node, row, side, deed_taken(&turn.input))?;
+    note(notes, turn.node, row, side, note_kind_taken(&turn.input))?;
     note(
         notes,
         turn.node,
         row,
         across(side),
-        deed_of_written(&turn.wrote),
+        note_kind_of_written(&turn.wrote),
     )
 }
 
@@ -134,10 +138,16 @@ impl Marked for Note {
         match happening {
             Happening::Turn(taken) => turn(notes, row, taken),
             Happening::Stopped { node } => {
-                note(notes, *node, row, Side::Right, Some(Deed::Stopped))
+                note(notes, *node, row, Side::Right, Some(NoteKind::Stopped))
             }
             Happening::Started { node, boot } => {
-                note(notes, *node, row, Side::Right, Some(Deed::Started(*boot)))
+                note(
+                    notes,
+                    *node,
+                    row,
+                    Side::Right,
+                    Some(NoteKind::Started(*boot)),
+                )
             }
             _ => Ok(()),
         }

@@ -10,7 +10,7 @@ use Rattle.script_run.specs.declared.outcome.Status.{Status}
 use Rattle.script_run.specs.declared.outcome.Status.TheVariants.{Done, BadScript, Usage, NoMemory, WriteFault}
 use Rattle.script_run.specs.Headline.{nothing_done}
 use Rattle.script_run.specs.Ending.{Read, Written, IsUnread, IsUnfailed, IsCut, IsAskedBy, IsWhole, EndsReported, EndsRead, due_of}
-use Rattle.chart_run.specs.declared.words.Choices.{Choices}
+use Rattle.chart_run.specs.declared.choices.Choices.{Choices}
 use Rattle.chart_run.specs.Drawing.{picture_of}
 
 -- what is written where the words are wrong

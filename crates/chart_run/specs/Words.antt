@@ -2,10 +2,10 @@
 -- N, in any order. Without them all commands are drawn as SVG, as far as there is room.
 use Rattle.std.specs.Prelude.{ℕ, Bool, true, false, ◌+◌, ◌-◌, ◌*◌, ◌^◌, ◌&&◌, nat_le, nat_lt, List, [], ◌∷◌, Option, Some, None, if◌then◌else◌, codes}
 use Rattle.std.specs.Str.{bytes_eq}
-use Rattle.chart_run.specs.declared.words.Choices.{Choices}
-use Rattle.chart_run.specs.declared.words.Next.{Next}
-use Rattle.chart_run.specs.declared.words.Next.TheVariants as nexts
-use Rattle.chart_run.specs.declared.words.Reading.{Reading}
+use Rattle.chart_run.specs.declared.choices.Choices.{Choices}
+use Rattle.chart_run.specs.declared.choices.Next.{Next}
+use Rattle.chart_run.specs.declared.choices.Next.TheVariants as nexts
+use Rattle.chart_run.specs.declared.choices.Reading.{Reading}
 
 -- `0` to `9`
 abbrev pub is_digit : ℕ → Bool

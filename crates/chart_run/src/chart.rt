@@ -6,19 +6,19 @@ ghost use Rattle.script_read.specs.Sound.{names_in};
 ghost use Rattle.script_run.specs.declared.outcome.Status.TheVariants.{BadScript, Usage};
 ghost use Rattle.script_run.specs.Headline.{IsRun};
 ghost use Rattle.script_run.specs.Ending.{ending_of, EndsReported, IsComplete};
-ghost use Rattle.chart_run.specs.declared.words.Choices.{Choices};
+ghost use Rattle.chart_run.specs.declared.choices.Choices.{Choices};
 ghost use Rattle.chart_run.specs.Words.{wanted as wanted_by};
 ghost use Rattle.chart_run.specs.Drawing.{marks_in, drawn, picture_of};
 ghost use Rattle.chart_run.specs.Ending.{usage_line, EndsLined, EndsShown, EndsUnread, EndsDrawn};
 
-use crate::words::{Choices, wanted};
+use crate::choices::{Choices, wanted};
 use chart_captions::tale;
 use chart_marks::{Marks, marks};
 use chart_text::{Window, plain, svg};
 use dtx_ports::{MemSink, Sink, Source, write_whole};
 use dtx_values::{Duplicate, Listing, Name, Names};
 use script_read::Command;
-use script_run::{Outcome, Run, Status, run_script};
+use script_run::{Outcome, Run, Status, run_source};
 use std::alloc::{AllocError, Global};
 
 /// The most bytes of a report that a run may print whose picture is drawn.
@@ -160,7 +160,7 @@ fn run_and_draw<S: Source, K: Sink>(
             run: Run::empty(alloc),
         };
     };
-    let Outcome { status, run } = run_script(alloc, &Vec::new(alloc), source, &mut report);
+    let Outcome { status, run } = run_source(alloc, false, source, &mut report);
     let status = show(alloc, wanted, &run, report.bytes(), status, sink);
     Outcome { status, run }
 }

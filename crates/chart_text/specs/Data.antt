@@ -4,8 +4,8 @@ pub use Rattle.chart_marks.specs.declared.mark.End.{End}
 pub use Rattle.chart_marks.specs.declared.mark.End.TheVariants as ends
 pub use Rattle.chart_marks.specs.declared.mark.Arrow.{Arrow}
 pub use Rattle.chart_marks.specs.declared.mark.Repeat.{Repeat}
-pub use Rattle.chart_marks.specs.declared.mark.Deed.{Deed}
-pub use Rattle.chart_marks.specs.declared.mark.Deed.TheVariants as deeds
+pub use Rattle.chart_marks.specs.declared.mark.NoteKind.{NoteKind}
+pub use Rattle.chart_marks.specs.declared.mark.NoteKind.TheVariants as note_kinds
 pub use Rattle.chart_marks.specs.declared.mark.Side.{Side}
 pub use Rattle.chart_marks.specs.declared.mark.Side.TheVariants.{Left, Right}
 pub use Rattle.chart_marks.specs.declared.mark.Note.{Note}

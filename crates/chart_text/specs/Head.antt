@@ -1,7 +1,7 @@
 -- What stands above the rows: the title, what signs and lines mean, the names of the nodes.
 use Rattle.std.specs.Prelude.{ℕ, ◌+◌, List, [], ◌∷◌, ◌++◌, take, codes}
-use Rattle.chart_text.specs.Data.{Deed, Marks, LineKind, Shape}
-use Rattle.chart_text.specs.Data.deeds
+use Rattle.chart_text.specs.Data.{NoteKind, Marks, LineKind, Shape}
+use Rattle.chart_text.specs.Data.note_kinds
 use Rattle.chart_text.specs.Data.lines
 use Rattle.chart_text.specs.Data.bars
 use Rattle.chart_text.specs.Data.texts
@@ -15,8 +15,8 @@ abbrev pub meaning : ℕ → ℕ → List ℕ → Shape
 meaning x y words = shapes.Text (spot x (y + 4)) texts.Meaning words
 
 -- a sign and what it means
-unfoldable pub sign_meaning : ℕ → ℕ → Deed → List ℕ → List Shape
-sign_meaning x y deed words = shapes.Sign (spot x y) deed ∷ meaning (x + 14) y words ∷ []
+unfoldable pub sign_meaning : ℕ → ℕ → NoteKind → List ℕ → List Shape
+sign_meaning x y note_kind words = shapes.Sign (spot x y) note_kind ∷ meaning (x + 14) y words ∷ []
 
 -- a line and what it means
 unfoldable pub line_meaning : ℕ → ℕ → LineKind → List ℕ → List Shape
@@ -32,26 +32,26 @@ decides_words = codes "the commit point site decides to commit"
 
 -- the commit point site decides
 unfoldable pub decision_meaning : List Shape
-decision_meaning = sign_meaning 16 42 (deeds.Decided 0) decides_words
+decision_meaning = sign_meaning 16 42 (note_kinds.Decided 0) decides_words
 
 -- a branch is prepared
 unfoldable pub seal_meaning : List Shape
-seal_meaning = sign_meaning 286 42 deeds.Prepared (codes "a branch is prepared")
+seal_meaning = sign_meaning 286 42 note_kinds.Prepared (codes "a branch is prepared")
 
 -- how a branch in doubt ends
 unfoldable pub end_meanings : List Shape
 end_meanings =
-    sign_meaning 596 42 (deeds.Committed 0) (codes "it learns the commit")
-    ++ sign_meaning 746 42 deeds.RolledBack (codes "it is rolled back")
-    ++ sign_meaning 886 42 (deeds.ForcedCommit 0) (codes "it is forced")
+    sign_meaning 596 42 (note_kinds.Committed 0) (codes "it learns the commit")
+    ++ sign_meaning 746 42 note_kinds.RolledBack (codes "it is rolled back")
+    ++ sign_meaning 886 42 (note_kinds.ForcedCommit 0) (codes "it is forced")
 
 -- what nodes do, and what comes to them
 unfoldable pub node_meanings : List Shape
 node_meanings =
-    sign_meaning 16 64 deeds.Stopped (codes "the node stops")
-    ++ sign_meaning 136 64 (deeds.Started 0) (codes "it starts")
-    ++ sign_meaning 656 64 (deeds.Call 0) (codes "call of a client")
-    ++ sign_meaning 806 64 deeds.MetMixed (codes "decision differs: mixed")
+    sign_meaning 16 64 note_kinds.Stopped (codes "the node stops")
+    ++ sign_meaning 136 64 (note_kinds.Started 0) (codes "it starts")
+    ++ sign_meaning 656 64 (note_kinds.Call 0) (codes "call of a client")
+    ++ sign_meaning 806 64 note_kinds.MetMixed (codes "decision differs: mixed")
 
 -- what becomes of messages
 unfoldable pub message_meanings : List Shape

@@ -7,7 +7,7 @@ use Rattle.chart_text.specs.Data.lines
 use Rattle.chart_text.specs.Data.bars
 use Rattle.chart_text.specs.Data.texts
 use Rattle.chart_text.specs.Data.shapes
-use Rattle.chart_text.specs.Words.{message_text, deed_text, parting_text}
+use Rattle.chart_text.specs.Words.{message_text, note_kind_text, parting_text}
 use Rattle.chart_text.specs.Window.{is_in, reaches, till_of, end_row, shows_arrow}
 use Rattle.chart_text.specs.Places.{spot, x_of, edge_of, y_of, answers_x, width_of, side_toward, beside, gap_of}
 use Rattle.chart_text.specs.declared.window.Window.{Window}
@@ -85,12 +85,12 @@ parting_label w names p =
 
 -- the sign of what a node did or met, on its lane
 abbrev pub note_sign : Window → Note → List Shape
-note_sign w n = if is_in w n.row then shapes.Sign (spot (x_of n.node) (y_of n.row)) n.deed ∷ [] else []
+note_sign w n = if is_in w n.row then shapes.Sign (spot (x_of n.node) (y_of n.row)) n.note_kind ∷ [] else []
 
 -- the same in words, beside the lane
 abbrev pub note_label : Window → Note → List Shape
 note_label w n =
-    if is_in w n.row then shapes.Text (spot (beside n.node n.side 13) (y_of n.row + 1)) (texts.Deed n.side) (deed_text n.deed) ∷ [] else []
+    if is_in w n.row then shapes.Text (spot (beside n.node n.side 13) (y_of n.row + 1)) (texts.NoteKind n.side) (note_kind_text n.note_kind) ∷ [] else []
 
 -- the line above a command
 abbrev pub band_line : Window → ℕ → Band → List Shape

@@ -1,8 +1,8 @@
 -- How shapes look: the attributes of SVG 1.1 for each kind. The colours are blue and orange, which the colour-blind tell
 -- apart, and each kind has a form of its own.
 use Rattle.std.specs.Prelude.{ℕ, Bool, true, false, List, codes}
-use Rattle.chart_text.specs.Data.{Deed, Side, Left, Right, LineKind, BarKind, TextKind}
-use Rattle.chart_text.specs.Data.deeds
+use Rattle.chart_text.specs.Data.{NoteKind, Side, Left, Right, LineKind, BarKind, TextKind}
+use Rattle.chart_text.specs.Data.note_kinds
 use Rattle.chart_text.specs.Data.lines
 use Rattle.chart_text.specs.Data.bars
 use Rattle.chart_text.specs.Data.texts
@@ -24,22 +24,22 @@ bar_look bars.Doubt = codes "fill=\"#e69f00\" fill-opacity=\"0.6\""
 bar_look bars.Outage = codes "fill=\"#ffffff\" stroke=\"#555555\" stroke-dasharray=\"2 3\""
 
 -- the sign of what a node did or met
-abbrev pub sign_look : Deed → List ℕ
-sign_look (deeds.Call session) = codes "d=\"M-10 -4L-3 0L-10 4Z\" fill=\"#555555\""
-sign_look (deeds.GiveUp session) = codes "d=\"M-10 -4L-3 0L-10 4Z\" fill=\"#ffffff\" stroke=\"#555555\""
-sign_look deeds.Reco = codes "d=\"M-10 -4L-3 0L-10 4Z\" fill=\"#56b4e9\" stroke=\"#000000\""
-sign_look deeds.Prepared = codes "d=\"M-5 -5H5V5H-5Z\" fill=\"#e69f00\" stroke=\"#000000\""
-sign_look (deeds.Decided scn) = codes "d=\"M0 -9L9 0L0 9L-9 0Z\" fill=\"#0072b2\" stroke=\"#000000\""
-sign_look (deeds.Committed scn) = codes "d=\"M-5 0A5 5 0 1 0 5 0A5 5 0 1 0 -5 0Z\" fill=\"#0072b2\" stroke=\"#000000\""
-sign_look deeds.RolledBack = codes "d=\"M-5 0A5 5 0 1 0 5 0A5 5 0 1 0 -5 0Z\" fill=\"#ffffff\" stroke=\"#000000\""
-sign_look (deeds.ForcedCommit scn) = codes "d=\"M0 -7L7 5L-7 5Z\" fill=\"#0072b2\" stroke=\"#000000\""
-sign_look deeds.ForcedRollback = codes "d=\"M0 -7L7 5L-7 5Z\" fill=\"#ffffff\" stroke=\"#000000\""
-sign_look deeds.Met = codes "d=\"M-5 -5H5V5H-5Z\" fill=\"#ffffff\" stroke=\"#000000\""
-sign_look deeds.MetMixed = codes "d=\"M-6 -6L6 6M-6 6L6 -6\" stroke=\"#d55e00\" stroke-width=\"3\""
-sign_look deeds.Forgotten = codes "d=\"M-3 0A3 3 0 1 0 3 0A3 3 0 1 0 -3 0Z\" fill=\"#555555\""
-sign_look deeds.Purged = codes "d=\"M-3 0A3 3 0 1 0 3 0A3 3 0 1 0 -3 0Z\" fill=\"#ffffff\" stroke=\"#555555\""
-sign_look deeds.Stopped = codes "d=\"M-10 0H10\" stroke=\"#000000\" stroke-width=\"4\""
-sign_look (deeds.Started boot) = codes "d=\"M-7 -5H7L0 6Z\" fill=\"#000000\""
+abbrev pub sign_look : NoteKind → List ℕ
+sign_look (note_kinds.Call session) = codes "d=\"M-10 -4L-3 0L-10 4Z\" fill=\"#555555\""
+sign_look (note_kinds.GiveUp session) = codes "d=\"M-10 -4L-3 0L-10 4Z\" fill=\"#ffffff\" stroke=\"#555555\""
+sign_look note_kinds.Reco = codes "d=\"M-10 -4L-3 0L-10 4Z\" fill=\"#56b4e9\" stroke=\"#000000\""
+sign_look note_kinds.Prepared = codes "d=\"M-5 -5H5V5H-5Z\" fill=\"#e69f00\" stroke=\"#000000\""
+sign_look (note_kinds.Decided scn) = codes "d=\"M0 -9L9 0L0 9L-9 0Z\" fill=\"#0072b2\" stroke=\"#000000\""
+sign_look (note_kinds.Committed scn) = codes "d=\"M-5 0A5 5 0 1 0 5 0A5 5 0 1 0 -5 0Z\" fill=\"#0072b2\" stroke=\"#000000\""
+sign_look note_kinds.RolledBack = codes "d=\"M-5 0A5 5 0 1 0 5 0A5 5 0 1 0 -5 0Z\" fill=\"#ffffff\" stroke=\"#000000\""
+sign_look (note_kinds.ForcedCommit scn) = codes "d=\"M0 -7L7 5L-7 5Z\" fill=\"#0072b2\" stroke=\"#000000\""
+sign_look note_kinds.ForcedRollback = codes "d=\"M0 -7L7 5L-7 5Z\" fill=\"#ffffff\" stroke=\"#000000\""
+sign_look note_kinds.Met = codes "d=\"M-5 -5H5V5H-5Z\" fill=\"#ffffff\" stroke=\"#000000\""
+sign_look note_kinds.MetMixed = codes "d=\"M-6 -6L6 6M-6 6L6 -6\" stroke=\"#d55e00\" stroke-width=\"3\""
+sign_look note_kinds.Forgotten = codes "d=\"M-3 0A3 3 0 1 0 3 0A3 3 0 1 0 -3 0Z\" fill=\"#555555\""
+sign_look note_kinds.Purged = codes "d=\"M-3 0A3 3 0 1 0 3 0A3 3 0 1 0 -3 0Z\" fill=\"#ffffff\" stroke=\"#555555\""
+sign_look note_kinds.Stopped = codes "d=\"M-10 0H10\" stroke=\"#000000\" stroke-width=\"4\""
+sign_look (note_kinds.Started boot) = codes "d=\"M-7 -5H7L0 6Z\" fill=\"#000000\""
 
 -- a text left of a lane ends at its point
 abbrev pub anchor : Side → List ℕ
@@ -58,10 +58,10 @@ text_look texts.Meaning = codes "text-anchor=\"start\""
 text_look texts.Node = codes "text-anchor=\"middle\" font-weight=\"bold\" font-size=\"12\""
 text_look texts.Number = codes "font-weight=\"bold\""
 text_look (texts.Message side) = anchor side
-text_look (texts.Deed side) = bold_anchor side
+text_look (texts.NoteKind side) = bold_anchor side
 
 -- a text that lines may cross has a white border
 abbrev pub is_crossed : TextKind → Bool
 is_crossed (texts.Message side) = true
-is_crossed (texts.Deed side) = true
+is_crossed (texts.NoteKind side) = true
 is_crossed _ = false

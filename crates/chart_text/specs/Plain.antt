@@ -6,7 +6,7 @@ use Rattle.tran_ids.specs.Numbers.{decimal}
 use Rattle.tran_ids.specs.Texts.{name_of}
 use Rattle.chart_text.specs.Data.{Band, End, Arrow, Repeat, Note, Doubt, Outage, Parting, Marks}
 use Rattle.chart_text.specs.Data.ends
-use Rattle.chart_text.specs.Words.{window_text, message_text, deed_text, parting_text}
+use Rattle.chart_text.specs.Words.{window_text, message_text, note_kind_text, parting_text}
 use Rattle.chart_text.specs.Window.{till_of, end_row}
 use Rattle.chart_text.specs.declared.window.Window.{Window}
 
@@ -41,7 +41,7 @@ repeat_text names r =
 
 -- what a node did or met
 abbrev pub note_text : List (List ℕ) → Note → List ℕ
-note_text names n = codes "  " ++ name_of names n.node ++ codes ": " ++ deed_text n.deed
+note_text names n = codes "  " ++ name_of names n.node ++ codes ": " ++ note_kind_text n.note_kind
 
 -- a message that ends in this row
 abbrev pub arrow_in : List (List ℕ) → ℕ → Arrow → List ℕ

@@ -76,7 +76,7 @@ lines_svg at lines =
 abbrev pub shape_svg : Shape → List ℕ
 shape_svg (shapes.Line from to kind) = line_svg from to (line_look kind)
 shape_svg (shapes.Bar corner width height kind) = rect_svg corner width height (bar_look kind)
-shape_svg (shapes.Sign at deed) = path_svg at (sign_look deed)
+shape_svg (shapes.Sign at note_kind) = path_svg at (sign_look note_kind)
 shape_svg (shapes.Text at kind text) = text_svg at kind text
 shape_svg (shapes.Lines at lines) = lines_svg at lines
 

@@ -4,8 +4,8 @@ use Rattle.tran_ids.specs.Numbers.{decimal}
 use Rattle.tran_ids.specs.Texts.{name_of}
 use Rattle.wire_msg.specs.declared.kind.KindName.{KindName}
 use Rattle.wire_msg.specs.Names.{kind_text}
-use Rattle.chart_text.specs.Data.{Deed, Parting}
-use Rattle.chart_text.specs.Data.deeds
+use Rattle.chart_text.specs.Data.{NoteKind, Parting}
+use Rattle.chart_text.specs.Data.note_kinds
 use Rattle.chart_text.specs.declared.window.Window.{Window}
 
 -- what the title begins with
@@ -21,32 +21,32 @@ abbrev pub message_text : ℕ → KindName → List ℕ
 message_text number kind = codes "#" ++ decimal number ++ codes " " ++ kind_text kind
 
 -- what a node did or met, without its number
-abbrev pub deed_words : Deed → List ℕ
-deed_words (deeds.Call session) = codes "call, session "
-deed_words (deeds.GiveUp session) = codes "given up, session "
-deed_words deeds.Reco = codes "RECO"
-deed_words deeds.Prepared = codes "prepared"
-deed_words (deeds.Decided scn) = codes "decides: commit, SCN "
-deed_words (deeds.Committed scn) = codes "committed, SCN "
-deed_words deeds.RolledBack = codes "rolled back"
-deed_words (deeds.ForcedCommit scn) = codes "forced commit, SCN "
-deed_words deeds.ForcedRollback = codes "forced rollback"
-deed_words deeds.Met = codes "decision as forced"
-deed_words deeds.MetMixed = codes "decision differs: MIXED"
-deed_words deeds.Forgotten = codes "forgotten"
-deed_words deeds.Purged = codes "purged"
-deed_words deeds.Stopped = codes "node stops"
-deed_words (deeds.Started boot) = codes "node starts, boot "
+abbrev pub note_kind_words : NoteKind → List ℕ
+note_kind_words (note_kinds.Call session) = codes "call, session "
+note_kind_words (note_kinds.GiveUp session) = codes "given up, session "
+note_kind_words note_kinds.Reco = codes "RECO"
+note_kind_words note_kinds.Prepared = codes "prepared"
+note_kind_words (note_kinds.Decided scn) = codes "decides: commit, SCN "
+note_kind_words (note_kinds.Committed scn) = codes "committed, SCN "
+note_kind_words note_kinds.RolledBack = codes "rolled back"
+note_kind_words (note_kinds.ForcedCommit scn) = codes "forced commit, SCN "
+note_kind_words note_kinds.ForcedRollback = codes "forced rollback"
+note_kind_words note_kinds.Met = codes "decision as forced"
+note_kind_words note_kinds.MetMixed = codes "decision differs: MIXED"
+note_kind_words note_kinds.Forgotten = codes "forgotten"
+note_kind_words note_kinds.Purged = codes "purged"
+note_kind_words note_kinds.Stopped = codes "node stops"
+note_kind_words (note_kinds.Started boot) = codes "node starts, boot "
 
 -- the number of a session, of a boot, or the SCN, where there is one
-abbrev pub deed_number : Deed → Option ℕ
-deed_number (deeds.Call session) = Some session
-deed_number (deeds.GiveUp session) = Some session
-deed_number (deeds.Decided scn) = Some scn
-deed_number (deeds.Committed scn) = Some scn
-deed_number (deeds.ForcedCommit scn) = Some scn
-deed_number (deeds.Started boot) = Some boot
-deed_number _ = None
+abbrev pub note_kind_number : NoteKind → Option ℕ
+note_kind_number (note_kinds.Call session) = Some session
+note_kind_number (note_kinds.GiveUp session) = Some session
+note_kind_number (note_kinds.Decided scn) = Some scn
+note_kind_number (note_kinds.Committed scn) = Some scn
+note_kind_number (note_kinds.ForcedCommit scn) = Some scn
+note_kind_number (note_kinds.Started boot) = Some boot
+note_kind_number _ = None
 
 -- a number, where there is one
 abbrev pub number_text : Option ℕ → List ℕ
@@ -54,8 +54,8 @@ number_text None = []
 number_text (Some n) = decimal n
 
 -- what a node did or met
-abbrev pub deed_text : Deed → List ℕ
-deed_text d = deed_words d ++ number_text (deed_number d)
+abbrev pub note_kind_text : NoteKind → List ℕ
+note_kind_text d = note_kind_words d ++ number_text (note_kind_number d)
 
 -- a pair that is cut or joined
 abbrev pub parting_text : List (List ℕ) → Parting → List ℕ

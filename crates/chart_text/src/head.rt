@@ -6,7 +6,7 @@ use crate::places::x_of;
 use crate::shape::{BarKind, LineKind, Shape, Spot, TextKind};
 use crate::window::Window;
 use crate::words::put_window;
-use chart_marks::{Deed, Marks};
+use chart_marks::{Marks, NoteKind};
 use dtx_values::{Listing, Name};
 use std::alloc::{AllocError, Global};
 
@@ -35,16 +35,16 @@ fn put_sign_meaning(
     alloc: Global,
     x: u64,
     y: u64,
-    deed: Deed,
+    note_kind: NoteKind,
     words: &[u8],
 ) -> Result<(), AllocError>
     requires x { x < 2 ^ 32 }
     requires y { y < 2 ^ 32 }
-    ensures { OnOk result (shapes.new.items ≡ shapes.old.items ++ sign_meaning x y deed words.now) }
+    ensures { OnOk result (shapes.new.items ≡ shapes.old.items ++ sign_meaning x y note_kind words.now) }
 {
     shapes.push(Shape::Sign {
         at: Spot { x, y },
-        deed,
+        note_kind,
     })?;
     put_meaning(shapes, alloc, x + 14, y, words)
 }
@@ -94,7 +94,7 @@ fn decides_words() -> &'static [u8]
 fn put_decision_meaning(shapes: &mut Vec<Shape>, alloc: Global) -> Result<(), AllocError>
     ensures { OnOk result (shapes.new.items ≡ shapes.old.items ++ decision_meaning) }
 {
-    put_sign_meaning(shapes, alloc, 16, 42, Deed::Decided(0), decides_words())
+    put_sign_meaning(shapes, alloc, 16, 42, NoteKind::Decided(0), decides_words())
 }
 
 #[tactic(auto, unfolding(crate::specs::Head::seal_meaning))]
@@ -102,7 +102,7 @@ fn put_seal_meaning(shapes: &mut Vec<Shape>, alloc: Global) -> Result<(), AllocE
     ensures { OnOk result (shapes.new.items ≡ shapes.old.items ++ seal_meaning) }
 {
     let prepared = b"a branch is prepared";
-    put_sign_meaning(shapes, alloc, 286, 42, Deed::Prepared, prepared)
+    put_sign_meaning(shapes, alloc, 286, 42, NoteKind::Prepared, prepared)
 }
 
 #[tactic(auto, unfolding(crate::specs::Head::end_meanings))]
@@ -110,11 +110,11 @@ fn put_end_meanings(shapes: &mut Vec<Shape>, alloc: Global) -> Result<(), AllocE
     ensures { OnOk result (shapes.new.items ≡ shapes.old.items ++ end_meanings) }
 {
     let learns = b"it learns the commit";
-    put_sign_meaning(shapes, alloc, 596, 42, Deed::Committed(0), learns)?;
+    put_sign_meaning(shapes, alloc, 596, 42, NoteKind::Committed(0), learns)?;
     let back = b"it is rolled back";
-    put_sign_meaning(shapes, alloc, 746, 42, Deed::RolledBack, back)?;
+    put_sign_meaning(shapes, alloc, 746, 42, NoteKind::RolledBack, back)?;
     let forced = b"it is forced";
-    put_sign_meaning(shapes, alloc, 886, 42, Deed::ForcedCommit(0), forced)
+    put_sign_meaning(shapes, alloc, 886, 42, NoteKind::ForcedCommit(0), forced)
 }
 
 #[tactic(auto, unfolding(crate::specs::Head::node_meanings))]
@@ -122,13 +122,13 @@ fn put_node_meanings(shapes: &mut Vec<Shape>, alloc: Global) -> Result<(), Alloc
     ensures { OnOk result (shapes.new.items ≡ shapes.old.items ++ node_meanings) }
 {
     let stops = b"the node stops";
-    put_sign_meaning(shapes, alloc, 16, 64, Deed::Stopped, stops)?;
+    put_sign_meaning(shapes, alloc, 16, 64, NoteKind::Stopped, stops)?;
     let starts = b"it starts";
-    put_sign_meaning(shapes, alloc, 136, 64, Deed::Started(0), starts)?;
+    put_sign_meaning(shapes, alloc, 136, 64, NoteKind::Started(0), starts)?;
     let call = b"call of a client";
-    put_sign_meaning(shapes, alloc, 656, 64, Deed::Call(0), call)?;
+    put_sign_meaning(shapes, alloc, 656, 64, NoteKind::Call(0), call)?;
     let mixed = b"decision differs: mixed";
-    put_sign_meaning(shapes, alloc, 806, 64, Deed::MetMixed, mixed)
+    put_sign_meaning(shapes, alloc, 806, 64, NoteKind::MetMixed, mixed)
 }
 
 #[tactic(auto, unfolding(crate::specs::Head::message_meanings))]

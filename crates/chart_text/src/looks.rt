@@ -3,7 +3,7 @@ ghost use Rattle.std.specs.Prelude.{◌≡◌};
 ghost use Rattle.chart_text.specs.Looks.{line_look as look_of_line, bar_look as look_of_bar, sign_look as look_of_sign, anchor as anchor_of, bold_anchor as bold_anchor_of, text_look as look_of_text, is_crossed as is_text_crossed};
 
 use crate::shape::{BarKind, LineKind, TextKind};
-use chart_marks::{Deed, Side};
+use chart_marks::{NoteKind, Side};
 
 /// How a line looks.
 pub(crate) fn line_look(kind: LineKind) -> &'static [u8]
@@ -36,31 +36,31 @@ pub(crate) fn bar_look(kind: BarKind) -> &'static [u8]
 }
 
 /// How the sign looks of what a node did or met.
-pub(crate) fn sign_look(deed: Deed) -> &'static [u8]
-    ensures { result.now ≡ look_of_sign deed }
+pub(crate) fn sign_look(note_kind: NoteKind) -> &'static [u8]
+    ensures { result.now ≡ look_of_sign note_kind }
 {
-    match deed {
-        Deed::Call(_) => b"d=\"M-10 -4L-3 0L-10 4Z\" fill=\"#555555\"",
-        Deed::GiveUp(_) => b"d=\"M-10 -4L-3 0L-10 4Z\" fill=\"#ffffff\" stroke=\"#555555\"",
-        Deed::Reco => b"d=\"M-10 -4L-3 0L-10 4Z\" fill=\"#56b4e9\" stroke=\"#000000\"",
-        Deed::Prepared => b"d=\"M-5 -5H5V5H-5Z\" fill=\"#e69f00\" stroke=\"#000000\"",
-        Deed::Decided(_) => b"d=\"M0 -9L9 0L0 9L-9 0Z\" fill=\"#0072b2\" stroke=\"#000000\"",
-        Deed::Committed(_) => {
+    match note_kind {
+        NoteKind::Call(_) => b"d=\"M-10 -4L-3 0L-10 4Z\" fill=\"#555555\"",
+        NoteKind::GiveUp(_) => b"d=\"M-10 -4L-3 0L-10 4Z\" fill=\"#ffffff\" stroke=\"#555555\"",
+        NoteKind::Reco => b"d=\"M-10 -4L-3 0L-10 4Z\" fill=\"#56b4e9\" stroke=\"#000000\"",
+        NoteKind::Prepared => b"d=\"M-5 -5H5V5H-5Z\" fill=\"#e69f00\" stroke=\"#000000\"",
+        NoteKind::Decided(_) => b"d=\"M0 -9L9 0L0 9L-9 0Z\" fill=\"#0072b2\" stroke=\"#000000\"",
+        NoteKind::Committed(_) => {
             b"d=\"M-5 0A5 5 0 1 0 5 0A5 5 0 1 0 -5 0Z\" fill=\"#0072b2\" stroke=\"#000000\""
         }
-        Deed::RolledBack => {
+        NoteKind::RolledBack => {
             b"d=\"M-5 0A5 5 0 1 0 5 0A5 5 0 1 0 -5 0Z\" fill=\"#ffffff\" stroke=\"#000000\""
         }
-        Deed::ForcedCommit(_) => b"d=\"M0 -7L7 5L-7 5Z\" fill=\"#0072b2\" stroke=\"#000000\"",
-        Deed::ForcedRollback => b"d=\"M0 -7L7 5L-7 5Z\" fill=\"#ffffff\" stroke=\"#000000\"",
-        Deed::Met => b"d=\"M-5 -5H5V5H-5Z\" fill=\"#ffffff\" stroke=\"#000000\"",
-        Deed::MetMixed => b"d=\"M-6 -6L6 6M-6 6L6 -6\" stroke=\"#d55e00\" stroke-width=\"3\"",
-        Deed::Forgotten => b"d=\"M-3 0A3 3 0 1 0 3 0A3 3 0 1 0 -3 0Z\" fill=\"#555555\"",
-        Deed::Purged => {
+        NoteKind::ForcedCommit(_) => b"d=\"M0 -7L7 5L-7 5Z\" fill=\"#0072b2\" stroke=\"#000000\"",
+        NoteKind::ForcedRollback => b"d=\"M0 -7L7 5L-7 5Z\" fill=\"#ffffff\" stroke=\"#000000\"",
+        NoteKind::Met => b"d=\"M-5 -5H5V5H-5Z\" fill=\"#ffffff\" stroke=\"#000000\"",
+        NoteKind::MetMixed => b"d=\"M-6 -6L6 6M-6 6L6 -6\" stroke=\"#d55e00\" stroke-width=\"3\"",
+        NoteKind::Forgotten => b"d=\"M-3 0A3 3 0 1 0 3 0A3 3 0 1 0 -3 0Z\" fill=\"#555555\"",
+        NoteKind::Purged => {
             b"d=\"M-3 0A3 3 0 1 0 3 0A3 3 0 1 0 -3 0Z\" fill=\"#ffffff\" stroke=\"#555555\""
         }
-        Deed::Stopped => b"d=\"M-10 0H10\" stroke=\"#000000\" stroke-width=\"4\"",
-        Deed::Started(_) => b"d=\"M-7 -5H7L0 6Z\" fill=\"#000000\"",
+        NoteKind::Stopped => b"d=\"M-10 0H10\" stroke=\"#000000\" stroke-width=\"4\"",
+        NoteKind::Started(_) => b"d=\"M-7 -5H7L0 6Z\" fill=\"#000000\"",
     }
 }
 
@@ -92,7 +92,7 @@ pub(crate) fn text_look(kind: TextKind) -> &'static [u8]
         TextKind::Node => b"text-anchor=\"middle\" font-weight=\"bold\" font-size=\"12\"",
         TextKind::Number => b"font-weight=\"bold\"",
         TextKind::Message(side) => anchor(side),
-        TextKind::Deed(side) => bold_anchor(side),
+        TextKind::NoteKind(side) => bold_anchor(side),
     }
 }
 
@@ -106,6 +106,6 @@ pub(crate) fn is_crossed(kind: TextKind) -> bool
         TextKind::Node => false,
         TextKind::Number => false,
         TextKind::Message(_) => true,
-        TextKind::Deed(_) => true,
+        TextKind::NoteKind(_) => true,
     }
 }

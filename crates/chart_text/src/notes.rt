@@ -7,7 +7,7 @@ use crate::messages::level;
 use crate::places::{beside, x_of, y_of};
 use crate::shape::{LineKind, Shape, Spot, TextKind};
 use crate::window::Window;
-use crate::words::{put_deed, put_parting};
+use crate::words::{put_note_kind, put_parting};
 use chart_marks::{Note, Parting, Side};
 use dtx_values::{Listing, Name};
 use std::alloc::{AllocError, Global};
@@ -33,7 +33,7 @@ impl Drawn for Sign {
             };
             drawn.push(Shape::Sign {
                 at,
-                deed: note.deed,
+                note_kind: note.note_kind,
             })?;
         }
         Ok(())
@@ -62,10 +62,10 @@ impl Drawn for NoteLabel {
             y: y_of(note.row) + 1,
         };
         let mut text = Vec::new(alloc);
-        put_deed(&mut text, note.deed)?;
+        put_note_kind(&mut text, note.note_kind)?;
         drawn.push(Shape::Text {
             at,
-            kind: TextKind::Deed(note.side),
+            kind: TextKind::NoteKind(note.side),
             text: Listing::of(text),
         })?;
         Ok(())

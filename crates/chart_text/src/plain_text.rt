@@ -4,7 +4,7 @@ ghost use Rattle.std.specs.List.{list_any};
 ghost use Rattle.chart_text.specs.Plain.{legend as legend_line, names_from, end_text, arrow_text, repeat_text, note_text, arrow_in, repeat_in, note_in, parting_in, events_in, lies_in as lies_in_stretch, doubts_at as doubts_there, is_down_at as is_down_there, cell, cells, row_line, asked_line, answer_line, band_in, row_lines, lines_from, text_of};
 
 use crate::window::{Window, end_row};
-use crate::words::{put_deed, put_message, put_parting, put_window};
+use crate::words::{put_message, put_note_kind, put_parting, put_window};
 use chart_marks::{Arrow, Band, Doubt, End, Marks, Note, Outage, Parting, Repeat};
 use dtx_values::{Bytes, Listing, Name};
 use std::alloc::{AllocError, Global};
@@ -62,7 +62,7 @@ fn put_note(out: &mut Vec<u8>, names: &[Name], note: &Note) -> Result<(), AllocE
     out.extend_from_slice(b"  ")?;
     out.extend_from_slice(node_name(names, note.node))?;
     out.extend_from_slice(b": ")?;
-    put_deed(out, note.deed)
+    put_note_kind(out, note.note_kind)
 }
 
 fn put_arrow_in(

@@ -1,6 +1,6 @@
 //! What a picture is made of.
 
-use chart_marks::{Deed, Side};
+use chart_marks::{NoteKind, Side};
 use dtx_values::{Bytes, Texts};
 
 /// A point of a picture.
@@ -56,7 +56,7 @@ pub enum TextKind {
     /// A message or a pair of nodes, on this side of a lane.
     Message(Side),
     /// What a node did or met, on this side of its lane.
-    Deed(Side),
+    NoteKind(Side),
 }
 
 /// A shape of a picture.
@@ -87,7 +87,7 @@ pub enum Shape {
         /// Where its middle is.
         at: Spot,
         /// What was done or met.
-        deed: Deed,
+        note_kind: NoteKind,
     },
     /// A text.
     Text {

@@ -174,7 +174,7 @@ fn put_shape(out: &mut Vec<u8>, shape: &Shape) -> Result<(), AllocError>
             height,
             kind,
         } => put_rect(out, *corner, *width, *height, bar_look(*kind)),
-        Shape::Sign { at, deed } => put_path(out, *at, sign_look(*deed)),
+        Shape::Sign { at, note_kind } => put_path(out, *at, sign_look(*note_kind)),
         Shape::Text { at, kind, text } => put_text(out, *at, *kind, text.as_slice()),
         Shape::Lines { at, lines } => put_lines(out, *at, lines.as_slice()),
     }

@@ -1,9 +1,9 @@
 //! The words of a picture: its title, and what stands beside its marks.
 ghost use Rattle.std.specs.Prelude.{◌≡◌, ◌++◌, OnOk};
-ghost use Rattle.chart_text.specs.Words.{title_words as title_start, window_text, message_text, deed_words as words_of, deed_number as number_of, number_text, parting_text};
+ghost use Rattle.chart_text.specs.Words.{title_words as title_start, window_text, message_text, note_kind_words as words_of, note_kind_number as number_of, number_text, parting_text};
 
 use crate::window::Window;
-use chart_marks::{Deed, Parting};
+use chart_marks::{NoteKind, Parting};
 use dtx_values::Name;
 use std::alloc::AllocError;
 use tran_ids::{node_name, put_decimal};
@@ -39,47 +39,47 @@ pub(crate) fn put_message(out: &mut Vec<u8>, number: u64, kind: KindName) -> Res
     out.extend_from_slice(kind.text())
 }
 
-fn deed_words(deed: Deed) -> &'static [u8]
-    ensures { result.now ≡ words_of deed }
+fn note_kind_words(note_kind: NoteKind) -> &'static [u8]
+    ensures { result.now ≡ words_of note_kind }
 {
-    match deed {
-        Deed::Call(_) => b"call, session ",
-        Deed::GiveUp(_) => b"given up, session ",
-        Deed::Reco => b"RECO",
-        Deed::Prepared => b"prepared",
-        Deed::Decided(_) => b"decides: commit, SCN ",
-        Deed::Committed(_) => b"committed, SCN ",
-        Deed::RolledBack => b"rolled back",
-        Deed::ForcedCommit(_) => b"forced commit, SCN ",
-        Deed::ForcedRollback => b"forced rollback",
-        Deed::Met => b"decision as forced",
-        Deed::MetMixed => b"decision differs: MIXED",
-        Deed::Forgotten => b"forgotten",
-        Deed::Purged => b"purged",
-        Deed::Stopped => b"node stops",
-        Deed::Started(_) => b"node starts, boot ",
+    match note_kind {
+        NoteKind::Call(_) => b"call, session ",
+        NoteKind::GiveUp(_) => b"given up, session ",
+        NoteKind::Reco => b"RECO",
+        NoteKind::Prepared => b"prepared",
+        NoteKind::Decided(_) => b"decides: commit, SCN ",
+        NoteKind::Committed(_) => b"committed, SCN ",
+        NoteKind::RolledBack => b"rolled back",
+        NoteKind::ForcedCommit(_) => b"forced commit, SCN ",
+        NoteKind::ForcedRollback => b"forced rollback",
+        NoteKind::Met => b"decision as forced",
+        NoteKind::MetMixed => b"decision differs: MIXED",
+        NoteKind::Forgotten => b"forgotten",
+        NoteKind::Purged => b"purged",
+        NoteKind::Stopped => b"node stops",
+        NoteKind::Started(_) => b"node starts, boot ",
     }
 }
 
-fn deed_number(deed: Deed) -> Option<u64>
-    ensures { result ≡ number_of deed }
+fn note_kind_number(note_kind: NoteKind) -> Option<u64>
+    ensures { result ≡ number_of note_kind }
 {
-    match deed {
-        Deed::Call(session) => Some(u64::from(session)),
-        Deed::GiveUp(session) => Some(u64::from(session)),
-        Deed::Decided(scn) => Some(scn),
-        Deed::Committed(scn) => Some(scn),
-        Deed::ForcedCommit(scn) => Some(scn),
-        Deed::Started(boot) => Some(u64::from(boot)),
-        Deed::Reco => None,
-        Deed::Prepared => None,
-        Deed::RolledBack => None,
-        Deed::ForcedRollback => None,
-        Deed::Met => None,
-        Deed::MetMixed => None,
-        Deed::Forgotten => None,
-        Deed::Purged => None,
-        Deed::Stopped => None,
+    match note_kind {
+        NoteKind::Call(session) => Some(u64::from(session)),
+        NoteKind::GiveUp(session) => Some(u64::from(session)),
+        NoteKind::Decided(scn) => Some(scn),
+        NoteKind::Committed(scn) => Some(scn),
+        NoteKind::ForcedCommit(scn) => Some(scn),
+        NoteKind::Started(boot) => Some(u64::from(boot)),
+        NoteKind::Reco => None,
+        NoteKind::Prepared => None,
+        NoteKind::RolledBack => None,
+        NoteKind::ForcedRollback => None,
+        NoteKind::Met => None,
+        NoteKind::MetMixed => None,
+        NoteKind::Forgotten => None,
+        NoteKind::Purged => None,
+        NoteKind::Stopped => None,
     }
 }
 
@@ -93,11 +93,11 @@ fn put_number(out: &mut Vec<u8>, number: Option<u64>) -> Result<(), AllocError>
 }
 
 /// Adds what a node did or met.
-pub(crate) fn put_deed(out: &mut Vec<u8>, deed: Deed) -> Result<(), AllocError>
-    ensures { OnOk result (out.new.items ≡ out.old.items ++ words_of deed ++ number_text (number_of deed)) }
+pub(crate) fn put_note_kind(out: &mut Vec<u8>, note_kind: NoteKind) -> Result<(), AllocError>
+    ensures { OnOk result (out.new.items ≡ out.old.items ++ words_of note_kind ++ number_text (number_of note_kind)) }
 {
-    out.extend_from_slice(deed_words(deed))?;
-    put_number(out, deed_number(deed))
+    out.extend_from_slice(note_kind_words(note_kind))?;
+    put_number(out, note_kind_number(note_kind))
 }
 
 /// Adds a pair that is cut or joined.

@@ -4,7 +4,7 @@ use Rattle.std.proofs.lemmas.List.{append_assoc}
 use Rattle.node_rules.specs.Data.{Answer, BranchId, Input, Stmt}
 use Rattle.node_rules.specs.Data.inputs
 use Rattle.node_rules.specs.declared.session.PendingCall.TheVariants as pending
-use Rattle.node_rules.specs.NodeState.{NodeState, branch_at, standing_id}
+use Rattle.node_rules.specs.NodeState.{NodeState, branch_at, kept_row_id}
 use Rattle.node_rules.specs.Words.{item_at}
 use Rattle.run_branch_laws.proofs.TowardLemmas.{heard_rows}
 use Rattle.node_rules.specs.Sessions.{session_at}
@@ -14,8 +14,8 @@ use Rattle.run_rules.specs.Births.{births_of}
 use Rattle.run_base_laws.specs.CallLaws.{RootWaits, IsRootOf}
 use Rattle.run_rules.specs.Data.{Turn, Happening}
 use Rattle.run_rules.specs.Data.happenings
-use Rattle.run_rules.specs.Facts.{Facts, place_at, node_at, facts_of}
-use Rattle.run_rules.specs.Lawful.{MayHappen, MayTurn, History, IsLawfulRun}
+use Rattle.run_rules.specs.Facts.{place_at, node_at, facts_of}
+use Rattle.run_rules.specs.Lawful.{MayTurn, History, IsLawfulRun}
 use Rattle.run_base_laws.specs.NodeLaws.{EachFactFrom, AtEachFact}
 use Rattle.run_base_laws.specs.RunEvents.{events_of}
 use Rattle.run_base_laws.proofs.BirthRunLemmas.{run_births}
@@ -24,11 +24,11 @@ use Rattle.run_base_laws.proofs.RestLemmas.{Before}
 use Rattle.run_base_laws.proofs.RootLemmas.{SessionsFit}
 use Rattle.run_base_laws.proofs.RestRunLemmas.{NodeRests, heard_rests, heard_before, before_so, run_roots, roots_wait}
 use Rattle.tree_laws.proofs.AnswerRunLemmas.{lives_heard}
-use Rattle.tree_laws.proofs.PrefixLemmas.{so_far, f_at, one_on}
-use Rattle.tree_site_laws.proofs.TimeLemmas.{part_of, part_lawful, may_of}
+use Rattle.tree_laws.proofs.PrefixLemmas.{f_at, one_on}
 use Rattle.tree_trail_laws.proofs.CallLemmas.{call_free}
-use Rattle.commit_answer_laws.specs.CommitEndLaws.{CommitEnd, CommitPends, Ends, TurnsEndCommits, CommitsEndSo}
-use Rattle.commit_answer_laws.proofs.EndStepLemmas.{Known, NoReply, ends_on}
+use Rattle.commit_answer_laws.specs.CommitEndLaws.{CommitPends, Ends, TurnsEndCommits, CommitsEndSo}
+use Rattle.commit_answer_laws.proofs.EndStepLemmas.{StepEnd, as_end, Known, NoReply, ends_on}
+use Rattle.tree_laws.proofs.AtTurn.{at_turn}
 
 branch_heard : (k : NodeState) (input : Input) (b : BranchId) → branch_at (heard k input) b ≡ branch_at k b
 branch_heard k (inputs.Message m) b = refl
@@ -40,17 +40,7 @@ given_heard : (k : NodeState) (input : Input) (n : ℕ) → input ≡ inputs.Giv
 given_heard k input n is = ap (heard k) is
 
 module _ (t : History) (whole : IsLawfulRun t) (hs : List Happening) (u : Turn) (rest : List Happening) (is : hs ++ happenings.Turn u ∷ rest ≡ t.trace) where
-  abbrev s0 : History
-  s0 = so_far t hs
-
-  abbrev f : Facts
-  f = f_at t hs
-
-  lawful : IsLawfulRun s0
-  lawful = part_lawful t whole hs (part_of t whole hs (happenings.Turn u) rest is)
-
-  may : MayHappen t.places t.commands f (happenings.Turn u)
-  may = may_of t whole hs (happenings.Turn u) rest is
+  open at_turn t whole hs u rest is use {s as s0, f, lawful, may}
 
   module _ (k : NodeState) (up : node_at f u.node ≡ Some k) where
     turn : MayTurn t.places f u k
@@ -88,15 +78,16 @@ module _ (t : History) (whole : IsLawfulRun t) (hs : List Happening) (u : Turn) 
         root = ap (λ ss. (session_at ss g.session).root) (sessions_heard k u.input) ∙ pends.root;
         fit = rests.0;
         below = before.asked;
+        prepared = before.prepared;
         replies = replies;
         near = λ no. lives_heard k u.input;
         given = λ n gives. given_heard k u.input n gives;
         commits = pends.call;
-        rows = λ s at. (s, subst (λ ks. item_at standing_id ks g ≡ Some s) (heard_rows k u.input) at);
+        rows = λ s at. (s, subst (λ ks. item_at kept_row_id ks g ≡ Some s) (heard_rows k u.input) at);
       }
 
       pub ends_for : Ends (record { session = g.session; answer = a }) (turn_of (place_at t.places u.node) k u.input).ended
-          → CommitEnd k u.input (turn_of (place_at t.places u.node) k u.input).after (turn_of (place_at t.places u.node) k u.input).wrote (turn_of (place_at t.places u.node) k u.input).sent g a
+          → StepEnd k u.input (turn_of (place_at t.places u.node) k u.input).after (turn_of (place_at t.places u.node) k u.input).wrote (turn_of (place_at t.places u.node) k u.input).sent g a
       unfolding turn_of
       ends_for there = ends_on k u.input g a other (place_at t.places u.node) (serves t.places f u k turn).step known there
 
@@ -104,7 +95,7 @@ module _ (t : History) (whole : IsLawfulRun t) (hs : List Happening) (u : Turn) 
 
 module _ (t : History) (whole : IsLawfulRun t) where
   ends_one : (hs : List Happening) (h : Happening) (rest : List Happening) → hs ++ h ∷ rest ≡ t.trace → TurnsEndCommits t.places (f_at t hs) h
-  ends_one hs (happenings.Turn u) rest is = λ k up g a pends there. ends_for t whole hs u rest is k up g a pends there
+  ends_one hs (happenings.Turn u) rest is = λ k up g a pends there. as_end (ends_for t whole hs u rest is k up g a pends there)
   ends_one hs _ rest is = tt
 
   ends_from : (hs rest : List Happening) → hs ++ rest ≡ t.trace → EachFactFrom (TurnsEndCommits t.places) t.places t.commands (f_at t hs) rest

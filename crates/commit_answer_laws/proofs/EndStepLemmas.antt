@@ -1,14 +1,16 @@
 -- Each step of a node that ends a COMMIT that was pending ends it for a reason, with the answer of that reason.
-use Rattle.std.proofs.Common.{◌≡◌, ◌≢◌, ℕ, ◌+◌, ◌⊎◌, Bool, true, false, if◌then◌else◌, List, [], ◌∷◌, ◌++◌, ◌&&◌, ◌||◌, map, Option, Some, None, inl, inr, refl, sym, ap, subst, ◌∙◌}
+use Rattle.std.proofs.Common.{◌≡◌, ◌≢◌, ℕ, ◌+◌, ◌⊎◌, Bool, true, false, if◌then◌else◌, is_none, List, [], ◌∷◌, ◌++◌, ◌&&◌, ◌||◌, map, Option, Some, None, inl, inr, refl, sym, ap, subst, ◌∙◌}
 use Rattle.std.proofs.lemmas.Bool.{and_parts}
 use Rattle.commit_forget.specs.declared.next.Next.TheVariants as nexts
 use Rattle.tran_ids.proofs.ListedLemmas.{drop_gone, item_is, put_leaves}
 use Rattle.tran_ids.proofs.BranchLemmas.{equal_from_same}
 use Rattle.session_tree.specs.Live.{is_branch, children_of}
+use Rattle.session_tree.specs.Tree.{step as step_from}
+use Rattle.session_tree.specs.declared.act.Walk.TheVariants as walks
 use Rattle.reco.specs.Asks.{stamped, to_each, to_one}
 use Rattle.run_rules.specs.Trail.{is_read_only, is_quiet}
 use Rattle.std.specs.List.{list_any}
-use Rattle.node_rules.specs.Data.{Stmt, Answer, BranchId, Decision, Live, Act, Place, Input, Edge, Standing, Msg, Kind}
+use Rattle.node_rules.specs.Data.{Stmt, Answer, BranchId, Decision, Live, Act, Place, Input, Edge, KeptRow, Decided, RedoRecord, Msg, Kind}
 use Rattle.node_rules.specs.Data.acts
 use Rattle.node_rules.specs.Data.decisions
 use Rattle.node_rules.specs.Data.inputs
@@ -23,30 +25,71 @@ use Rattle.node_rules.specs.Calls.{answer_ends, hears_reply, reply_going, reply_
 use Rattle.node_rules.specs.Client.{new_root, begun_by, given_up_code, commit_given_up}
 use Rattle.node_rules.specs.Commit.{decision_answers, acked_by}
 use Rattle.node_rules.specs.Inputs.{Came}
-use Rattle.node_rules.specs.NodeState.{NodeState, Branch, Deed, live_id, live_at, branch_at, standing_id, standing_at, with_standing}
-use Rattle.node_rules.specs.Prepare.{abandon_ends, is_alone, act_turn}
+use Rattle.node_rules.specs.NodeState.{NodeState, Branch, TurnDraft, live_id, live_at, branch_at, kept_row_id, kept_row_at, with_kept_row}
+use Rattle.node_rules.specs.Prepare.{abandon_ends, is_alone, act_turn, voted}
 use Rattle.node_rules.specs.Sessions.{session_at, is_commit, commit_is_pending, commit_answer, commit_complete, tran_refusal}
 use Rattle.node_rules.specs.Statement.{ran, after_run}
 use Rattle.node_rules.proofs.StandLemmas.{live_so}
 use Rattle.node_rules.proofs.StepLemmas.{branch_found, IsLive, acting_live}
 use Rattle.node_rules.proofs.Steps as steps
-use Rattle.node_rules.proofs.Steps.{Step, Asked, Acting, Collects}
+use Rattle.node_rules.proofs.Steps.{Step, Asked, Acting, Collects, Collected}
 use Rattle.run_branch_laws.proofs.QuietLemmas.{NoRows, acting_apart}
 use Rattle.run_base_laws.proofs.RootLemmas.{SessionsFit, session_or_before, begun_so, pends_so}
 use Rattle.answer_laws.proofs.WhyEndsLemmas.{ExecsBelow}
-use Rattle.commit_answer_laws.specs.CommitEndLaws.{row_knows, Leaves, CommitEnd, Has_decided, Has_no_site, Has_forgotten, Hears_abort, Is_given_up, Ends_back, Meets_back, Is_known, Is_in_doubt, Is_forced, Ends}
+use Rattle.tree_laws.proofs.TopStepLemmas.{Finishes, On_answer}
+use Rattle.commit_answer_laws.specs.CommitEndLaws as laws
+use Rattle.commit_answer_laws.specs.CommitEndLaws.{row_knows, Leaves, CommitEnd, Ends}
 
 neither : (p q r : Bool) → q ≡ false → r ≡ false → ((p && q) || r) ≡ false
 neither true false r none rest = rest
 neither true true r none rest = absurd cc
 neither false q r none rest = rest
 
+-- Why the COMMIT of the root g ends in a step, with this answer. A root that ends without a site has found that none of its
+-- session tree has changes.
+pub data StepEnd (k : NodeState) (input : Input) (after : NodeState) (wrote : Option RedoRecord) (sent : List Msg) (g : BranchId) (a : Answer) : Type 0 where
+  Has_decided : (r : Decided) (l : Live) → live_at k g ≡ Some l → wrote ≡ Some (records.Decided r) → r.me ≡ g → a ≡ commit_complete → StepEnd k input after wrote sent g a
+  Has_no_site : (leaves : Leaves k after wrote sent g) → leaves.live.parent ≡ None → Finishes input g leaves.live k.sessions → a ≡ commit_complete → StepEnd k input after wrote sent g a
+  Has_forgotten : (s : KeptRow) → kept_row_at k g ≡ Some s → wrote ≡ Some (records.Forgot g) → a ≡ commit_complete → StepEnd k input after wrote sent g a
+  Hears_abort : (from : BranchId) → Came input from g kinds.Abort → Leaves k after wrote sent g → a ≡ tran_refusal 2050 g → StepEnd k input after wrote sent g a
+  Is_given_up : input ≡ inputs.GiveUp g.session → Leaves k after wrote sent g → a ≡ tran_refusal 2050 g → StepEnd k input after wrote sent g a
+  Ends_back : wrote ≡ Some (records.Ended g decisions.Rollback) → a ≡ tran_refusal 2050 g → StepEnd k input after wrote sent g a
+  Meets_back : (mixed : Bool) → wrote ≡ Some (records.Met g decisions.Rollback mixed) → a ≡ tran_refusal 2050 g → StepEnd k input after wrote sent g a
+  Is_known : input ≡ inputs.GiveUp g.session → live_at k g ≡ None → row_knows (kept_row_at k g) ≡ true → a ≡ tran_refusal 2053 g → StepEnd k input after wrote sent g a
+  Is_in_doubt : input ≡ inputs.GiveUp g.session → live_at k g ≡ None → row_knows (kept_row_at k g) ≡ false → a ≡ tran_refusal 2054 g → StepEnd k input after wrote sent g a
+  Is_forced : (d : Decision) (given : Bool) → wrote ≡ Some (records.Forced g d given) → a ≡ tran_refusal 2054 g → StepEnd k input after wrote sent g a
+
+-- the reason that the law gives
+pub as_end : {k : NodeState} {input : Input} {after : NodeState} {wrote : Option RedoRecord} {sent : List Msg} {g : BranchId} {a : Answer} → StepEnd k input after wrote sent g a → CommitEnd k input after wrote sent g a
+as_end (Has_decided r l live wrote me is) = laws.Has_decided r l live wrote me is
+as_end (Has_no_site leaves top ends is) = laws.Has_no_site leaves is
+as_end (Has_forgotten s row wrote is) = laws.Has_forgotten s row wrote is
+as_end (Hears_abort from came leaves is) = laws.Hears_abort from came leaves is
+as_end (Is_given_up given leaves is) = laws.Is_given_up given leaves is
+as_end (Ends_back wrote is) = laws.Ends_back wrote is
+as_end (Meets_back mixed wrote is) = laws.Meets_back mixed wrote is
+as_end (Is_known given gone knows is) = laws.Is_known given gone knows is
+as_end (Is_in_doubt given gone doubt is) = laws.Is_in_doubt given gone doubt is
+as_end (Is_forced d given wrote is) = laws.Is_forced d given wrote is
+
+-- Prepare comes to no root
+abbrev pub PreparesBelow : Input → NodeState → Type 0
+PreparesBelow input k = (from to : BranchId) (site_below : Bool) (comment : List ℕ) → Came input from to (kinds.Prepare site_below comment) → (l : Live) → live_at k to ≡ Some l → l.parent ≢ None
+
+no_parent : (o : Option BranchId) → is_none o ≡ true → o ≡ None
+no_parent None is = refl
+no_parent (Some parent) is = absurd cc
+
+-- a root without a site
+no_site : {l : Live} {below : Bool} → Collected l below acts.Finish → (l.parent ≡ None) × (step_from l ≡ walks.Nowhere)
+no_site {l = l} (steps.Has_no_site root is) = (no_parent l.parent root, is)
+
 module _ (k0 : NodeState) (input : Input) (g : BranchId) (a : Answer) where
   abbrev its : Finished
   its = record { session = g.session; answer = a }
 
-  abbrev End : Deed → Type 0
-  End d = CommitEnd k0 input d.after d.wrote (map (stamped d.after.clock) d.says) g a
+  abbrev End : TurnDraft → Type 0
+  End d = StepEnd k0 input d.after d.wrote (map (stamped d.after.clock) d.says) g a
 
   -- the transaction of its session is g
   abbrev pub RootIs : List Session → Type 0
@@ -106,11 +149,12 @@ module _ (k0 : NodeState) (input : Input) (g : BranchId) (a : Answer) where
     pub root : RootIs k.sessions
     pub fit : SessionsFit k
     pub below : ExecsBelow input k
+    pub prepared : PreparesBelow input k
     pub replies : NoReply k
     pub near : NoRows input → Near k
     pub given : (n : ℕ) → input ≡ inputs.GiveUp n → k ≡ k0
     pub commits : (session_at k0.sessions g.session).call ≡ pending.Commit
-    pub rows : (s : Standing) → standing_at k g ≡ Some s → (s0 : Standing) × (standing_at k0 g ≡ Some s0)
+    pub rows : (s : KeptRow) → kept_row_at k g ≡ Some s → (s0 : KeptRow) × (kept_row_at k0 g ≡ Some s0)
 
   -- a client's call is of another session
   module _ (other : (n : ℕ) (s : Option Stmt) → input ≡ inputs.Call n s → n ≢ g.session) where
@@ -122,7 +166,7 @@ module _ (k0 : NodeState) (input : Input) (g : BranchId) (a : Answer) where
     live_near : (k : NodeState) → Near k → (b : BranchId) (l : Live) → live_at k b ≡ Some l → live_at k0 b ≡ Some l
     live_near k near b l live = subst (λ (ls : List Live). item_at live_id ls b ≡ Some l) near live
 
-    leaves_by : (k : NodeState) → Near k → (l : Live) → l.me ≡ g → IsLive k l.me → (after : NodeState) → after.lives ≡ drop_item live_id k.lives l.me → (sent : List Msg) → list_any (is_quiet g) sent ≡ false → Leaves k0 after None sent g
+    abbrev leaves_by : (k : NodeState) → Near k → (l : Live) → l.me ≡ g → IsLive k l.me → (after : NodeState) → after.lives ≡ drop_item live_id k.lives l.me → (sent : List Msg) → list_any (is_quiet g) sent ≡ false → Leaves k0 after None sent g
     leaves_by k near l me live after is sent silent = record {
       live = live.0;
       there = live_near k near g live.0 (subst (λ i. live_at k i ≡ Some live.0) me live.1);
@@ -160,11 +204,22 @@ module _ (k0 : NodeState) (input : Input) (g : BranchId) (a : Answer) where
       abandon_its l None is = commit_its k.sessions now.root l.me (tran_refusal 2050 l.me) is
       abandon_its l (Some parent) none = absurd none
 
+      -- a root ends without a site, on the last answer of its children
+      finish_ends : {l : Live} {below : Bool} → Near k → Acting k input l below acts.Finish → l.me ≡ g → a ≡ commit_complete → End (act_turn k l below acts.Finish)
+      finish_ends near (steps.Has_no_children y comment below _ found (steps.By_commit n given call has code is) none collected) me complete =
+          absurd (other n (Some (stmts.Commit given)) call (sym (now.fit.roots.each n y.me has) ∙ ap (λ (z : BranchId). z.session) me))
+      finish_ends near (steps.Has_no_children y comment below _ found (steps.By_prepare from _ came working) none collected) me complete =
+          absurd (now.prepared from y.me below comment came y found (no_site collected).0)
+      finish_ends near (steps.Hears_last y from v below _ found answers more all collected) me complete =
+          let so = no_site collected in
+          Has_no_site (leaves_by k near (voted y from v) me (y, found) (act_turn k (voted y from v) below acts.Finish).after refl [] refl) so.0 (On_answer from v below answers more all so.1) complete
+      finish_ends near (steps.At_point y from _ found came is pointed) me complete = elim pointed [ ]
+
       act_ends : (l : Live) (below : Bool) (x : Act) → Acting k input l below x → Ends its (act_turn k l below x).ended → End (act_turn k l below x)
       act_ends l below acts.Decide why is = (let one = alone_ends (is_alone l) l is in let live = acting_live why in Has_decided _ live.0 (live_near k (now.near (acting_apart why)) g live.0 (subst (λ i. live_at k i ≡ Some live.0) one.0 live.1)) refl one.0 one.1)
       act_ends l below acts.Finish why is =
           let one = commit_its k.sessions now.root l.me commit_complete is in
-          Has_no_site (leaves_by k (now.near (acting_apart why)) l one.0 (acting_live why) (act_turn k l below acts.Finish).after refl [] refl) one.1
+          finish_ends (now.near (acting_apart why)) why one.0 one.1
       act_ends l below acts.Abandon why is =
           let one = abandon_its l l.parent is in
           let abort = aborts why in
@@ -189,12 +244,12 @@ module _ (k0 : NodeState) (input : Input) (g : BranchId) (a : Answer) where
       ]
 
     -- a row in which an Ack is noted was there
-    acked_row : (k : NodeState) → Known k → (s : Standing) (from : BranchId) → standing_at k s.me ≡ Some s → (x : Standing) → standing_at (with_standing k (acked_by s from)) g ≡ Some x → (s0 : Standing) × (standing_at k0 g ≡ Some s0)
+    acked_row : (k : NodeState) → Known k → (s : KeptRow) (from : BranchId) → kept_row_at k s.me ≡ Some s → (x : KeptRow) → kept_row_at (with_kept_row k (acked_by s from)) g ≡ Some x → (s0 : KeptRow) × (kept_row_at k0 g ≡ Some s0)
     acked_row k now s from kept x at = by (same s.me g) refl
       where
-        by : (q : Bool) → same s.me g ≡ q → (s0 : Standing) × (standing_at k0 g ≡ Some s0)
-        by true here = now.rows s (subst (λ i. standing_at k i ≡ Some s) (equal_from_same s.me g here) kept)
-        by false apart = now.rows x (sym (put_leaves standing_id k.stored.durable.kept (acked_by s from) g apart) ∙ at)
+        by : (q : Bool) → same s.me g ≡ q → (s0 : KeptRow) × (kept_row_at k0 g ≡ Some s0)
+        by true here = now.rows s (subst (λ i. kept_row_at k i ≡ Some s) (equal_from_same s.me g here) kept)
+        by false apart = now.rows x (sym (put_leaves kept_row_id k.stored.durable.kept (acked_by s from) g apart) ∙ at)
 
     -- a session that another call changes
     root_stays : (ss : List Session) (n : ℕ) (s : Session) → n ≢ g.session → RootIs ss → RootIs (set_numbered ss n s)
@@ -219,6 +274,9 @@ module _ (k0 : NodeState) (input : Input) (g : BranchId) (a : Answer) where
     call_below : {n : ℕ} {s : Option Stmt} (k : NodeState) → input ≡ inputs.Call n s → ExecsBelow input k
     call_below k call from to number given advice s came l live none = (let is = came.is in absurd cc)
 
+    call_prepares : {n : ℕ} {s : Option Stmt} (k : NodeState) → input ≡ inputs.Call n s → PreparesBelow input k
+    call_prepares k call from to below comment came l live none = (let is = came.is in absurd cc)
+
     no_edge : {A : Type 0} (x : A) (o : Option A) → o ≡ None → o ≡ Some x → ⊥
     no_edge x None none is = absurd cc
     no_edge x (Some y) none is = absurd cc
@@ -227,7 +285,7 @@ module _ (k0 : NodeState) (input : Input) (g : BranchId) (a : Answer) where
     unfolding reply_of
     not_replied x from call i e none is = no_edge (i, e) (reply_going x from call x.work.going) (ap (reply_going x from call) none) is
 
-    given_kept : (k : NodeState) → k ≡ k0 → (n : ℕ) → input ≡ inputs.GiveUp n → n ≡ g.session → live_at k g ≡ None → (d : Deed) → (o : Option Standing) → standing_at k g ≡ o → a ≡ tran_refusal (given_up_code o) g → End d
+    given_kept : (k : NodeState) → k ≡ k0 → (n : ℕ) → input ≡ inputs.GiveUp n → n ≡ g.session → live_at k g ≡ None → (d : TurnDraft) → (o : Option KeptRow) → kept_row_at k g ≡ o → a ≡ tran_refusal (given_up_code o) g → End d
     given_kept k same n gives at none d o row is = by (row_knows o) refl
       where
         input_is : input ≡ inputs.GiveUp g.session
@@ -236,10 +294,10 @@ module _ (k0 : NodeState) (input : Input) (g : BranchId) (a : Answer) where
         none0 : live_at k0 g ≡ None
         none0 = subst (λ (z : NodeState). live_at z g ≡ None) same none
 
-        row0 : standing_at k0 g ≡ o
-        row0 = subst (λ (z : NodeState). standing_at z g ≡ o) same row
+        row0 : kept_row_at k0 g ≡ o
+        row0 = subst (λ (z : NodeState). kept_row_at z g ≡ o) same row
 
-        code : (r : Option Standing) (q : Bool) → row_knows r ≡ q → given_up_code r ≡ (if q then 2053 else 2054)
+        code : (r : Option KeptRow) (q : Bool) → row_knows r ≡ q → given_up_code r ≡ (if q then 2053 else 2054)
         code None false is = refl
         code None true is = absurd cc
         code (Some s) q is = ap (λ b. if b then 2053 else 2054) is
@@ -260,13 +318,14 @@ module _ (k0 : NodeState) (input : Input) (g : BranchId) (a : Answer) where
     given_statement k now n x gives has calls b (inr none) = none
 
     module _ (p : Place) where
-      pub ends_on : {k : NodeState} {d : Deed} → Step p input k d → Known k → Ends its d.ended → End d
+      pub ends_on : {k : NodeState} {d : TurnDraft} → Step p input k d → Known k → Ends its d.ended → End d
       ends_on (steps.Begins {k = k} n s call rows range none step) now is =
           ends_on step
           (record {
             root = root_stays k.sessions n (record (session_at k.sessions n) { seq = (new_root p k n).seq; root = Some (new_root p k n) }) (other n (Some s) call) now.root;
             fit = begun_so k now.fit p n;
             below = call_below (begun_by p k n None) call;
+            prepared = call_prepares (begun_by p k n None) call;
             replies = call_no_reply (begun_by p k n None) call;
             near = λ no. absurd (no n s call rows);
             given = λ m gives. absurd (call_not_given call gives);
@@ -279,6 +338,7 @@ module _ (k0 : NodeState) (input : Input) (g : BranchId) (a : Answer) where
             root = root_stays k.sessions n (record (session_at k.sessions n) { call = pending.Commit }) (other n (Some (stmts.Commit given)) call) now.root;
             fit = pends_so k now.fit n pending.Commit;
             below = now.below;
+            prepared = now.prepared;
             replies = now.replies;
             near = now.near;
             given = λ m gives. absurd (call_not_given call gives);
@@ -291,6 +351,7 @@ module _ (k0 : NodeState) (input : Input) (g : BranchId) (a : Answer) where
             root = now.root;
             fit = record { roots = now.fit.roots; above = now.fit.above };
             below = now.below;
+            prepared = now.prepared;
             replies = now.replies;
             near = now.near;
             given = λ m gives. absurd (collects_not_given begins gives);
@@ -303,6 +364,7 @@ module _ (k0 : NodeState) (input : Input) (g : BranchId) (a : Answer) where
             root = now.root;
             fit = record { roots = now.fit.roots; above = now.fit.above };
             below = now.below;
+            prepared = now.prepared;
             replies = now.replies;
             near = now.near;
             given = λ m gives. absurd (came_not_given came gives);
@@ -320,7 +382,7 @@ module _ (k0 : NodeState) (input : Input) (g : BranchId) (a : Answer) where
           (let one = back_its k now s.me d is in Ends_back (ap Some (ap (records.Ended s.me) one.0 ∙ ap (λ i. records.Ended i decisions.Rollback) one.1)) one.2)
       ends_on (steps.Does {k = k} s from (nexts.Meet d mixed) kept why) now is =
           (let one = back_its k now s.me d is in Meets_back mixed (ap Some (ap (λ x. records.Met s.me x mixed) one.0 ∙ ap (λ i. records.Met i decisions.Rollback mixed) one.1)) one.2)
-      ends_on (steps.Does {k = k} s from nexts.Forget kept why) now is = (let one = commit_its k.sessions now.root s.me commit_complete is in let row = now.rows s (subst (λ i. standing_at k i ≡ Some s) one.0 kept) in Has_forgotten row.0 row.1 (ap (λ i. Some (records.Forgot i)) one.0) one.1)
+      ends_on (steps.Does {k = k} s from nexts.Forget kept why) now is = (let one = commit_its k.sessions now.root s.me commit_complete is in let row = now.rows s (subst (λ i. kept_row_at k i ≡ Some s) one.0 kept) in Has_forgotten row.0 row.1 (ap (λ i. Some (records.Forgot i)) one.0) one.1)
       ends_on (steps.Does s from nexts.Rest kept why) now none = absurd none
       ends_on (steps.Does s from nexts.AckToward kept why) now none = absurd none
       ends_on (steps.Does s from nexts.SayForgotten kept why) now none = absurd none
@@ -345,8 +407,8 @@ module _ (k0 : NodeState) (input : Input) (g : BranchId) (a : Answer) where
       ends_on (steps.Gives_up_commit {k = k} n b None gives has calls live) now is =
           (let one = commit_its k.sessions now.root b _ is in
           let at : n ≡ g.session = sym (now.fit.roots.each n b has) ∙ ap (λ (z : BranchId). z.session) one.0 in
-          given_kept k (now.given n gives) n gives at (subst (λ i. live_at k i ≡ None) one.0 live) (commit_given_up k b None) (standing_at k g) refl
-          (one.1 ∙ (ap (λ i. tran_refusal (given_up_code (standing_at k i)) i) one.0)))
+          given_kept k (now.given n gives) n gives at (subst (λ i. live_at k i ≡ None) one.0 live) (commit_given_up k b None) (kept_row_at k g) refl
+          (one.1 ∙ (ap (λ i. tran_refusal (given_up_code (kept_row_at k i)) i) one.0)))
       ends_on steps.Rests now none = absurd none
       ends_on (steps.Sends says why) now none = absurd none
       ends_on (steps.Calls x s given i table asked way) now none = absurd none

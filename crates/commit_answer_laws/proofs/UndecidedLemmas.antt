@@ -1,19 +1,19 @@
 -- In every lawful run no decision stands of a transaction whose COMMIT was answered ORA-02050: its root was dropped, or it
 -- learned the rollback.
-use Rattle.std.proofs.Common.{◌≡◌, ◌≢◌, ℕ, ◌≤◌, Bool, true, false, List, [], ◌∷◌, ◌++◌, zero, suc, slice_get, Option, Some, None, inl, inr, refl, sym, ap, subst, ◌∙◌, arith}
+use Rattle.std.proofs.Common.{◌≡◌, ◌≢◌, ℕ, ◌≤◌, Bool, true, false, List, [], ◌∷◌, ◌++◌, Option, Some, None, inl, inr, refl, sym, ap, subst, ◌∙◌, arith}
 use Rattle.std.specs.Prelude.{◌⊎◌, IfSome}
-use Rattle.std.specs.List.{AllByRecursion, list_any}
+use Rattle.std.specs.List.{list_any}
 use Rattle.tran_ids.proofs.ListedLemmas.{item_is}
 use Rattle.agreement.specs.Events as exits
 use Rattle.agreement.specs.Events.{Forest, Event, Exit, Dropped, Quiet, Learn, Knows, first, only_at, exit, learned, site_of}
 use Rattle.agreement.proofs.AgreementLaws.{undecided_from_rollback, doomed_undecided}
 use Rattle.agreement.proofs.EventLemmas.{only_at_is, only_at_same}
 use Rattle.agreement.proofs.WholeTree.{site_root}
-use Rattle.node_rules.specs.Data.{Answer, BranchId, Decision, Live, Place, RedoRecord, Standing, Decided as DecidedRecord}
+use Rattle.node_rules.specs.Data.{Answer, BranchId, Decision, Live, Place, RedoRecord, KeptRow, Decided as DecidedRecord}
 use Rattle.node_rules.specs.Data.answers
 use Rattle.node_rules.specs.Data.decisions
 use Rattle.node_rules.specs.Data.records
-use Rattle.node_rules.specs.NodeState.{NodeState, Outcome, live_id, live_at, standing_id, standing_at}
+use Rattle.node_rules.specs.NodeState.{NodeState, TurnOutput, live_id, live_at, kept_row_id, kept_row_at}
 use Rattle.node_rules.specs.Commit.{knows_commit}
 use Rattle.node_rules.specs.Sessions.{session_at, commit_complete, tran_refusal}
 use Rattle.node_rules.specs.Turn.{turn_of, heard}
@@ -44,17 +44,21 @@ use Rattle.tree_laws.specs.Forests.{forest_of, root_in, is_member, asked_by}
 use Rattle.tree_laws.proofs.ForestLemmas as trees
 use Rattle.tree_laws.proofs.ForestRunLemmas.{run_known}
 use Rattle.tree_laws.proofs.PrefixLemmas.{so_far, f_at, e_at, one_on, more_on}
-use Rattle.tree_site_laws.proofs.FateLemmas.{among_found}
-use Rattle.tree_site_laws.proofs.LeaveLemmas.{messages_exit, all_quiet}
-use Rattle.tree_site_laws.proofs.TimeLemmas.{Part, part_on, part_of, part_lawful, may_of, each_at, exit_end, born_end}
+use Rattle.tree_laws.proofs.FateLemmas.{among_found}
+use Rattle.tree_laws.proofs.LeaveLemmas.{messages_exit, all_quiet}
+use Rattle.tree_laws.proofs.TimeLemmas.{Part, part_on, part_of, part_lawful, may_of, each_at, exit_end, born_end}
 use Rattle.commit_point_laws.specs.EndLaws.{EntryIs}
 use Rattle.commit_point_laws.proofs.BookEndLemmas.{entries_are_exits}
-use Rattle.commit_spread_laws.proofs.MoreLemmas.{forest, events_lawful, added_end, inv_end, inv_at}
-use Rattle.commit_answer_laws.specs.CommitEndLaws.{row_knows, Leaves, CommitEnd, Has_decided, Has_no_site, Has_forgotten, Hears_abort, Is_given_up, Ends_back, Meets_back, Is_known, Is_in_doubt, Is_forced}
-use Rattle.commit_answer_laws.specs.UndecidedLaws.{EndedWith, IsDecided, IsUndecided, RefusedAreUndecided, KnownAreDecided, CompleteAreDecided}
+use Rattle.tree_laws.proofs.MoreLemmas.{forest, events_lawful, added_end, inv_end, inv_at}
+use Rattle.commit_answer_laws.specs.CommitEndLaws.{row_knows, Leaves}
+use Rattle.commit_answer_laws.specs.UndecidedLaws.{EndedWith, IsDecided, IsUndecided, HadNoSite, RefusedAreUndecided, KnownAreDecided, CompleteAreDecided}
 use Rattle.commit_answer_laws.proofs.BookLemmas.{decided_stands}
 use Rattle.commit_answer_laws.proofs.BornLemmas.{High, born_high, session_low}
 use Rattle.commit_answer_laws.proofs.EndRunLemmas.{ends_for, fits}
+use Rattle.commit_answer_laws.proofs.EndStepLemmas.{StepEnd, Has_decided, Has_no_site, Has_forgotten, Hears_abort, Is_given_up, Ends_back, Meets_back, Is_known, Is_in_doubt, Is_forced}
+use Rattle.commit_answer_laws.proofs.NoSiteLemmas.{had_no_site}
+use Rattle.tree_laws.proofs.AtPart.{at_part}
+use Rattle.tree_trail_laws.proofs.OwnAfterLemmas.{all_at as slice_all}
 
 -- ---- answers
 
@@ -85,32 +89,38 @@ first_new : (x z : Option Exit) → x ≡ None → first x z ≡ z
 first_new None z is = refl
 first_new (Some y) z is = absurd cc
 
-slice_all : {A : Type 0} (P : A → Type 0) (xs : List A) (i : ℕ) (x : A) → AllByRecursion P xs → slice_get xs i ≡ Some x → P x
-slice_all P [] i x all is = absurd cc
-slice_all P (y ∷ ys) zero x all is = subst P (let it : Some y ≡ Some x = is in cc) all.0
-slice_all P (y ∷ ys) (suc i) x all is = slice_all P ys i x all.1 is
+-- The COMMIT of g ended in a whole turn of a run for this reason.
+pub record EndsAs (t : History) (g : BranchId) (a : Answer) : Type 0 where
+  pub before : List Happening
+  pub turn : Turn
+  pub later : List Happening
+  pub is : before ++ happenings.Turn turn ∷ later ≡ t.trace
+  pub uncut : turn.cut ≡ false
+  pub kept : NodeState
+  pub up : node_at (f_at t before) turn.node ≡ Some kept
+  pub root : (session_at kept.sessions g.session).root ≡ Some g
+  pub end : StepEnd kept turn.input (turn_of (place_at t.places turn.node) kept turn.input).after (turn_of (place_at t.places turn.node) kept turn.input).wrote (turn_of (place_at t.places turn.node) kept turn.input).sent g a
 
-module _ (t : History) (whole : IsLawfulRun t) (g : BranchId) (a : Answer) (it : EndedWith t g a) where
+-- one that was pending
+abbrev ends_as : (t : History) → IsLawfulRun t → (g : BranchId) (a : Answer) → EndedWith t g a → EndsAs t g a
+ends_as t whole g a it = record {
+  before = it.before;
+  turn = it.turn;
+  later = it.later;
+  is = it.is;
+  uncut = it.uncut;
+  kept = it.kept;
+  up = it.up;
+  root = it.pends.root;
+  end = ends_for t whole it.before it.turn it.later it.is it.kept it.up g a it.pends it.ends;
+}
+
+module _ (t : History) (whole : IsLawfulRun t) (g : BranchId) (a : Answer) (it : EndsAs t g a) where
   abbrev p : Forest
   p = forest_of t
 
-  abbrev hs : List Happening
-  hs = it.before
-
-  abbrev u : Turn
-  u = it.turn
-
-  abbrev k : NodeState
-  k = it.kept
-
-  abbrev s0 : History
-  s0 = so_far t hs
-
-  abbrev f : Facts
-  f = f_at t hs
-
-  abbrev e : List Event
-  e = e_at t hs
+  open it use {before as hs, turn as u, kept as k}
+  open at_part t hs use {s as s0, f, e}
 
   abbrev after : List Happening
   after = hs ++ happenings.Turn u ∷ []
@@ -124,7 +134,7 @@ module _ (t : History) (whole : IsLawfulRun t) (g : BranchId) (a : Answer) (it :
   abbrev place : Place
   place = place_at t.places u.node
 
-  abbrev o : Outcome
+  abbrev o : TurnOutput
   o = turn_of place k u.input
 
   part : Part t whole hs
@@ -153,15 +163,15 @@ module _ (t : History) (whole : IsLawfulRun t) (g : BranchId) (a : Answer) (it :
   owed = owed_by u.cut it.uncut may.owed
 
   -- the end of its COMMIT
-  end : CommitEnd k u.input o.after o.wrote o.sent g a
-  end = ends_for t whole hs u it.later it.is k up g a it.pends it.ends
+  end : StepEnd k u.input o.after o.wrote o.sent g a
+  end = it.end
 
   -- ---- its root
 
   low : g.session ≤ 64
   low =
       let fit : SessionsFit (heard k u.input) = fits t whole hs u it.later it.is k up in
-      session_low (heard k u.input).sessions fit.roots.many g.session g (ap (λ ss. (session_at ss g.session).root) (sessions_heard k u.input) ∙ it.pends.root)
+      session_low (heard k u.input).sessions fit.roots.many g.session g (ap (λ ss. (session_at ss g.session).root) (sessions_heard k u.input) ∙ it.root)
 
   top_by : (x : Born) (q : Option BranchId) → x.parent ≡ q → High x → x.me ≡ g → x.parent ≡ None
   top_by x None is high me = is
@@ -288,9 +298,9 @@ module _ (t : History) (whole : IsLawfulRun t) (g : BranchId) (a : Answer) (it :
 
   -- ---- each end
 
-  undecided : a ≡ tran_refusal 2050 g → CommitEnd k u.input o.after o.wrote o.sent g a → (b : BranchId) (n : ℕ) → exit (events_of t) b ≡ Some (exits.Decided n) → p.root b ≡ g → ⊥
+  undecided : a ≡ tran_refusal 2050 g → StepEnd k u.input o.after o.wrote o.sent g a → (b : BranchId) (n : ℕ) → exit (events_of t) b ≡ Some (exits.Decided n) → p.root b ≡ g → ⊥
   undecided asked (Has_decided r l live wrote its is) = absurd (not_complete g (sym asked ∙ is))
-  undecided asked (Has_no_site leaves is) = absurd (not_complete g (sym asked ∙ is))
+  undecided asked (Has_no_site leaves top_is ends is) = absurd (not_complete g (sym asked ∙ is))
   undecided asked (Has_forgotten s row wrote is) = absurd (not_complete g (sym asked ∙ is))
   undecided asked (Hears_abort from came leaves is) = drop_undecided leaves
   undecided asked (Is_given_up given leaves is) = drop_undecided leaves
@@ -319,10 +329,10 @@ module _ (t : History) (whole : IsLawfulRun t) (g : BranchId) (a : Answer) (it :
       let placed : LiveIs (Began (births_of s0)) y = all_found (LiveIs (Began (births_of s0))) live_id k.lives g y (nodes_name_the_born s0 lawful u.node k up).0 there in
       (placed.born, subst (λ i. born_at (births_of t) i ≡ Some placed.born) (placed.is_me ∙ item_is live_id k.lives g y there) (born_end t whole hs part placed.born placed.began))
 
-  row_born : (s : Standing) → standing_at k g ≡ Some s → IsBorn
+  row_born : (s : KeptRow) → kept_row_at k g ≡ Some s → IsBorn
   row_born s there =
-      let kept : KeptIs (Began (births_of s0)) s = all_found (KeptIs (Began (births_of s0))) standing_id k.stored.durable.kept g s (nodes_name_the_born s0 lawful u.node k up).1 there in
-      (kept.born, subst (λ i. born_at (births_of t) i ≡ Some kept.born) (kept.is_me ∙ item_is standing_id k.stored.durable.kept g s there) (born_end t whole hs part kept.born kept.began))
+      let kept : KeptIs (Began (births_of s0)) s = all_found (KeptIs (Began (births_of s0))) kept_row_id k.stored.durable.kept g s (nodes_name_the_born s0 lawful u.node k up).1 there in
+      (kept.born, subst (λ i. born_at (births_of t) i ≡ Some kept.born) (kept.is_me ∙ item_is kept_row_id k.stored.durable.kept g s there) (born_end t whole hs part kept.born kept.began))
 
   in_book : (b : BranchId) (n : ℕ) → exit (events_of t) b ≡ Some (exits.Decided n) → p.root b ≡ g → IsDecided t g
   in_book b n decided of =
@@ -337,16 +347,16 @@ module _ (t : History) (whole : IsLawfulRun t) (g : BranchId) (a : Answer) (it :
   knows_in_book born n (inr learnt) = site_in_book born n (exit_end t whole hs part (site_of p g) (exits.Decided n) ((inv_at t whole hs part).learned_commit g n learnt))
 
   -- a row that knows the commit
-  row_in_book : (o : Option Standing) → standing_at k g ≡ o → row_knows o ≡ true → IsDecided t g
+  row_in_book : (o : Option KeptRow) → kept_row_at k g ≡ o → row_knows o ≡ true → IsDecided t g
   row_in_book None there knows = absurd cc
   row_in_book (Some s) there knows =
-      let row : RowIs e s = all_found (RowIs e) standing_id k.stored.durable.kept g s (nodes_are_as_events s0 lawful u.node k up).1 there in
+      let row : RowIs e s = all_found (RowIs e) kept_row_id k.stored.durable.kept g s (nodes_are_as_events s0 lawful u.node k up).1 there in
       by s.decision row.known knows
     where
       by : (d : Option Decision) → IsKnown e s d → knows_commit d ≡ true → IsDecided t g
       by None known so = absurd cc
       by (Some decisions.Rollback) known so = absurd cc
-      by (Some (decisions.Commit n)) known so = knows_in_book (row_born s there) n (subst (λ i. Knows e i n) (item_is standing_id k.stored.durable.kept g s there) known)
+      by (Some (decisions.Commit n)) known so = knows_in_book (row_born s there) n (subst (λ i. Knows e i n) (item_is kept_row_id k.stored.durable.kept g s there) known)
 
   all_tells : TellsAsEvents f e (happenings.Turn u)
   all_tells = each_at t.places t.commands TellsAsEvents (first_facts t.places) hs (happenings.Turn u) it.later [] (subst (λ xs. EachEventFrom TellsAsEvents t.places t.commands (first_facts t.places) [] xs) (sym it.is) (turns_tell_as_events t whole))
@@ -355,7 +365,7 @@ module _ (t : History) (whole : IsLawfulRun t) (g : BranchId) (a : Answer) (it :
   may_stand r wrote = subst (λ w. IfSome w (MayStand e)) (owed.0 ∙ wrote) all_tells.0
 
   -- a root that forgets knows the commit
-  forgot_in_book : (s : Standing) → standing_at k g ≡ Some s → o.wrote ≡ Some (records.Forgot g) → IsDecided t g
+  forgot_in_book : (s : KeptRow) → kept_row_at k g ≡ Some s → o.wrote ≡ Some (records.Forgot g) → IsDecided t g
   forgot_in_book s there wrote = (let knows = may_stand (records.Forgot g) wrote in knows_in_book (row_born s there) knows.0 knows.1)
 
   -- a root that decides
@@ -370,24 +380,24 @@ module _ (t : History) (whole : IsLawfulRun t) (g : BranchId) (a : Answer) (it :
       let born = live_born y there in
       in_book g r.scn last (root_is born.0 born.1)
 
-  known_ends : a ≡ tran_refusal 2053 g → CommitEnd k u.input o.after o.wrote o.sent g a → IsDecided t g
+  known_ends : a ≡ tran_refusal 2053 g → StepEnd k u.input o.after o.wrote o.sent g a → IsDecided t g
   known_ends asked (Has_decided r y live wrote its is) = decided_in_book r y live wrote its
-  known_ends asked (Has_no_site leaves is) = absurd (not_complete_known g (sym asked ∙ is))
+  known_ends asked (Has_no_site leaves top_is ends is) = absurd (not_complete_known g (sym asked ∙ is))
   known_ends asked (Has_forgotten s row wrote is) = forgot_in_book s row wrote
   known_ends asked (Hears_abort from came leaves is) = absurd (not_known g (sym is ∙ asked))
   known_ends asked (Is_given_up given leaves is) = absurd (not_known g (sym is ∙ asked))
   known_ends asked (Ends_back wrote is) = absurd (not_known g (sym is ∙ asked))
   known_ends asked (Meets_back mixed wrote is) = absurd (not_known g (sym is ∙ asked))
-  known_ends asked (Is_known given gone knows is) = row_in_book (standing_at k g) refl knows
+  known_ends asked (Is_known given gone knows is) = row_in_book (kept_row_at k g) refl knows
   known_ends asked (Is_in_doubt given gone doubt is) = absurd (known_not_in_doubt g (sym asked ∙ is))
   known_ends asked (Is_forced d given wrote is) = absurd (known_not_in_doubt g (sym asked ∙ is))
 
   pub known_decided : a ≡ tran_refusal 2053 g → IsDecided t g
   known_decided asked = known_ends asked end
 
-  complete_ends : a ≡ commit_complete → CommitEnd k u.input o.after o.wrote o.sent g a → IsDecided t g ⊎ (Leaves k o.after o.wrote o.sent g × IsUndecided t g)
+  complete_ends : a ≡ commit_complete → StepEnd k u.input o.after o.wrote o.sent g a → IsDecided t g ⊎ (Leaves k o.after o.wrote o.sent g × HadNoSite t g × IsUndecided t g)
   complete_ends asked (Has_decided r y live wrote its is) = inl (decided_in_book r y live wrote its)
-  complete_ends asked (Has_no_site leaves is) = inr (leaves, undecided_book (drop_undecided leaves))
+  complete_ends asked (Has_no_site leaves top_is ends is) = inr (leaves, had_no_site t whole hs u it.later it.is k up g leaves.live (l_me leaves) leaves.there top_is ends, undecided_book (drop_undecided leaves))
   complete_ends asked (Has_forgotten s row wrote is) = inl (forgot_in_book s row wrote)
   complete_ends asked (Hears_abort from came leaves is) = absurd (not_complete g (sym is ∙ asked))
   complete_ends asked (Is_given_up given leaves is) = absurd (not_complete g (sym is ∙ asked))
@@ -397,14 +407,14 @@ module _ (t : History) (whole : IsLawfulRun t) (g : BranchId) (a : Answer) (it :
   complete_ends asked (Is_in_doubt given gone doubt is) = absurd (not_complete_doubt g (sym is ∙ asked))
   complete_ends asked (Is_forced d given wrote is) = absurd (not_complete_doubt g (sym is ∙ asked))
 
-  pub complete_decided : a ≡ commit_complete → IsDecided t g ⊎ (Leaves k o.after o.wrote o.sent g × IsUndecided t g)
+  pub complete_decided : a ≡ commit_complete → IsDecided t g ⊎ (Leaves k o.after o.wrote o.sent g × HadNoSite t g × IsUndecided t g)
   complete_decided asked = complete_ends asked end
 
 pub refused_are_undecided : RefusedAreUndecided
-refused_are_undecided t whole g it = none_decided t whole g (tran_refusal 2050 g) it refl
+refused_are_undecided t whole g it = none_decided t whole g (tran_refusal 2050 g) (ends_as t whole g (tran_refusal 2050 g) it) refl
 
 pub known_are_decided : KnownAreDecided
-known_are_decided t whole g it = known_decided t whole g (tran_refusal 2053 g) it refl
+known_are_decided t whole g it = known_decided t whole g (tran_refusal 2053 g) (ends_as t whole g (tran_refusal 2053 g) it) refl
 
 pub complete_are_decided : CompleteAreDecided
-complete_are_decided t whole g it = complete_decided t whole g commit_complete it refl
+complete_are_decided t whole g it = complete_decided t whole g commit_complete (ends_as t whole g commit_complete it) refl

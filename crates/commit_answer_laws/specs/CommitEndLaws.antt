@@ -4,7 +4,7 @@
 use Rattle.std.specs.List.{list_any}
 use Rattle.run_rules.specs.Trail.{is_quiet}
 use Rattle.std.specs.Prelude.{◌≡◌, ◌⊎◌, Bool, true, false, List, [], ◌∷◌, Option, Some, None}
-use Rattle.node_rules.specs.Data.{Answer, BranchId, Decision, Input, Live, Place, RedoRecord, Standing, Decided, Msg}
+use Rattle.node_rules.specs.Data.{Answer, BranchId, Decision, Input, Live, Place, RedoRecord, KeptRow, Decided, Msg}
 use Rattle.node_rules.specs.Data.decisions
 use Rattle.node_rules.specs.Data.inputs
 use Rattle.node_rules.specs.Data.kinds
@@ -13,7 +13,7 @@ use Rattle.node_rules.specs.declared.session.Finished.{Finished}
 use Rattle.node_rules.specs.declared.session.PendingCall.TheVariants as pending
 use Rattle.node_rules.specs.Commit.{knows_commit}
 use Rattle.node_rules.specs.Inputs.{Came}
-use Rattle.node_rules.specs.NodeState.{NodeState, Outcome, live_at, standing_at}
+use Rattle.node_rules.specs.NodeState.{NodeState, TurnOutput, live_at, kept_row_at}
 use Rattle.node_rules.specs.Sessions.{session_at, commit_complete, tran_refusal}
 use Rattle.node_rules.specs.Turn.{turn_of}
 use Rattle.run_rules.specs.Data.{Happening}
@@ -23,7 +23,7 @@ use Rattle.run_rules.specs.Lawful.{History, IsLawfulRun}
 use Rattle.run_base_laws.specs.NodeLaws.{AtEachFact}
 
 -- whether a branch's row knows the commit
-abbrev pub row_knows : Option Standing → Bool
+abbrev pub row_knows : Option KeptRow → Bool
 row_knows None = false
 row_knows (Some s) = knows_commit s.decision
 
@@ -39,13 +39,13 @@ pub record Leaves (k after : NodeState) (wrote : Option RedoRecord) (sent : List
 pub data CommitEnd (k : NodeState) (input : Input) (after : NodeState) (wrote : Option RedoRecord) (sent : List Msg) (g : BranchId) (a : Answer) : Type 0 where
   Has_decided : (r : Decided) (l : Live) → live_at k g ≡ Some l → wrote ≡ Some (records.Decided r) → r.me ≡ g → a ≡ commit_complete → CommitEnd k input after wrote sent g a  -- the root is the site, and alone
   Has_no_site : Leaves k after wrote sent g → a ≡ commit_complete → CommitEnd k input after wrote sent g a
-  Has_forgotten : (s : Standing) → standing_at k g ≡ Some s → wrote ≡ Some (records.Forgot g) → a ≡ commit_complete → CommitEnd k input after wrote sent g a
+  Has_forgotten : (s : KeptRow) → kept_row_at k g ≡ Some s → wrote ≡ Some (records.Forgot g) → a ≡ commit_complete → CommitEnd k input after wrote sent g a
   Hears_abort : (from : BranchId) → Came input from g kinds.Abort → Leaves k after wrote sent g → a ≡ tran_refusal 2050 g → CommitEnd k input after wrote sent g a
   Is_given_up : input ≡ inputs.GiveUp g.session → Leaves k after wrote sent g → a ≡ tran_refusal 2050 g → CommitEnd k input after wrote sent g a
   Ends_back : wrote ≡ Some (records.Ended g decisions.Rollback) → a ≡ tran_refusal 2050 g → CommitEnd k input after wrote sent g a
   Meets_back : (mixed : Bool) → wrote ≡ Some (records.Met g decisions.Rollback mixed) → a ≡ tran_refusal 2050 g → CommitEnd k input after wrote sent g a
-  Is_known : input ≡ inputs.GiveUp g.session → live_at k g ≡ None → row_knows (standing_at k g) ≡ true → a ≡ tran_refusal 2053 g → CommitEnd k input after wrote sent g a
-  Is_in_doubt : input ≡ inputs.GiveUp g.session → live_at k g ≡ None → row_knows (standing_at k g) ≡ false → a ≡ tran_refusal 2054 g → CommitEnd k input after wrote sent g a
+  Is_known : input ≡ inputs.GiveUp g.session → live_at k g ≡ None → row_knows (kept_row_at k g) ≡ true → a ≡ tran_refusal 2053 g → CommitEnd k input after wrote sent g a
+  Is_in_doubt : input ≡ inputs.GiveUp g.session → live_at k g ≡ None → row_knows (kept_row_at k g) ≡ false → a ≡ tran_refusal 2054 g → CommitEnd k input after wrote sent g a
   Is_forced : (d : Decision) (given : Bool) → wrote ≡ Some (records.Forced g d given) → a ≡ tran_refusal 2054 g → CommitEnd k input after wrote sent g a
 
 -- a call ends so
@@ -59,7 +59,7 @@ pub record CommitPends (k : NodeState) (g : BranchId) : Type 0 where
   pub call : (session_at k.sessions g.session).call ≡ pending.Commit
 
 -- a COMMIT that was pending and ends in a turn does so for a reason
-abbrev pub EndsForReason : NodeState → Input → Outcome → Type 0
+abbrev pub EndsForReason : NodeState → Input → TurnOutput → Type 0
 EndsForReason k input o = (g : BranchId) (a : Answer) → CommitPends k g → Ends (record { session = g.session; answer = a }) o.ended → CommitEnd k input o.after o.wrote o.sent g a
 
 abbrev pub TurnsEndCommits : List Place → Facts → Happening → Type 0

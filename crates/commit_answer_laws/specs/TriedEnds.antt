@@ -6,7 +6,7 @@ use Rattle.node_rules.specs.Data.inputs
 use Rattle.node_rules.specs.declared.session.Finished.{Finished}
 use Rattle.node_rules.specs.declared.session.PendingCall.{PendingCall}
 use Rattle.node_rules.specs.declared.session.PendingCall.TheVariants as pending
-use Rattle.node_rules.specs.NodeState.{NodeState, Outcome}
+use Rattle.node_rules.specs.NodeState.{NodeState, TurnOutput}
 use Rattle.node_rules.specs.Sessions.{session_at, commit_complete, tran_refusal}
 use Rattle.run_rules.specs.Facts.{Facts, first_facts, facts_of, node_at, outcome_at}
 use Rattle.run_branch_laws.specs.TriedRun.{places, takes, played, coming, turn_by, a}
@@ -21,7 +21,7 @@ call_in None = pending.NoCall
 call_in (Some k) = (session_at k.sessions 1).call
 
 -- the calls that a turn ends
-abbrev pub ended_in : Option Outcome → List Finished
+abbrev pub ended_in : Option TurnOutput → List Finished
 ended_in None = []
 ended_in (Some o) = o.ended
 

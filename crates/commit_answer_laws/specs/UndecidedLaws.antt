@@ -1,16 +1,18 @@
 -- What a client may rest on who is told that its COMMIT rolled back: no branch of the transaction has decided, nor ever does.
 -- (Error Messages: ORA-02050; Database Administrator's Guide, "Distributed Transactions Concepts".)
-use Rattle.std.specs.Prelude.{◌≡◌, ◌⊎◌, ℕ, false, List, ◌∷◌, ◌++◌, Some}
+use Rattle.std.specs.Prelude.{◌≡◌, ◌⊎◌, ℕ, true, false, List, ◌∷◌, ◌++◌, Some}
 use Rattle.node_rules.specs.Data.{Answer, BranchId, Change}
 use Rattle.node_rules.specs.NodeState.{NodeState}
 use Rattle.node_rules.specs.Sessions.{commit_complete, tran_refusal}
 use Rattle.node_rules.specs.Turn.{turn_of}
 use Rattle.run_rules.specs.Book.{At}
+use Rattle.run_rules.specs.Branches.{no_trail, plan_at}
 use Rattle.run_rules.specs.Data.{Turn, Happening}
 use Rattle.run_rules.specs.Data.entries
 use Rattle.run_rules.specs.Data.happenings
 use Rattle.run_rules.specs.Facts.{first_facts, facts_of, node_at, place_at}
 use Rattle.run_rules.specs.Lawful.{History, IsLawfulRun, facts_at}
+use Rattle.run_rules.specs.Trail.{has_no_site, trail_of}
 use Rattle.commit_answer_laws.specs.CommitEndLaws.{CommitPends, Ends, Leaves}
 
 -- The COMMIT of g was pending, and ended in a whole turn of a run with this answer.
@@ -38,6 +40,10 @@ IsDecided t g = (b : BranchId) × (cs : List Change) × (n i : ℕ) × At (facts
 abbrev pub IsUndecided : History → BranchId → Type 0
 IsUndecided t g = (i : ℕ) (b : BranchId) (cs : List Change) (n : ℕ) → At (facts_at t).book i (entries.Decided b g cs n) → ⊥
 
+-- its COMMIT was accepted, and no branch of its session tree had changes then
+abbrev pub HadNoSite : History → BranchId → Type 0
+HadNoSite t g = has_no_site (plan_at (trail_of t.places t.commands (first_facts t.places) no_trail t.trace) g) ≡ true
+
 -- In every lawful run no decision of a transaction whose COMMIT was answered ORA-02050 stands in the book, up to its end.
 abbrev pub RefusedAreUndecided : Type 0
 RefusedAreUndecided = (t : History) → IsLawfulRun t → (g : BranchId) → EndedWith t g (tran_refusal 2050 g) → IsUndecided t g
@@ -46,7 +52,7 @@ RefusedAreUndecided = (t : History) → IsLawfulRun t → (g : BranchId) → End
 abbrev pub KnownAreDecided : Type 0
 KnownAreDecided = (t : History) → IsLawfulRun t → (g : BranchId) → EndedWith t g (tran_refusal 2053 g) → IsDecided t g
 
--- Where it was complete a decision does, or its root left without a record, since there was no site, and none ever does.
+-- Where it was complete a decision does; or there was no site: its root left without a record, and none ever does.
 abbrev pub CompleteAreDecided : Type 0
 CompleteAreDecided = (t : History) → IsLawfulRun t → (g : BranchId) → (it : EndedWith t g commit_complete)
-    → IsDecided t g ⊎ (LeftAlone t g it.kept it.turn × IsUndecided t g)
+    → IsDecided t g ⊎ (LeftAlone t g it.kept it.turn × HadNoSite t g × IsUndecided t g)

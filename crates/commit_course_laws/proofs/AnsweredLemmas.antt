@@ -4,7 +4,7 @@ use Rattle.std.specs.List.{AllByRecursion}
 use Rattle.std.proofs.lemmas.Bool.{eqb-true}
 use Rattle.node_rules.specs.Data.{Answer, Place, Stmt}
 use Rattle.node_rules.specs.declared.session.Finished.{Finished}
-use Rattle.node_rules.specs.NodeState.{Outcome}
+use Rattle.node_rules.specs.NodeState.{TurnOutput}
 use Rattle.run_rules.specs.Calls.{is_call_at, call_at, without_call, ends_or_follows, finished_call, finished}
 use Rattle.run_rules.specs.Cuts.{turn_appends}
 use Rattle.run_rules.specs.Data.{Command, Happening, Turn}
@@ -74,7 +74,7 @@ module _ (node session : ℕ) where
 
     -- ---- in a turn
 
-    answered_end : (t : RunReport) (u : Turn) (o : Outcome) → HasOne node session t → u.node ≡ node → (filter (λ (x : Finished). x.session == session) o.ended ≡ [] → ⊥) → HasNone (ends_calls running t u false (Some o))
+    answered_end : (t : RunReport) (u : Turn) (o : TurnOutput) → HasOne node session t → u.node ≡ node → (filter (λ (x : Finished). x.session == session) o.ended ≡ [] → ⊥) → HasNone (ends_calls running t u false (Some o))
     answered_end t u o one here some =
         let v : RunReport = finished running t u.node o.ended in
         let none : HasNone v = subst (λ n. HasNone (finished running t n o.ended)) (sym here) (answered_calls t o.ended one some) in
@@ -84,16 +84,16 @@ module _ (node session : ℕ) where
     answered_turn : (f : Facts) (t : RunReport) (u : Turn) → HasOne node session t → (answers_in places f node session (happenings.Turn u) ≡ [] → ⊥) → HasNone (report_turned f.command (node_at f u.node) t u (outcome_at places f u))
     answered_turn f t u one some = by u.cut (u.node == node) (outcome_at places f u) refl refl refl
       where
-        answers : Option Outcome → List Answer
+        answers : Option TurnOutput → List Answer
         answers o = map (λ (x : Finished). x.answer) (filter (λ (x : Finished). x.session == session) (ended_by o))
 
-        said : Bool → Bool → Option Outcome → List Answer
+        said : Bool → Bool → Option TurnOutput → List Answer
         said cut here o = if cut then [] else (if here then answers o else [])
 
-        v : Option Outcome → RunReport
+        v : Option TurnOutput → RunReport
         v o = without_following (delivered_more (turn_appends t u.node u.input (node_at f u.node) o) u.took) u.input
 
-        by : (cut here : Bool) (o : Option Outcome) → u.cut ≡ cut → (u.node == node) ≡ here → outcome_at places f u ≡ o → HasNone (report_turned f.command (node_at f u.node) t u (outcome_at places f u))
+        by : (cut here : Bool) (o : Option TurnOutput) → u.cut ≡ cut → (u.node == node) ≡ here → outcome_at places f u ≡ o → HasNone (report_turned f.command (node_at f u.node) t u (outcome_at places f u))
         by true here o cut_is here_is o_is = absurd (some (ap (λ q. said q (u.node == node) (outcome_at places f u)) cut_is))
         by false false o cut_is here_is o_is = absurd (some (ap (λ q. said q (u.node == node) (outcome_at places f u)) cut_is ∙ ap (λ q. said false q (outcome_at places f u)) here_is))
         by false true None cut_is here_is o_is =

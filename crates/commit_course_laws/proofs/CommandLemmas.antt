@@ -10,7 +10,7 @@ use Rattle.run_rules.specs.Data.{Command, Happening}
 use Rattle.run_rules.specs.Data.commands
 use Rattle.run_rules.specs.Data.happenings
 use Rattle.run_rules.specs.Due.{comes_next}
-use Rattle.run_rules.specs.Facts.{Facts, command_at, facts_after, is_up, node_at, outcome_at}
+use Rattle.run_rules.specs.Facts.{command_at, facts_after, is_up, node_at, outcome_at}
 use Rattle.run_rules.specs.Lawful.{History}
 use Rattle.run_rules.specs.Lines.{with_stop}
 use Rattle.run_rules.specs.Past.{past, report_after, report_stopped, is_stop_of, start_refused, failed_start}
@@ -22,11 +22,7 @@ use Rattle.commit_course_laws.proofs.WayLemmas.{stopped_way, turn_way, stopped_s
 use Rattle.commit_course_laws.proofs.DueLemmas.{begun_over}
 
 module _ (t : History) (p : Past) where
-  abbrev f : Facts
-  f = p.facts
-
-  abbrev told : RunReport
-  told = p.run_report
+  open p use {facts as f, run_report as told}
 
   abbrev command : Command
   command = command_at t.commands f.command

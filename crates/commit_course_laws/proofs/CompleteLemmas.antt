@@ -3,9 +3,9 @@ use Rattle.std.proofs.Common.{◌≡◌, ℕ, ◌+◌, ◌≤◌, ◌||◌, Bool
 use Rattle.std.specs.List.{AllByRecursion, list_any}
 use Rattle.tran_ids.proofs.BranchLemmas.{equal_from_same, same_from_equal}
 use Rattle.tran_ids.proofs.ListedLemmas.{item_is}
-use Rattle.node_rules.specs.Data.{BranchId, Live, Standing}
-use Rattle.node_rules.specs.NodeState.{NodeState, live_id, live_at, branch_at, standing_at}
-use Rattle.node_rules.specs.Turn.{Is_gone, stand_of, live_or}
+use Rattle.node_rules.specs.Data.{BranchId, Live, KeptRow}
+use Rattle.node_rules.specs.NodeState.{NodeState, live_id, live_at, branch_at, kept_row_at}
+use Rattle.node_rules.specs.Turn.{Is_gone, status_of, live_or}
 use Rattle.node_rules.specs.Words.{same}
 use Rattle.run_rules.specs.Births.{Born, births_of, born_id, born_at}
 use Rattle.run_base_laws.specs.BirthLaws.{Began, LiveIs, StandsBelow}
@@ -19,11 +19,11 @@ use Rattle.run_base_laws.proofs.BirthRunLemmas.{births_are_trees, no_id_begins_t
 use Rattle.run_rules.proofs.ListLemmas.{all_weaker}
 use Rattle.run_base_laws.proofs.OwnLemmas.{all_found}
 use Rattle.tree_laws.proofs.PrefixLemmas.{so_far}
-use Rattle.tree_site_laws.proofs.TimeLemmas.{born_end, part_lawful}
+use Rattle.tree_laws.proofs.TimeLemmas.{born_end, part_lawful}
 use Rattle.commit_laws.specs.StillLaws.{DroppedNone}
 use Rattle.run_claims.specs.Undisturbed.{Commit, Undisturbed, IsComplete, UndisturbedCommitsAreComplete, SealIsEnded, branches_in, stand_at}
 use Rattle.commit_laws.proofs.StillLemmas.{stays_up}
-use Rattle.commit_stay_laws.proofs.StayLemmas.{undisturbed_commits_drop_none, undisturbed_commits_abort_none}
+use Rattle.commit_spread_laws.proofs.StayLemmas.{undisturbed_commits_drop_none, undisturbed_commits_abort_none}
 use Rattle.commit_point_laws.proofs.BookEndLemmas.{undisturbed_seals_are_decided}
 use Rattle.commit_point_laws.proofs.ReadyEndLemmas.{undisturbed_leave_ready}
 use Rattle.commit_spread_laws.specs.SealLaws.{SealsAreDecided, is_seal_on}
@@ -96,11 +96,11 @@ each_began (x ∷ bs) once = (
         by false low = low
 
 -- a gone branch has no row
-gone_row : (k : NodeState) (b : BranchId) → stand_of k b ≡ Is_gone → standing_at k b ≡ None
-unfolding stand_of
-gone_row k b is = by (branch_at k b) (standing_at k b) is
+gone_row : (k : NodeState) (b : BranchId) → status_of k b ≡ Is_gone → kept_row_at k b ≡ None
+unfolding status_of
+gone_row k b is = by (branch_at k b) (kept_row_at k b) is
   where
-    by : (o : _) (s : Option Standing) → live_or o s ≡ Is_gone → s ≡ None
+    by : (o : _) (s : Option KeptRow) → live_or o s ≡ Is_gone → s ≡ None
     by (Some x) s at = absurd cc
     by None None at = refl
     by None (Some s) at = absurd cc
@@ -148,16 +148,16 @@ module _ (t : History) (whole : IsLawfulRun t) (c : Commit t.places t.commands t
           let root : l.root ≡ c.root = sym its.is_root ∙ (ap (λ (x : Born). x.root) same_born ∙ of) in
           absurd (undisturbed_branches_leave t whole c u dropped (undisturbed_leave_ready t whole c u dropped) b.me.node k up l mine root)
 
-  stand_gone : (b : Born) → Began bs b → b.root ≡ c.root → (k : NodeState) → node_at (facts_at t) b.me.node ≡ Some k → stand_of k b.me ≡ Is_gone
+  stand_gone : (b : Born) → Began bs b → b.root ≡ c.root → (k : NodeState) → node_at (facts_at t) b.me.node ≡ Some k → status_of k b.me ≡ Is_gone
   stand_gone b began of k up = rows.gone b began of k up (none_live b began of k up)
 
   -- and its node is up
   gone : (b : Born) → Began bs b → b.root ≡ c.root → stand_at (facts_at t) b.me ≡ Some Is_gone
   gone b began of = by (node_at (facts_at t) b.me.node) refl (stays_up t whole c u b began of)
     where
-      by : (o : Option NodeState) → node_at (facts_at t) b.me.node ≡ o → option_map (λ (k : NodeState). k.stored.durable.boot) o ≡ Some b.me.boot → option_map (λ (k : NodeState). stand_of k b.me) (node_at (facts_at t) b.me.node) ≡ Some Is_gone
+      by : (o : Option NodeState) → node_at (facts_at t) b.me.node ≡ o → option_map (λ (k : NodeState). k.stored.durable.boot) o ≡ Some b.me.boot → option_map (λ (k : NodeState). status_of k b.me) (node_at (facts_at t) b.me.node) ≡ Some Is_gone
       by None up is = absurd cc
-      by (Some k) up is = ap (option_map (λ (k : NodeState). stand_of k b.me)) up ∙ ap Some (stand_gone b began of k up)
+      by (Some k) up is = ap (option_map (λ (k : NodeState). status_of k b.me)) up ∙ ap Some (stand_gone b began of k up)
 
   pub complete : IsComplete t.places t.commands t.trace c
   complete = record {
@@ -166,14 +166,14 @@ module _ (t : History) (whole : IsLawfulRun t) (c : Commit t.places t.commands t
     gone = each_branch (λ b. stand_at (facts_at t) b ≡ Some Is_gone) c.root bs (all_weaker (λ x. born_at bs x.me ≡ Some x) _ (λ x began of. gone x began of) bs (each_began bs (no_id_begins_twice t whole)));
   }
     where
-      root_row : (k : NodeState) → node_at (facts_at t) c.root.node ≡ Some k → standing_at k c.root ≡ None
+      root_row : (k : NodeState) → node_at (facts_at t) c.root.node ≡ Some k → kept_row_at k c.root ≡ None
       root_row k up =
           let top : Born = (call.placed t whole c).born in
           let me : top.me ≡ c.root = call.top_me t whole c in
           let began : Began bs top = born_end t whole c.before (call.part0 t whole c) top (call.placed t whole c).began in
           let stands : StandsBelow (Began bs) top None = subst (StandsBelow (Began bs) top) (call.top_parent t whole c) (all_found (λ z. StandsBelow (Began bs) z z.parent) born_id bs top.me top (births_are_trees t whole) began) in
-          let is_gone : stand_of k top.me ≡ Is_gone = stand_gone top began (stands.0 ∙ me) k (subst (λ b. node_at (facts_at t) b.node ≡ Some k) (sym me) up) in
-          gone_row k c.root (subst (λ b. stand_of k b ≡ Is_gone) me is_gone)
+          let is_gone : status_of k top.me ≡ Is_gone = stand_gone top began (stands.0 ∙ me) k (subst (λ b. node_at (facts_at t) b.node ≡ Some k) (sym me) up) in
+          gone_row k c.root (subst (λ b. status_of k b ≡ Is_gone) me is_gone)
 
 pub every_undisturbed_commit_is_complete : UndisturbedCommitsAreComplete
 every_undisturbed_commit_is_complete t whole c u = complete t whole c u

@@ -4,7 +4,7 @@ use Rattle.std.proofs.Common.{◌≡◌, ℕ, ◌==◌, ◌&&◌, not, Bool, tru
 use Rattle.std.proofs.lemmas.Bool.{cond_both}
 use Rattle.node_rules.specs.Data.{Input, Place}
 use Rattle.node_rules.specs.Data.inputs
-use Rattle.node_rules.specs.NodeState.{NodeState, Outcome}
+use Rattle.node_rules.specs.NodeState.{NodeState, TurnOutput}
 use Rattle.node_rules.specs.Turn.{turn_of}
 use Rattle.net_bag.specs.Net.{may_deliver, may_repeat, packet_at, first_flying}
 use Rattle.run_rules.specs.Calls.{call_at}
@@ -15,10 +15,10 @@ use Rattle.run_rules.specs.Data.commands
 use Rattle.run_rules.specs.Data.happenings
 use Rattle.run_rules.specs.Disks.{Strike, struck}
 use Rattle.run_rules.specs.Due.{Due, Tells, Falls, Pends, Gives_up, Delivers, Recovers, Cuts, Joins, Loses, Stops, Starts, Begins, Ends, if_due, call_due, act_of, next_give_up, next_delivery, most_of, next_pumped, flows, acts_first, acts_once, follows_first, falls_first, first_losses, due_of, turn_by, turn_comes, turn_at, start_by, delivery_at, happens, comes_next}
-use Rattle.run_rules.specs.Facts.{Facts, command_at, is_up, node_at, place_at}
+use Rattle.run_rules.specs.Facts.{command_at, is_up, node_at, place_at}
 use Rattle.run_rules.specs.Lines.{spent}
 use Rattle.run_rules.specs.Past.{is_call}
-use Rattle.run_rules.specs.RunReport.{Call, Past, RunReport, orders_at}
+use Rattle.run_rules.specs.RunReport.{Call, Past, orders_at}
 
 -- ---- a turn that is due
 
@@ -27,12 +27,12 @@ module _ (P : Happening → Type 0) (places : List Place) (p : Past) where
       → turn_at places p.run_report node input took o ≡ Some h → P h
   turn_is node input took None h each is = absurd cc
   turn_is node input took (Some k) h each is =
-      let o : Outcome = turn_of (place_at places node) k input in
+      let o : TurnOutput = turn_of (place_at places node) k input in
       let it : Some (turn_comes p.run_report node input took k o) ≡ Some h = is in
       let same : turn_comes p.run_report node input took k o ≡ h = cc in
       subst P same (by o (cut_by p.run_report node k input o))
     where
-      by : (o : Outcome) (c : Cut_by) → P (turn_by node input took o c)
+      by : (o : TurnOutput) (c : Cut_by) → P (turn_by node input took o c)
       by o By_nothing = each _ refl refl
       by o (By_strike stands) = each _ refl refl
       by o (By_point root numbers stands) = each _ refl refl
@@ -50,11 +50,7 @@ IsNoBegin (happenings.Begun c) = ⊥
 IsNoBegin _ = Unit {0}
 
 module _ (places : List Place) (asked : List Command) (p : Past) where
-  abbrev f : Facts
-  f = p.facts
-
-  abbrev t : RunReport
-  t = p.run_report
+  open p use {facts as f, run_report as t}
 
   start_is : (n : ℕ) (o : Option Strike) → IsNoBegin (start_by f n o)
   start_is n None = tt

@@ -24,7 +24,7 @@ use Rattle.run_base_laws.proofs.EventsStandLemmas.{run_stands, node_so}
 use Rattle.run_base_laws.proofs.LawfulLemmas.{serves, of_wrote}
 use Rattle.run_base_laws.proofs.TurnEventLemmas.{cases_nat}
 use Rattle.tree_laws.proofs.PrefixLemmas.{so_far, f_at, one_on}
-use Rattle.tree_site_laws.proofs.TimeLemmas.{Part, part_of, part_on, part_lawful, may_of}
+use Rattle.tree_laws.proofs.TimeLemmas.{Part, part_of, part_on, part_lawful, may_of}
 use Rattle.run_claims.specs.Undisturbed.{branches_in, is_lost, LostNone, HasNotStopped, is_disturbed, disturbs, IsCalm}
 use Rattle.commit_course_laws.proofs.FlowLemmas.{IsWholeTurn}
 

@@ -6,14 +6,14 @@ use Rattle.std.specs.List.{AllByRecursion}
 use Rattle.node_rules.specs.Data.{Place, Stmt}
 use Rattle.node_rules.specs.Data.inputs
 use Rattle.node_rules.specs.declared.session.Finished.{Finished}
-use Rattle.node_rules.specs.NodeState.{NodeState, Outcome}
+use Rattle.node_rules.specs.NodeState.{NodeState, TurnOutput}
 use Rattle.net_bag.specs.Net.{first_flying, packet_at}
 use Rattle.run_rules.specs.Calls.{is_call_at, call_at, without_call, ends_or_follows, finished_call, finished}
 use Rattle.run_rules.specs.Cuts.{turn_appends}
 use Rattle.run_rules.specs.Data.{Command, Happening, Turn}
 use Rattle.run_rules.specs.Data.happenings
 use Rattle.run_rules.specs.Due.{Tells, Delivers, Begins, Ends, next_command, next_give_up, next_delivery, due_of, happens, comes_next, IsTheRun}
-use Rattle.run_rules.specs.Facts.{Facts, node_at, outcome_at}
+use Rattle.run_rules.specs.Facts.{node_at, outcome_at}
 use Rattle.run_rules.specs.Reported.{IsBetween}
 use Rattle.run_rules.specs.Lines.{says_node, spent}
 use Rattle.run_rules.specs.Past.{delivered_more, is_call, without_following, ends_calls, report_turned, next, past}
@@ -60,7 +60,7 @@ module _ (node session : ℕ) where
     one_finished m t [] one = one
     one_finished m t (f ∷ fs) one = one_finished m (finished_call running t f (call_at t m f.session)) fs (one_ends m t f one)
 
-    one_after : (t : RunReport) (u : Turn) (cut : Bool) (o : Option Outcome) → HasOne t → HasOne (ends_calls running t u cut o)
+    one_after : (t : RunReport) (u : Turn) (cut : Bool) (o : Option TurnOutput) → HasOne t → HasOne (ends_calls running t u cut o)
     one_after t u true o one = one
     one_after t u false None one = one
     one_after t u false (Some o) one =
@@ -69,10 +69,10 @@ module _ (node session : ℕ) where
         let same = input_same v running u.node u.input in
         record { calls = subst (AllByRecursion IsItsCall) (sym same.0) ended.calls; alone = same.1 ∙ ended.alone }
 
-    pub one_before : (k : Option NodeState) (t : RunReport) (u : Turn) (o : Option Outcome) → HasOne t → HasOne (without_following (delivered_more (turn_appends t u.node u.input k o) u.took) u.input)
+    pub one_before : (k : Option NodeState) (t : RunReport) (u : Turn) (o : Option TurnOutput) → HasOne t → HasOne (without_following (delivered_more (turn_appends t u.node u.input k o) u.took) u.input)
     one_before k t u o one = let before = turn_before t u.node u.input k o u.took in record { calls = subst (AllByRecursion IsItsCall) (sym before.calls) one.calls; alone = before.next_call one.alone }
 
-    pub one_turn : (k : Option NodeState) (t : RunReport) (u : Turn) (o : Option Outcome) → HasOne t → HasOne (report_turned running k t u o)
+    pub one_turn : (k : Option NodeState) (t : RunReport) (u : Turn) (o : Option TurnOutput) → HasOne t → HasOne (report_turned running k t u o)
     one_turn k t u o one =
         let after = one_after (without_following (delivered_more (turn_appends t u.node u.input k o) u.took) u.input) u u.cut o (one_before k t u o one) in record { calls = after.calls; alone = after.alone }
 
@@ -95,7 +95,7 @@ module _ (node session : ℕ) where
     pub flows_turn : (p : Past) (u : Turn) → p.run_report.hold ≡ false → p.run_report.start_to_stop ≡ None → HasOne p.run_report → u.cut ≡ false → Flows (next places asked p (happenings.Turn u))
     unfolding next
     flows_turn p u off stands one whole =
-        let o : Option Outcome = outcome_at places p.facts u in
+        let o : Option TurnOutput = outcome_at places p.facts u in
         let way = turn_way p.facts.command (node_at p.facts u.node) p.run_report u o in record {
           acted = way.acted;
           off = way.hold ∙ off;
@@ -105,11 +105,7 @@ module _ (node session : ℕ) where
         }
 
     module _ (p : Past) where
-      abbrev f : Facts
-      f = p.facts
-
-      abbrev t : RunReport
-      t = p.run_report
+      open p use {facts as f, run_report as t}
 
       -- where nothing is to be delivered
       module _ (why : (first_flying f.net ≡ None) ⊎ (spent t.deliveries ≡ true)) where

@@ -22,7 +22,7 @@ use Rattle.run_rules.proofs.FactLemmas.{facts_are}
 use Rattle.run_rules.proofs.ListLemmas.{all_weaker}
 use Rattle.run_ready_laws.proofs.RunLawfulLemmas.{the_run_is_lawful}
 use Rattle.tree_laws.proofs.PrefixLemmas.{so_far, births_join, facts_join}
-use Rattle.tree_site_laws.proofs.TimeLemmas.{part_lawful}
+use Rattle.tree_laws.proofs.TimeLemmas.{part_lawful}
 use Rattle.run_claims.specs.Undisturbed.{Commit, Undisturbed, IsComplete, UndisturbedCommitsAreComplete, IsDelivery, LostNone, HasNotStopped, IsCalm, facts_by, branches_in, branches_by}
 use Rattle.commit_length_laws.specs.FewLaws.{DeliveriesStayBelow}
 use Rattle.run_claims.specs.CommitCourse.{GoesWell, QuietCommit, IsDone, QuietCommitsAreComplete}

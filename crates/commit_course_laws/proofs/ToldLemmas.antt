@@ -8,7 +8,7 @@ use Rattle.node_rules.specs.Data.{Answer, Stmt}
 use Rattle.node_rules.specs.Data.stmts
 use Rattle.node_rules.specs.Sessions.{commit_complete}
 use Rattle.node_rules.specs.declared.session.Finished.{Finished}
-use Rattle.node_rules.specs.NodeState.{Outcome}
+use Rattle.node_rules.specs.NodeState.{TurnOutput}
 use Rattle.run_rules.specs.Calls.{is_call_at, call_at, finished_call, finished}
 use Rattle.run_rules.specs.Cuts.{turn_appends}
 use Rattle.run_rules.specs.Data.{Happening, Turn}
@@ -89,21 +89,21 @@ module _ (node session : ℕ) where
   -- ---- what a turn answers
 
   -- The call is not answered, or it is, by what the turn comes to.
-  data Says (f : Facts) (u : Turn) (o : Option Outcome) (answers : List Answer) : Type 0 where
+  data Says (f : Facts) (u : Turn) (o : Option TurnOutput) (answers : List Answer) : Type 0 where
     Nothing_said : answers ≡ [] → ((running : ℕ) (t : RunReport) → HasOne node session t → (ends_calls running t u false o).calls ≡ t.calls) → Says f u o answers
-    Answers_it : (x : Outcome) (a : Answer) (others : List Answer) → o ≡ Some x → u.node ≡ node → map (λ (y : Finished). y.answer) (filter (λ (y : Finished). y.session == session) x.ended) ≡ a ∷ others → answers ≡ a ∷ others → Says f u o answers
+    Answers_it : (x : TurnOutput) (a : Answer) (others : List Answer) → o ≡ Some x → u.node ≡ node → map (λ (y : Finished). y.answer) (filter (λ (y : Finished). y.session == session) x.ended) ≡ a ∷ others → answers ≡ a ∷ others → Says f u o answers
 
-  ends_left : (running : ℕ) (t : RunReport) (u : Turn) (o : Outcome) → HasOne node session t → IsOfOthers running u.node o.ended → (ends_calls running t u false (Some o)).calls ≡ t.calls
+  ends_left : (running : ℕ) (t : RunReport) (u : Turn) (o : TurnOutput) → HasOne node session t → IsOfOthers running u.node o.ended → (ends_calls running t u false (Some o)).calls ≡ t.calls
   ends_left running t u o one others = (input_same (finished running t u.node o.ended) running u.node u.input).0 ∙ left_calls running u.node t o.ended one others
 
   -- what it is answered
-  abbrev answers_of : Option Outcome → List Answer
+  abbrev answers_of : Option TurnOutput → List Answer
   answers_of o = map (λ (x : Finished). x.answer) (filter (λ (x : Finished). x.session == session) (ended_by o))
 
-  says_so : (f : Facts) (u : Turn) (o : Option Outcome) → Says f u o (if u.node == node then answers_of o else [])
+  says_so : (f : Facts) (u : Turn) (o : Option TurnOutput) → Says f u o (if u.node == node then answers_of o else [])
   says_so f u o = by (u.node == node) refl o
     where
-      by : (here : Bool) → (u.node == node) ≡ here → (x : Option Outcome) → Says f u x (if here then answers_of x else [])
+      by : (here : Bool) → (u.node == node) ≡ here → (x : Option TurnOutput) → Says f u x (if here then answers_of x else [])
       by false other None = Nothing_said refl (λ running t one. refl)
       by false other (Some x) = Nothing_said refl (λ running t one. ends_left running t u x one (elsewhere_others running u.node other x.ended))
       by true here None = Nothing_said refl (λ running t one. refl)
@@ -136,7 +136,7 @@ module _ (t : History) (run : IsTheRunOf t) (command node session : ℕ) (text :
     abbrev onward : Past
     onward = next t.places t.commands q (happenings.Turn u)
 
-    abbrev o : Option Outcome
+    abbrev o : Option TurnOutput
     o = outcome_at t.places q.facts u
 
     q_is : past_upto t i ≡ q
@@ -148,7 +148,7 @@ module _ (t : History) (run : IsTheRunOf t) (command node session : ℕ) (text :
     last : x.follows ≡ None
     last = (found_so (IsItsCall node session) (is_call_at node session) q.run_report.calls x now.one.calls now.at).0.1
 
-    tells_now : (y : Outcome) → o ≡ Some y → u.node ≡ node → (map (λ (z : Finished). z.answer) (filter (λ (z : Finished). z.session == session) y.ended) ≡ commit_complete ∷ []) → IsReported
+    tells_now : (y : TurnOutput) → o ≡ Some y → u.node ≡ node → (map (λ (z : Finished). z.answer) (filter (λ (z : Finished). z.session == session) y.ended) ≡ commit_complete ∷ []) → IsReported
     tells_now y comes at_node says =
         let moment : outcome_at t.places (past_upto t i).facts u ≡ Some y = ap (λ (r : Past). outcome_at t.places r.facts u) q_is ∙ comes in
         let pending : call_at (past_upto t i).run_report u.node session ≡ Some x = subst (λ n. call_at (past_upto t i).run_report n session ≡ Some x) (sym at_node) (ap (λ (r : Past). call_at r.run_report node session) q_is ∙ now.at) in

@@ -7,7 +7,7 @@ use Rattle.node_rules.specs.Data.{BranchId, Input, Place, Stmt}
 use Rattle.node_rules.specs.Data.inputs
 use Rattle.node_rules.specs.Data.stmts
 use Rattle.node_rules.specs.declared.session.Finished.{Finished}
-use Rattle.node_rules.specs.NodeState.{NodeState, Outcome}
+use Rattle.node_rules.specs.NodeState.{NodeState, TurnOutput}
 use Rattle.node_rules.specs.Points.{Point}
 use Rattle.node_rules.specs.Sessions.{session_at}
 use Rattle.run_rules.specs.Calls.{is_call_at, call_at, without_call, change_call, is_complete, second_of, call_follows, call_ends, ends_or_follows, finished_call, finished, stopped_calls, waits, waits_if_pending, after_input}
@@ -118,7 +118,7 @@ module _ (t : RunReport) where
   arms_same n k (inputs.Call session (Some (stmts.Commit (Some comment)))) = cond_both (is_none (session_at k.sessions session).code) _ t (SameCalls t) (λ none. point_same _ _ _) (λ some. same_calls t)
   arms_same n k _ = same_calls t
 
-turn_same : (t : RunReport) (n : ℕ) (input : Input) (k : Option NodeState) (o : Option Outcome) → SameCalls t (turn_appends t n input k o)
+turn_same : (t : RunReport) (n : ℕ) (input : Input) (k : Option NodeState) (o : Option TurnOutput) → SameCalls t (turn_appends t n input k o)
 turn_same t n input (Some k) (Some o) =
     let u : RunReport = cut_appends t n (is_some o.wrote) (cut_by t n k input o) in calls_then t u (arms u n k input) (cut_same t n (is_some o.wrote) (cut_by t n k input o)) (arms_same u n k input)
 turn_same t n input None o = same_calls t
@@ -140,12 +140,12 @@ without_before : (t v : RunReport) (took : Option Took) (input : Input) → Befo
 without_before t v took input so =
     cond_both (is_call input) (record v { next_call = None }) v (λ u. Before t u took) (λ call. record { hold = so.hold; deliveries = so.deliveries; start = so.start; calls = so.calls; next_call = λ alone. refl }) (λ other. so)
 
-pub turn_before : (t : RunReport) (n : ℕ) (input : Input) (k : Option NodeState) (o : Option Outcome) (took : Option Took) → Before t (without_following (delivered_more (turn_appends t n input k o) took) input) took
+pub turn_before : (t : RunReport) (n : ℕ) (input : Input) (k : Option NodeState) (o : Option TurnOutput) (took : Option Took) → Before t (without_following (delivered_more (turn_appends t n input k o) took) input) took
 turn_before t n input k o took = without_before t (delivered_more (turn_appends t n input k o) took) took input (took_before t (turn_appends t n input k o) took (turn_same t n input k o))
 
 -- ---- a whole turn
 
-ends_calls_way : (running : ℕ) (t : RunReport) (u : Turn) (cut : Bool) (o : Option Outcome) → SameWay t (ends_calls running t u cut o)
+ends_calls_way : (running : ℕ) (t : RunReport) (u : Turn) (cut : Bool) (o : Option TurnOutput) → SameWay t (ends_calls running t u cut o)
 ends_calls_way running t u true o = same_way t
 ends_calls_way running t u false None = same_way t
 ends_calls_way running t u false (Some o) = let v : RunReport = finished running t u.node o.ended in way_then t v (after_input running v u.node u.input) (finished_way running u.node t o.ended) (input_way running v u.node u.input)
@@ -157,7 +157,7 @@ pub record Turned (t u : RunReport) (took : Option Took) : Type 0 where
   pub deliveries : u.deliveries ≡ (delivered_more t took).deliveries
   pub start : u.start_to_stop ≡ t.start_to_stop
 
-pub turn_way : (running : ℕ) (k : Option NodeState) (t : RunReport) (u : Turn) (o : Option Outcome) → Turned t (report_turned running k t u o) u.took
+pub turn_way : (running : ℕ) (k : Option NodeState) (t : RunReport) (u : Turn) (o : Option TurnOutput) → Turned t (report_turned running k t u o) u.took
 turn_way running k t u o =
     let v : RunReport = without_following (delivered_more (turn_appends t u.node u.input k o) u.took) u.input in
     let before : Before t v u.took = turn_before t u.node u.input k o u.took in
@@ -199,13 +199,13 @@ module _ (P : Call → Type 0) (second : (c : Call) (s : Stmt) → P c → P (se
       cond_both (c.node == n) (stopped_calls places running u n cs) (stopped_calls places running t n cs) AllSo
       (λ here. stopped_so places n u cs (gone_so t c.node c.session c.command (is_down places n) all)) (λ other. stopped_so places n t cs all)
 
-  pub ends_calls_so : (t : RunReport) (u : Turn) (cut : Bool) (o : Option Outcome) → AllSo t → AllSo (ends_calls running t u cut o)
+  pub ends_calls_so : (t : RunReport) (u : Turn) (cut : Bool) (o : Option TurnOutput) → AllSo t → AllSo (ends_calls running t u cut o)
   ends_calls_so t u true o all = all
   ends_calls_so t u false None all = all
   ends_calls_so t u false (Some o) all =
       let v : RunReport = finished running t u.node o.ended in subst (AllByRecursion P) (sym (input_same v running u.node u.input).0) (finished_so u.node t o.ended all)
 
-  pub turn_so : (k : Option NodeState) (t : RunReport) (u : Turn) (o : Option Outcome) → AllSo t → AllSo (report_turned running k t u o)
+  pub turn_so : (k : Option NodeState) (t : RunReport) (u : Turn) (o : Option TurnOutput) → AllSo t → AllSo (report_turned running k t u o)
   turn_so k t u o all =
       let v : RunReport = without_following (delivered_more (turn_appends t u.node u.input k o) u.took) u.input in
       ends_calls_so v u u.cut o (subst (AllByRecursion P) (sym (turn_before t u.node u.input k o u.took).calls) all)

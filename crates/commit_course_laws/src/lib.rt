@@ -1,6 +1,6 @@
 //! An undisturbed COMMIT is complete, and in the run of a script it is complete in its own command.
 //!
-//! The laws of the crates below put together: no branch below the root is dropped, and none says Abort (commit_stay_laws); the
+//! The laws of the crates below put together: no branch below the root is dropped, and none says Abort (commit_spread_laws); the
 //! walk of CommitPoint ends where the site decides, or nobody had changes (commit_point_laws); its commit reaches each sealed
 //! branch (commit_spread_laws), and all acknowledge and forget (commit_forget_laws); each branch of the transaction was asked
 //! and has left, and the COMMIT is answered (commit_leave_laws). `run_claims` says what an undisturbed COMMIT is, and a

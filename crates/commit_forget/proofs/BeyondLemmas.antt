@@ -5,7 +5,7 @@ use Rattle.std.proofs.lemmas.List.Folds.{list_any-append}
 use Rattle.tran_ids.specs.declared.branch.BranchId.{BranchId}
 use Rattle.tran_ids.specs.Branch.{same}
 use Rattle.redo_record.specs.declared.durable.Kid.{Kid}
-use Rattle.redo_record.specs.declared.durable.Standing.{Standing}
+use Rattle.redo_record.specs.declared.durable.KeptRow.{KeptRow}
 use Rattle.session_tree.specs.Live.{is_branch}
 use Rattle.commit_forget.specs.declared.next.Beyond.{Beyond}
 use Rattle.commit_forget.specs.Beyond.{parent_beyond, kid_beyond, beyond, all_acked, is_beyond, needs_no_ack, is_this_kid}
@@ -16,12 +16,12 @@ module _ (p : Beyond → Bool) where
   all_append (x ∷ xs) ys = grind (arith, all_append xs ys)
 
 -- everybody beyond has acknowledged where the parent has and the children have
-pub all_is : (s : Standing) → (list_all (λ b. b.acked) (parent_beyond s s.parent) && list_all (λ b. b.acked) (map kid_beyond (filter (λ c. not (is_branch c.branch s.toward)) s.children))) ≡ all_acked s
+pub all_is : (s : KeptRow) → (list_all (λ b. b.acked) (parent_beyond s s.parent) && list_all (λ b. b.acked) (map kid_beyond (filter (λ c. not (is_branch c.branch s.toward)) s.children))) ≡ all_acked s
 unfolding beyond
 all_is s = sym (all_append (λ b. b.acked) (parent_beyond s s.parent) (map kid_beyond (filter (λ c. not (is_branch c.branch s.toward)) s.children)))
 
 -- a branch is beyond where it is the parent or one of the children
-pub any_is : (s : Standing) (from : BranchId) → (list_any (λ b. same b.branch from) (parent_beyond s s.parent) || list_any (λ b. same b.branch from) (map kid_beyond (filter (λ c. not (is_branch c.branch s.toward)) s.children))) ≡ is_beyond s from
+pub any_is : (s : KeptRow) (from : BranchId) → (list_any (λ b. same b.branch from) (parent_beyond s s.parent) || list_any (λ b. same b.branch from) (map kid_beyond (filter (λ c. not (is_branch c.branch s.toward)) s.children))) ≡ is_beyond s from
 unfolding beyond
 any_is s from = sym (list_any-append (λ b. same b.branch from) (parent_beyond s s.parent) (map kid_beyond (filter (λ c. not (is_branch c.branch s.toward)) s.children)))
 
@@ -45,7 +45,7 @@ module _ (toward : Option BranchId) where
   any_kids from [] = refl
   any_kids from (c ∷ cs) = ap (λ more. (not (is_branch c.branch toward) && same c.branch from) || more) (any_kids from cs) ∙ any_if from (not (is_branch c.branch toward)) c _ _ refl
 
-module _ (s : Standing) where
+module _ (s : KeptRow) where
   -- where the parent has acknowledged, the children decide
   pub acked_by_kids : list_all (λ b. b.acked) (parent_beyond s s.parent) ≡ true → list_all (needs_no_ack s.toward) s.children ≡ all_acked s
   acked_by_kids parent =

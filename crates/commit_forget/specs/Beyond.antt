@@ -5,12 +5,12 @@ use Rattle.std.specs.List.{list_all, list_any}
 use Rattle.tran_ids.specs.declared.branch.BranchId.{BranchId}
 use Rattle.tran_ids.specs.Branch.{same}
 use Rattle.redo_record.specs.declared.durable.Kid.{Kid}
-use Rattle.redo_record.specs.declared.durable.Standing.{Standing}
+use Rattle.redo_record.specs.declared.durable.KeptRow.{KeptRow}
 use Rattle.session_tree.specs.Live.{is_branch}
 use Rattle.commit_forget.specs.declared.next.Beyond.{Beyond}
 
 -- the parent, unless it is toward
-abbrev pub parent_beyond : Standing → Option BranchId → List Beyond
+abbrev pub parent_beyond : KeptRow → Option BranchId → List Beyond
 parent_beyond s None = []
 parent_beyond s (Some b) = if is_branch b s.toward then [] else (record { branch = b; acked = s.parent_acked; is_parent = true }) ∷ []
 
@@ -19,15 +19,15 @@ abbrev pub kid_beyond : Kid → Beyond
 kid_beyond c = record { branch = c.branch; acked = c.acked; is_parent = false }
 
 -- the neighbours away from the site: the parent, then the children in order of reference
-unfoldable pub beyond : Standing → List Beyond
+unfoldable pub beyond : KeptRow → List Beyond
 beyond s = parent_beyond s s.parent ++ map kid_beyond (filter (λ c. not (is_branch c.branch s.toward)) s.children)
 
 -- whether everybody beyond has acknowledged
-abbrev pub all_acked : Standing → Bool
+abbrev pub all_acked : KeptRow → Bool
 all_acked s = list_all (λ b. b.acked) (beyond s)
 
 -- whether this branch is beyond
-abbrev pub is_beyond : Standing → BranchId → Bool
+abbrev pub is_beyond : KeptRow → BranchId → Bool
 is_beyond s from = list_any (λ b. same b.branch from) (beyond s)
 
 -- whether a child has acknowledged, or is toward and need not
@@ -39,5 +39,5 @@ abbrev pub is_this_kid : Option BranchId → BranchId → Kid → Bool
 is_this_kid toward from c = not (is_branch c.branch toward) && same c.branch from
 
 -- whether this branch is the parent or a child
-abbrev pub is_neighbor : Standing → BranchId → Bool
+abbrev pub is_neighbor : KeptRow → BranchId → Bool
 is_neighbor s from = is_branch from s.parent || list_any (λ c. same c.branch from) s.children

@@ -8,7 +8,7 @@ use Rattle.redo_record.specs.declared.decision.Decision.TheVariants as decisions
 use Rattle.redo_record.specs.declared.durable.State.{State}
 use Rattle.redo_record.specs.declared.durable.State.TheVariants as states
 use Rattle.redo_record.specs.declared.durable.Kid.{Kid}
-use Rattle.redo_record.specs.declared.durable.Standing.{Standing}
+use Rattle.redo_record.specs.declared.durable.KeptRow.{KeptRow}
 use Rattle.session_tree.specs.declared.live.Live.{Live}
 use Rattle.session_tree.specs.declared.live.Phase.{Phase}
 use Rattle.session_tree.specs.declared.live.Phase.TheVariants as phases
@@ -55,17 +55,17 @@ first_decision (states.ForcedCommit n) d = nexts.Meet d (is_mixed (states.Forced
 first_decision states.ForcedRollback d = nexts.Meet d (is_mixed states.ForcedRollback d)
 
 -- a decision that is known: Committed again is acknowledged, once all beyond have acknowledged
-abbrev pub known_decision : Standing → Decision → Decision → Next
+abbrev pub known_decision : KeptRow → Decision → Decision → Next
 known_decision s (decisions.Commit m) (decisions.Commit n) = if all_acked s then nexts.SayAck else nexts.Rest
 known_decision s _ _ = nexts.Rest
 
 -- by what the branch knows
-abbrev pub decision_at : Standing → Decision → Option Decision → Next
+abbrev pub decision_at : KeptRow → Decision → Option Decision → Next
 decision_at s d None = first_decision s.state d
 decision_at s d (Some known) = known_decision s known d
 
 -- what a kept branch does about a decision: only toward is heard
-unfoldable pub next_on_decision : Standing → BranchId → Decision → Next
+unfoldable pub next_on_decision : KeptRow → BranchId → Decision → Next
 next_on_decision s from d = if is_branch from s.toward then decision_at s d s.decision else nexts.Rest
 
 -- ---- acknowledgements
@@ -77,7 +77,7 @@ knows_commit (Some decisions.Rollback) = false
 knows_commit (Some (decisions.Commit n)) = true
 
 -- whether an Ack counts: at a branch that knows the commit, from one beyond
-abbrev pub ack_counts : Standing → BranchId → Bool
+abbrev pub ack_counts : KeptRow → BranchId → Bool
 ack_counts s from = knows_commit s.decision && is_beyond s from
 
 -- the child with its Ack counted
@@ -85,27 +85,27 @@ abbrev pub acks_kid : BranchId → Kid → Kid
 acks_kid from c = if same c.branch from then record c { acked = true } else c
 
 -- with this neighbour's acknowledgement
-abbrev pub acked_by : Standing → BranchId → Standing
+abbrev pub acked_by : KeptRow → BranchId → KeptRow
 acked_by s from = record s { parent_acked = s.parent_acked || is_branch from s.parent; children = map (acks_kid from) s.children }
 
 -- when all beyond have acknowledged the site forgets, and another branch acknowledges; one that forgot says so
-unfoldable pub next_on_ack : Standing → Next
+unfoldable pub next_on_ack : KeptRow → Next
 next_on_ack s = if s.forgot then nexts.SayForgotten else (if all_acked s then (if is_none s.toward then nexts.Forget else nexts.AckToward) else nexts.Rest)
 
 -- what a kept branch does about an Ack: one that does not count is ignored
-abbrev pub acked_next : Standing → BranchId → Next
+abbrev pub acked_next : KeptRow → BranchId → Next
 acked_next s from = if ack_counts s from then next_on_ack (acked_by s from) else nexts.Rest
 
 -- the row from then on: an Ack that counts is noted
-abbrev pub after_ack : Standing → BranchId → Standing
+abbrev pub after_ack : KeptRow → BranchId → KeptRow
 after_ack s from = if ack_counts s from then acked_by s from else s
 
 -- a branch that knows the commit forgets when toward has forgotten, once
-unfoldable pub next_on_forgotten : Standing → BranchId → Next
+unfoldable pub next_on_forgotten : KeptRow → BranchId → Next
 next_on_forgotten s from = if knows_commit s.decision && (is_branch from s.toward && not s.forgot) then nexts.Forget else nexts.Rest
 
 -- ---- a Prepare that comes again
 
 -- whether a Prepare comes again to a sealed branch from a parent that is toward
-abbrev pub is_asked_again : Standing → BranchId → Bool
+abbrev pub is_asked_again : KeptRow → BranchId → Bool
 is_asked_again s from = is_none s.decision && (is_branch from s.parent && is_branch from s.toward)

@@ -7,7 +7,7 @@ ghost use Rattle.commit_forget.specs.Beyond.{parent_beyond as parent_beyond_of, 
 
 use crate::{Beyond, Beyonds};
 use dtx_values::Listing;
-use redo_record::{Kid, Standing};
+use redo_record::{KeptRow, Kid};
 use std::alloc::{AllocError, Global};
 use tran_ids::BranchId;
 
@@ -24,7 +24,7 @@ pub(crate) fn is_branch(id: &BranchId, other: Option<BranchId>) -> bool
 /// The neighbours of a kept branch away from the commit point site: its parent, unless it is toward the site, then its
 /// children but for the one toward the site, in order of reference.
 #[tactic(auto, unfolding(crate::specs::Beyond::beyond))]
-pub fn beyond_of(alloc: Global, row: &Standing) -> Result<Beyonds, AllocError>
+pub fn beyond_of(alloc: Global, row: &KeptRow) -> Result<Beyonds, AllocError>
     ensures { IfOk result (λ found. found ≡ beyond row.now) }
 {
     let kids = row.children.as_slice();
@@ -41,28 +41,28 @@ pub fn beyond_of(alloc: Global, row: &Standing) -> Result<Beyonds, AllocError>
 }
 
 /// Whether everybody beyond has acknowledged the commit.
-pub fn all_acked(row: &Standing) -> bool
+pub fn all_acked(row: &KeptRow) -> bool
     ensures { result ≡ all_acked_of row.now }
 {
     parent_has_acked(row) && kids_have_acked(row)
 }
 
 /// Whether this branch is one of those beyond.
-pub fn is_beyond(row: &Standing, from: &BranchId) -> bool
+pub fn is_beyond(row: &KeptRow, from: &BranchId) -> bool
     ensures { result ≡ is_beyond_of row.now from.now }
 {
     is_parent_beyond(row, from) || is_kid_beyond(row, from)
 }
 
 /// Whether this branch is the parent or a child.
-pub fn is_neighbor(row: &Standing, from: &BranchId) -> bool
+pub fn is_neighbor(row: &KeptRow, from: &BranchId) -> bool
     ensures { result ≡ is_neighbor_of row.now from.now }
 {
     is_branch(from, row.parent) || is_child(row, from)
 }
 
 // The parent, unless it is toward the site.
-fn parent_beyond(row: &Standing) -> Option<Beyond>
+fn parent_beyond(row: &KeptRow) -> Option<Beyond>
     ensures { option_to_list result ≡ parent_beyond_of row.now row.now.parent }
 {
     let parent = row.parent?;
@@ -76,7 +76,7 @@ fn parent_beyond(row: &Standing) -> Option<Beyond>
     })
 }
 
-fn parent_has_acked(row: &Standing) -> bool
+fn parent_has_acked(row: &KeptRow) -> bool
     ensures { result ≡ list_all (λ b. b.acked) (parent_beyond_of row.now row.now.parent) }
 {
     match row.parent {
@@ -85,7 +85,7 @@ fn parent_has_acked(row: &Standing) -> bool
     }
 }
 
-fn is_parent_beyond(row: &Standing, from: &BranchId) -> bool
+fn is_parent_beyond(row: &KeptRow, from: &BranchId) -> bool
     ensures { result ≡ list_any (λ b. same b.branch from.now) (parent_beyond_of row.now row.now.parent) }
 {
     match row.parent {
@@ -118,7 +118,7 @@ fn needs_no_ack(kid: &Kid, toward: Option<BranchId>) -> bool
     !is_away(kid, toward) || kid.acked
 }
 
-fn kids_have_acked(row: &Standing) -> bool
+fn kids_have_acked(row: &KeptRow) -> bool
     ensures { result ≡ list_all (needs_no_ack_of row.now.toward) row.now.children }
 {
     row.children
@@ -134,7 +134,7 @@ fn is_this_kid(kid: &Kid, toward: Option<BranchId>, from: &BranchId) -> bool
     is_away(kid, toward) && kid.branch.is(from)
 }
 
-fn is_kid_beyond(row: &Standing, from: &BranchId) -> bool
+fn is_kid_beyond(row: &KeptRow, from: &BranchId) -> bool
     ensures { result ≡ list_any (is_this_kid_of row.now.toward from.now) row.now.children }
 {
     row.children
@@ -143,7 +143,7 @@ fn is_kid_beyond(row: &Standing, from: &BranchId) -> bool
         .any(|kid| is_this_kid(kid, row.toward, from))
 }
 
-fn is_child(row: &Standing, from: &BranchId) -> bool
+fn is_child(row: &KeptRow, from: &BranchId) -> bool
     ensures { result ≡ list_any (λ c. same c.branch from.now) row.now.children }
 {
     row.children

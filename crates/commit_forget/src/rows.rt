@@ -5,7 +5,7 @@ ghost use Rattle.commit_forget.specs.Next.{is_mixed as is_mixed_of, first_decisi
 use crate::Next;
 use crate::neighbors::{all_acked, is_beyond, is_branch};
 use dtx_values::Listing;
-use redo_record::{Decision, Kid, Standing, State};
+use redo_record::{Decision, KeptRow, Kid, State};
 use std::alloc::Global;
 use std::mem;
 use tran_ids::BranchId;
@@ -14,7 +14,7 @@ use tran_ids::BranchId;
 /// decision ends a sealed branch, and is noted by a forced one; Committed again is acknowledged once all beyond have
 /// acknowledged.
 #[tactic(auto, unfolding(crate::specs::Next::next_on_decision))]
-pub fn on_decision(row: &Standing, from: &BranchId, decision: Decision) -> Next
+pub fn on_decision(row: &KeptRow, from: &BranchId, decision: Decision) -> Next
     ensures { result ≡ next_on_decision row.now from.now decision }
 {
     if !is_branch(from, row.toward) {
@@ -29,7 +29,7 @@ pub fn on_decision(row: &Standing, from: &BranchId, decision: Decision) -> Next
 /// What a kept branch does about an Ack. It counts at a branch that knows the commit, from a neighbour beyond, and is
 /// noted in memory alone; any other changes nothing. When all beyond have acknowledged, the site forgets and another
 /// branch acknowledges toward the site; one that has forgotten says so. No memory is taken.
-pub fn on_ack(alloc: Global, row: &mut Standing, from: &BranchId) -> Next
+pub fn on_ack(alloc: Global, row: &mut KeptRow, from: &BranchId) -> Next
     ensures next { result ≡ acked_next row.old from.now }
     ensures after { row.new ≡ after_ack row.old from.now }
 {
@@ -43,7 +43,7 @@ pub fn on_ack(alloc: Global, row: &mut Standing, from: &BranchId) -> Next
 
 /// What a kept branch does about Forgotten: where it knows the commit and toward has forgotten, it forgets too, once.
 #[tactic(auto, unfolding(crate::specs::Next::next_on_forgotten))]
-pub fn on_forgotten(row: &Standing, from: &BranchId) -> Next
+pub fn on_forgotten(row: &KeptRow, from: &BranchId) -> Next
     ensures { result ≡ next_on_forgotten row.now from.now }
 {
     if knows_commit(row.decision) && is_branch(from, row.toward) && !row.forgot {
@@ -55,7 +55,7 @@ pub fn on_forgotten(row: &Standing, from: &BranchId) -> Next
 
 /// Whether a Prepare that comes again is answered Prepared again: at a sealed branch that knows no decision, where it is
 /// from the parent and the parent is toward.
-pub fn is_asked_again(row: &Standing, from: &BranchId) -> bool
+pub fn is_asked_again(row: &KeptRow, from: &BranchId) -> bool
     ensures { result ≡ is_asked_again_of row.now from.now }
 {
     row.decision.is_none() && is_branch(from, row.parent) && is_branch(from, row.toward)
@@ -85,7 +85,7 @@ fn first_decision(state: State, decision: Decision) -> Next
     }
 }
 
-fn known_decision(row: &Standing, known: Decision, decision: Decision) -> Next
+fn known_decision(row: &KeptRow, known: Decision, decision: Decision) -> Next
     ensures { result ≡ known_decision_of row.now known decision }
 {
     match (known, decision) {
@@ -101,7 +101,7 @@ pub fn knows_commit(decision: Option<Decision>) -> bool
     matches!(decision, Some(Decision::Commit(_)))
 }
 
-fn ack_counts(row: &Standing, from: &BranchId) -> bool
+fn ack_counts(row: &KeptRow, from: &BranchId) -> bool
     ensures { result ≡ ack_counts_of row.now from.now }
 {
     knows_commit(row.decision) && is_beyond(row, from)
@@ -124,7 +124,7 @@ fn ack_kids(kids: &mut Vec<Kid>, from: &BranchId)
 }
 
 // The neighbour has acknowledged.
-fn count_ack(alloc: Global, row: &mut Standing, from: &BranchId)
+fn count_ack(alloc: Global, row: &mut KeptRow, from: &BranchId)
     ensures { row.new ≡ acked_by row.old from.now }
 {
     let mut kids = mem::replace(&mut row.children, Listing::new(alloc)).into_vec();
@@ -135,7 +135,7 @@ fn count_ack(alloc: Global, row: &mut Standing, from: &BranchId)
 
 // What is done once an Ack is counted.
 #[tactic(auto, unfolding(crate::specs::Next::next_on_ack))]
-fn after_count(row: &Standing) -> Next
+fn after_count(row: &KeptRow) -> Next
     ensures { result ≡ next_on_ack row.now }
 {
     if row.forgot {

@@ -10,11 +10,11 @@ use Rattle.commit_forget.specs.Beyond.{beyond, all_acked}
 use Rattle.commit_forget.specs.Next.{knows_commit}
 use Rattle.agreement.specs.Events.{Forest, Event, Exit, Sealed, Decided, Dropped, Forget, Send_forgotten, Beyond, exit, learned, forced, Has, Knows, site_of}
 use Rattle.agreement.proofs.Invariant.{Inv}
-use Rattle.node_rules.specs.Data.{BranchId, Decision, Kind, Live, Msg, Post, Standing, State}
+use Rattle.node_rules.specs.Data.{BranchId, Decision, Kind, Live, Msg, Post, KeptRow, State}
 use Rattle.node_rules.specs.Data.decisions
 use Rattle.node_rules.specs.Data.states
 use Rattle.node_rules.specs.Words.{same}
-use Rattle.node_rules.specs.NodeState.{NodeState, standing_id, live_id, live_at, standing_at}
+use Rattle.node_rules.specs.NodeState.{NodeState, kept_row_id, live_id, live_at, kept_row_at}
 use Rattle.run_rules.specs.Births.{Born, births_of, born_at}
 use Rattle.run_base_laws.specs.BirthLaws.{Began, IsChild, KeptIs}
 use Rattle.run_rules.specs.Data.{Packet}
@@ -32,7 +32,7 @@ use Rattle.run_base_laws.proofs.OwnLemmas.{all_found}
 use Rattle.tree_laws.specs.Forests.{depth_at, deepest, comes_to, site_from, root_in, parent_in, forest_of}
 use Rattle.tree_laws.proofs.ForestLemmas as trees
 use Rattle.tree_laws.proofs.ForestRunLemmas.{run_known, runs_have_forests}
-use Rattle.tree_site_laws.proofs.TimeLemmas.{Part}
+use Rattle.tree_laws.proofs.TimeLemmas.{Part}
 use Rattle.commit_laws.specs.WaitLaws.{HasStopped}
 use Rattle.commit_laws.proofs.ListLemmas.{IsIn, all_in, in_all}
 use Rattle.commit_forget_laws.specs.RowLaws.{is_ack, is_forced, IsSealed, SaidAck, RowTells}
@@ -41,10 +41,11 @@ use Rattle.commit_forget_laws.specs.GoneLaws.{AllEnded}
 use Rattle.commit_forget_laws.proofs.CameHereLemmas.{knows_it}
 use Rattle.commit_forget_laws.proofs.AckHeardLemmas.{acks_are_noted}
 use Rattle.commit_forget_laws.proofs.EndedLemmas.{sealed_ended, ack_sent}
-use Rattle.commit_forget_laws.proofs.EventLemmas.{run_lawful, part_inv}
+use Rattle.tree_laws.proofs.MoreLemmas.{events_lawful, inv_at}
 use Rattle.commit_forget_laws.proofs.ForgetRunLemmas.{forgets_come_from_toward}
 use Rattle.commit_forget_laws.proofs.RowRunLemmas.{rows_tell}
-use Rattle.commit_forget_laws.proofs.WayLemmas.{WayIs, rows_way, child_beyond, parent_beyond}
+use Rattle.tree_laws.proofs.FitRowLemmas.{RowFits, rows_fit}
+use Rattle.commit_forget_laws.proofs.WayLemmas.{child_beyond, parent_beyond}
 use Rattle.commit_forget_laws.proofs.NearLemmas.{all_true, deep_low, far_low, IsOff, beyond_off, gone_so, none_live}
 
 module _ (t : History) (whole : IsLawfulRun t) (root : BranchId) (ended : AllEnded t root) where
@@ -67,7 +68,7 @@ module _ (t : History) (whole : IsLawfulRun t) (root : BranchId) (ended : AllEnd
   part = record { rest = []; is = append-nil t.trace }
 
   pub i : Inv p e
-  i = part_inv t whole t.trace part
+  i = inv_at t whole t.trace part
 
   pub known : trees.Known bs said
   known = run_known t whole
@@ -112,19 +113,19 @@ module _ (t : History) (whole : IsLawfulRun t) (root : BranchId) (ended : AllEnd
   root_of x of = trees.root_is bs said known of.0 x of.1 of.2 ∙ of.3
 
   pub learns : (x : BranchId) → Of x → (m : ℕ) → exit e x ≡ Some (Sealed m) → (n : ℕ) × (learned e x ≡ Some (decisions.Commit n)) × (forced e x ≡ None)
-  learns x of m sealed = sealed_ended t whole p root (run_lawful t whole) ended.ended x m sealed (root_of x of)
+  learns x of m sealed = sealed_ended t whole p root (events_lawful t whole) ended.ended x m sealed (root_of x of)
 
   -- ---- a row of the transaction
 
-  module _ (n : ℕ) (k : NodeState) (up : node_at f n ≡ Some k) (s : Standing) (at : standing_at k s.me ≡ Some s) (of_root : s.root ≡ root) where
+  module _ (n : ℕ) (k : NodeState) (up : node_at f n ≡ Some k) (s : KeptRow) (at : kept_row_at k s.me ≡ Some s) (of_root : s.root ≡ root) where
     abbrev x : BranchId
     x = s.me
 
-    abbrev ks : List Standing
+    abbrev ks : List KeptRow
     ks = k.stored.durable.kept
 
-    its : (P : Standing → Type 0) → AllByRecursion P ks → P s
-    its P all = all_found P standing_id ks x s all at
+    its : (P : KeptRow → Type 0) → AllByRecursion P ks → P s
+    its P all = all_found P kept_row_id ks x s all at
 
     born : KeptIs (Began bs) s
     born = its (KeptIs (Began bs)) (nodes_name_the_born t whole n k up).1
@@ -136,16 +137,16 @@ module _ (t : History) (whole : IsLawfulRun t) (root : BranchId) (ended : AllEnd
     row_is = its (RowIs e) (nodes_are_as_events t whole n k up).1
 
     here : x.node ≡ n
-    here = its (λ (y : Standing). y.me.node ≡ n) (ids_name_their_node t whole n k up).rows
+    here = its (λ (y : KeptRow). y.me.node ≡ n) (ids_name_their_node t whole n k up).rows
 
     up_here : node_at f x.node ≡ Some k
     up_here = subst (λ j. node_at f j ≡ Some k) (sym here) up
 
-    way : WayIs p x s.toward
-    way = its (λ (y : Standing). WayIs p y.me y.toward) (rows_way t whole t.trace part n k up)
+    way : RowFits p x s.toward
+    way = its (λ (y : KeptRow). RowFits p y.me y.toward) (rows_fit t whole t.trace part n k up)
 
     tells : RowTells said e s
-    tells = elim (its (λ (y : Standing). RowTells said e y ⊎ HasStopped f y.me) (rows_tell t whole n k up)) [ inl so ↦ so | inr stopped ↦ absurd (up_still x of_row stopped) ]
+    tells = elim (its (λ (y : KeptRow). RowTells said e y ⊎ HasStopped f y.me) (rows_tell t whole n k up)) [ inl so ↦ so | inr stopped ↦ absurd (up_still x of_row stopped) ]
 
     -- it is sealed, or it decided
     pub left : ((m : ℕ) × (exit e x ≡ Some (Sealed m))) ⊎ ((m : ℕ) × (exit e x ≡ Some (Decided m)))
@@ -233,7 +234,7 @@ module _ (t : History) (whole : IsLawfulRun t) (root : BranchId) (ended : AllEnd
           let noted : IsNoted f c x = subst (λ z. IsNoted f z x) it.1 (subst (λ z. IsNoted f it.0.from z) it.2 (it.3 (subst (λ z. Beyond p z it.0.to) (sym it.1) (subst (Beyond p c) (sym it.2) edge)) (subst (IsSealed e) (sym it.1) sealed_c))) in
           elim (noted k up_here) [
             | inl low ↦ absurd (up_still x of_row (λ j there. low))
-            | inr rows ↦ (let holds : x ≡ x → HoldsAck c s = its (λ (z : Standing). z.me ≡ x → HoldsAck c z) rows in in_all (λ (z : Neighbor). z.branch ≡ c → z.acked ≡ true) (beyond s) y (holds refl) among refl)
+            | inr rows ↦ (let holds : x ≡ x → HoldsAck c s = its (λ (z : KeptRow). z.me ≡ x → HoldsAck c z) rows in in_all (λ (z : Neighbor). z.branch ≡ c → z.acked ≡ true) (beyond s) y (holds refl) among refl)
           ]
 
       -- ---- what it sent, where it has no row
@@ -263,22 +264,22 @@ module _ (t : History) (whole : IsLawfulRun t) (root : BranchId) (ended : AllEnd
             | inr quiet ↦ (let sealed = sealed_c.1 in absurd (cc (quiet, sealed)))
           ]
 
-      none_sent : standing_at kc c ≡ None → was_sent is_ack said c x ≡ true
+      none_sent : kept_row_at kc c ≡ None → was_sent is_ack said c x ≡ true
       none_sent none = elim (gone_are_done t whole c kc up_c (gone_so kc c (none_live kc c not_live) none) sealed_c.0 sealed_c.1) [
         | inl rolled ↦ (let it = (learns c of_c sealed_c.0 sealed_c.1).1 in absurd (cc (it, rolled)))
         | inr forgot ↦ forgot_sent forgot
       ]
 
   -- its row, by its node
-  pub row_of : (n : ℕ) (k : NodeState) → node_at f n ≡ Some k → (x : BranchId) → Of x → (r : Standing) → standing_at k x ≡ Some r → (standing_at k r.me ≡ Some r) × (r.root ≡ root) × (r.me ≡ x)
+  pub row_of : (n : ℕ) (k : NodeState) → node_at f n ≡ Some k → (x : BranchId) → Of x → (r : KeptRow) → kept_row_at k x ≡ Some r → (kept_row_at k r.me ≡ Some r) × (r.root ≡ root) × (r.me ≡ x)
   row_of n k up x of r at =
-      let me : r.me ≡ x = item_is standing_id k.stored.durable.kept x r at in
-      let named : KeptIs (Began bs) r = all_found (KeptIs (Began bs)) standing_id k.stored.durable.kept x r (nodes_name_the_born t whole n k up).1 at in
+      let me : r.me ≡ x = item_is kept_row_id k.stored.durable.kept x r at in
+      let named : KeptIs (Began bs) r = all_found (KeptIs (Began bs)) kept_row_id k.stored.durable.kept x r (nodes_name_the_born t whole n k up).1 at in
       let it : named.born ≡ of.0 = trees.same_born bs said known named.born of.0 named.began of.1 (named.is_me ∙ (me ∙ sym of.2)) in
-      (subst (λ z. standing_at k z ≡ Some r) (sym me) at, sym named.is_root ∙ (ap (λ (z : Born). z.root) it ∙ of.3), me)
+      (subst (λ z. kept_row_at k z ≡ Some r) (sym me) at, sym named.is_root ∙ (ap (λ (z : Born). z.root) it ∙ of.3), me)
 
   -- a row that has heard all those beyond said Ack toward the site
-  pub said_ack : (n : ℕ) (k : NodeState) (up : node_at f n ≡ Some k) (s : Standing) (at : standing_at k s.me ≡ Some s) (of_root : s.root ≡ root) → all_acked s ≡ true → (s.me ≢ site_of p s.me) × (was_sent is_ack said s.me (p.toward s.me) ≡ true)
+  pub said_ack : (n : ℕ) (k : NodeState) (up : node_at f n ≡ Some k) (s : KeptRow) (at : kept_row_at k s.me ≡ Some s) (of_root : s.root ≡ root) → all_acked s ≡ true → (s.me ≢ site_of p s.me) × (was_sent is_ack said s.me (p.toward s.me) ≡ true)
   said_ack n k up s at of_root all =
       let told : SaidAck said s = (tells n k up s at of_root).acks (knows n k up s at of_root) (fresh n k up s at of_root) all in
       elim (way n k up s at of_root) [
@@ -296,15 +297,15 @@ module _ (t : History) (whole : IsLawfulRun t) (root : BranchId) (ended : AllEnd
 
   -- rows farther away than this have heard all
   abbrev FartherHave : ℕ → Type 0
-  FartherHave far = (n : ℕ) (k : NodeState) (up : node_at f n ≡ Some k) (s : Standing) → standing_at k s.me ≡ Some s → s.root ≡ root → far < p.far s.me → all_acked s ≡ true
+  FartherHave far = (n : ℕ) (k : NodeState) (up : node_at f n ≡ Some k) (s : KeptRow) → kept_row_at k s.me ≡ Some s → s.root ≡ root → far < p.far s.me → all_acked s ≡ true
 
-  one_acked : (n : ℕ) (k : NodeState) (up : node_at f n ≡ Some k) (s : Standing) (at : standing_at k s.me ≡ Some s) (of_root : s.root ≡ root) → FartherHave (p.far s.me) → all_acked s ≡ true
+  one_acked : (n : ℕ) (k : NodeState) (up : node_at f n ≡ Some k) (s : KeptRow) (at : kept_row_at k s.me ≡ Some s) (of_root : s.root ≡ root) → FartherHave (p.far s.me) → all_acked s ≡ true
   one_acked n k up s at of_root farther = all_true (beyond s) (all_in (λ (y : Neighbor). y.acked ≡ true) (beyond s) (λ y among. held n k up s at of_root y among (sent y among)))
     where
       sent : (y : Neighbor) → IsIn y (beyond s) → was_sent is_ack said y.branch s.me ≡ true
-      sent y among = by (standing_at (kc n k up s at of_root y among) y.branch) refl
+      sent y among = by (kept_row_at (kc n k up s at of_root y among) y.branch) refl
         where
-          by : (o : Option Standing) → standing_at (kc n k up s at of_root y among) y.branch ≡ o → was_sent is_ack said y.branch s.me ≡ true
+          by : (o : Option KeptRow) → kept_row_at (kc n k up s at of_root y among) y.branch ≡ o → was_sent is_ack said y.branch s.me ≡ true
           by None none = none_sent n k up s at of_root y among none
           by (Some r) found =
               let kept : NodeState = kc n k up s at of_root y among in
@@ -315,9 +316,9 @@ module _ (t : History) (whole : IsLawfulRun t) (root : BranchId) (ended : AllEnd
               let told = (said_ack y.branch.node kept there r row.0 row.1 (farther y.branch.node kept there r row.0 row.1 far)).1 in
               subst (λ q. was_sent is_ack said y.branch q ≡ true) edge_y.next (subst (λ z. was_sent is_ack said z (p.toward z) ≡ true) row.2 told)
 
-  acked_by_far : (fuel : ℕ) (n : ℕ) (k : NodeState) (up : node_at f n ≡ Some k) (s : Standing) → standing_at k s.me ≡ Some s → s.root ≡ root → most ≤ p.far s.me + fuel → all_acked s ≡ true
+  acked_by_far : (fuel : ℕ) (n : ℕ) (k : NodeState) (up : node_at f n ≡ Some k) (s : KeptRow) → kept_row_at k s.me ≡ Some s → s.root ≡ root → most ≤ p.far s.me + fuel → all_acked s ≡ true
   acked_by_far zero n k up s at of_root low = one_acked n k up s at of_root (λ m j there r found its_root far. (let high = far_most r.me in absurd (omega (arith, low, far, high))))
   acked_by_far (suc fuel) n k up s at of_root low = one_acked n k up s at of_root (λ m j there r found its_root far. acked_by_far fuel m j there r found its_root (omega (arith, low, far)))
 
-  pub all_have : (n : ℕ) (k : NodeState) (up : node_at f n ≡ Some k) (s : Standing) → standing_at k s.me ≡ Some s → s.root ≡ root → all_acked s ≡ true
+  pub all_have : (n : ℕ) (k : NodeState) (up : node_at f n ≡ Some k) (s : KeptRow) → kept_row_at k s.me ≡ Some s → s.root ≡ root → all_acked s ≡ true
   all_have n k up s at of_root = acked_by_far most n k up s at of_root (omega arith)

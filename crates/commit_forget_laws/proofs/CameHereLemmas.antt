@@ -1,84 +1,47 @@
 -- The turn in which a message came that was delivered: what its receiver's node kept before it, and keeps after it.
-use Rattle.std.proofs.Common.{◌≡◌, ◌≢◌, ℕ, true, List, [], ◌∷◌, ◌++◌, Option, Some, None, inl, inr, refl, sym, ap, subst, ◌∙◌}
+use Rattle.std.proofs.Common.{◌≡◌, ◌≢◌, ℕ, true, List, Option, Some, None, inl, inr, refl, sym, ap, subst, ◌∙◌}
 use Rattle.tran_ids.proofs.ListedLemmas.{item_is}
 use Rattle.commit_forget.specs.Next.{knows_commit}
 use Rattle.agreement.specs.Events.{Forest, Event, exit, learned, Knows}
 use Rattle.agreement.proofs.Invariant.{Inv}
-use Rattle.node_rules.specs.Data.{BranchId, Decision, Input, Kind, Live, Msg, Place, Standing}
+use Rattle.node_rules.specs.Data.{Decision, Input, Kind, Live, Msg, KeptRow}
 use Rattle.node_rules.specs.Data.decisions
 use Rattle.node_rules.specs.Data.inputs
 use Rattle.node_rules.specs.Inputs.{Came}
 use Rattle.node_rules.specs.Words.{item_at}
-use Rattle.node_rules.specs.NodeState.{NodeState, Branch, Deed, standing_id, live_id, branch_at, standing_at}
-use Rattle.node_rules.specs.Turn.{turn_of, heard, deed_of}
+use Rattle.node_rules.specs.NodeState.{NodeState, Branch, TurnDraft, kept_row_id, live_id, branch_at, kept_row_at}
+use Rattle.node_rules.specs.Turn.{turn_of, heard, draft_of}
 use Rattle.node_rules.proofs.StandLemmas.{live_so}
-use Rattle.run_rules.specs.Data.{Happening, Turn}
-use Rattle.run_rules.specs.Data.happenings
 use Rattle.run_base_laws.specs.EventRows.{IsKnown, RowIs}
-use Rattle.run_rules.specs.Facts.{Facts, place_at, node_at, kept_after, facts_after}
-use Rattle.run_rules.specs.Lawful.{MayHappen, History, IsLawfulRun}
+use Rattle.run_rules.specs.Facts.{node_at, kept_after, facts_after}
+use Rattle.run_rules.specs.Lawful.{History, IsLawfulRun}
 use Rattle.run_rules.proofs.AtNodeLemmas.{turn_here}
 use Rattle.run_base_laws.proofs.EventsStandLemmas.{run_stands, nodes_are_as_events}
 use Rattle.run_base_laws.proofs.LaterLemmas.{exit_later}
 use Rattle.run_base_laws.proofs.OwnLemmas.{all_found}
 use Rattle.tree_laws.specs.Forests.{forest_of}
-use Rattle.tree_laws.proofs.PrefixLemmas.{so_far, f_at, e_at, one_on, more_on}
-use Rattle.tree_site_laws.proofs.TimeLemmas.{Part, part_of, part_lawful, may_of}
+use Rattle.tree_laws.proofs.PrefixLemmas.{f_at, e_at, one_on, more_on}
+use Rattle.tree_laws.proofs.AtTurn.{at_turn}
 use Rattle.commit_laws.specs.DeliveryLaws.{CameInTurn}
-use Rattle.commit_forget_laws.proofs.EventLemmas.{part_inv, happening_added}
+use Rattle.tree_laws.proofs.MoreLemmas.{inv_at, happening_added}
 
 -- a row whose branch learned a commit knows it
-pub knows_it : (e : List Event) (s : Standing) (d : Option Decision) (n : ℕ) → IsKnown e s d → Knows e s.me n → (learned e s.me ≡ Some decisions.Rollback → ⊥) → knows_commit d ≡ true
+pub knows_it : (e : List Event) (s : KeptRow) (d : Option Decision) (n : ℕ) → IsKnown e s d → Knows e s.me n → (learned e s.me ≡ Some decisions.Rollback → ⊥) → knows_commit d ≡ true
 knows_it e s None n is (inl decided) none = (let sealed = is.0 in absurd (cc (sealed, decided)))
 knows_it e s None n is (inr learnt) none = (let no = is.1 in absurd (cc (no, learnt)))
 knows_it e s (Some (decisions.Commit m)) n is knows none = refl
 knows_it e s (Some decisions.Rollback) n is knows none = absurd (none is)
 
 module _ (t : History) (whole : IsLawfulRun t) (m : Msg) (came : CameInTurn t.trace m) where
-  abbrev pub hs : List Happening
-  hs = came.before
-
-  abbrev pub u : Turn
-  u = came.turn
-
-  abbrev pub h : Happening
-  h = happenings.Turn u
-
-  abbrev pub s : History
-  s = so_far t hs
-
-  abbrev pub f : Facts
-  f = f_at t hs
-
-  abbrev pub e : List Event
-  e = e_at t hs
-
-  abbrev pub after : List Happening
-  after = hs ++ h ∷ []
-
-  abbrev pub b : BranchId
-  b = m.to
+  open came use {before as hs, turn as u}
+  open m use {to as b}
+  open at_turn t whole came.before came.turn came.later came.is use {h, s, f, e, after, part, lawful, may, k, p as place}
 
   abbrev pub p : Forest
   p = forest_of t
 
-  pub part : Part t whole hs
-  part = part_of t whole hs h came.later came.is
-
-  pub lawful : IsLawfulRun s
-  lawful = part_lawful t whole hs part
-
   pub i : Inv p e
-  i = part_inv t whole hs part
-
-  pub may : MayHappen t.places t.commands f h
-  may = may_of t whole hs h came.later came.is
-
-  abbrev pub k : NodeState
-  k = may.0
-
-  abbrev pub place : Place
-  place = place_at t.places u.node
+  i = inv_at t whole hs part
 
   pub up : node_at f b.node ≡ Some k
   up = subst (λ n. node_at f n ≡ Some k) came.here may.1.up
@@ -86,8 +49,8 @@ module _ (t : History) (whole : IsLawfulRun t) (m : Msg) (came : CameInTurn t.tr
   abbrev pub k0 : NodeState
   k0 = heard k (inputs.Message m)
 
-  abbrev pub d : Deed
-  d = deed_of place k (inputs.Message m)
+  abbrev pub d : TurnDraft
+  d = draft_of place k (inputs.Message m)
 
   pub came_so : (kind : Kind) → m.kind ≡ kind → Came u.input m.from m.to kind
   came_so kind is = record { scn = m.scn; is = came.input ∙ ap inputs.Message (with_kind is) }
@@ -101,11 +64,11 @@ module _ (t : History) (whole : IsLawfulRun t) (m : Msg) (came : CameInTurn t.tr
       let none : exit e x.live.me ≡ None = all_found (λ (l : Live). exit e l.me ≡ None) live_id k.lives b x.live (nodes_are_as_events s lawful u.node k may.1.up).0 live in
       subst (λ c. exit e c ≡ None) (item_is live_id k.lives b x.live live) none
 
-  pub row_is : (r : Standing) → standing_at k b ≡ Some r → RowIs e r
-  row_is r at = all_found (RowIs e) standing_id k.stored.durable.kept b r (nodes_are_as_events s lawful u.node k may.1.up).1 at
+  pub row_is : (r : KeptRow) → kept_row_at k b ≡ Some r → RowIs e r
+  row_is r at = all_found (RowIs e) kept_row_id k.stored.durable.kept b r (nodes_are_as_events s lawful u.node k may.1.up).1 at
 
-  pub row_me : (r : Standing) → standing_at k b ≡ Some r → r.me ≡ b
-  row_me r at = item_is standing_id k.stored.durable.kept b r at
+  pub row_me : (r : KeptRow) → kept_row_at k b ≡ Some r → r.me ≡ b
+  row_me r at = item_is kept_row_id k.stored.durable.kept b r at
 
   -- what its node keeps after the turn
   pub left : node_at (f_at t after) b.node ≡ kept_after u.cut (Some (turn_of place k (inputs.Message m)))

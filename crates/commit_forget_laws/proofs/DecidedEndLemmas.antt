@@ -1,14 +1,14 @@
 -- At each moment of a lawful run a branch that decided has a row, by the records of its node, until it forgot, unless all beyond
 -- it are gone without changes.
-use Rattle.std.proofs.Common.{◌≡◌, ℕ, ◌||◌, ◌⊎◌, Bool, true, false, if◌then◌else◌, List, [], ◌∷◌, ◌++◌, map, is_some, slice_get, Option, Some, None, inl, inr, refl, sym, subst, arith, append-nil}
+use Rattle.std.proofs.Common.{◌≡◌, ℕ, ◌⊎◌, Bool, true, false, if◌then◌else◌, List, [], ◌∷◌, ◌++◌, Option, Some, inl, inr, refl, sym, subst, arith, append-nil}
 use Rattle.std.specs.Prelude.{IfSome}
 use Rattle.std.specs.Option.{option_to_list}
 use Rattle.tran_ids.proofs.BranchLemmas.{same_from_equal}
 use Rattle.redo_record.specs.Durable.{durable_after}
 use Rattle.redo_record.specs.Kept.{add_kept, kept_after}
-use Rattle.redo_record.specs.Rows.{kid_of, decided_as, has_neighbors}
-use Rattle.agreement.specs.Events.{Forest, Event, Decided, Quiet, Forget, exit}
-use Rattle.node_rules.specs.Data.{BranchId, Peer, RedoRecord}
+use Rattle.redo_record.specs.Rows.{decided_as, has_neighbors}
+use Rattle.agreement.specs.Events.{Forest, Event, Decided, Quiet, exit}
+use Rattle.node_rules.specs.Data.{BranchId, RedoRecord}
 use Rattle.node_rules.specs.Data.records
 use Rattle.node_rules.specs.Records.{applied, nothing_stored, stored_by}
 use Rattle.run_rules.specs.Data.{Happening, Turn}
@@ -22,29 +22,20 @@ use Rattle.run_base_laws.specs.RunEvents.{events_after, events_from, events_of}
 use Rattle.run_rules.proofs.AtNodeLemmas.{turn_elsewhere, turn_here, start_elsewhere, start_here}
 use Rattle.run_base_laws.proofs.EventsStandLemmas.{node_so, owned_so, run_stands, tells_so}
 use Rattle.run_branch_laws.proofs.KeptRowLemmas.{put_there, wrote_stay}
-use Rattle.run_base_laws.proofs.LaterLemmas.{Added, Any, exit_later, exit_made, has_later, learned_later, turn_added, stop_added}
+use Rattle.run_base_laws.proofs.LaterLemmas.{Added, Any, exit_later, exit_made, turn_added, stop_added}
 use Rattle.run_base_laws.proofs.NodesStandLemmas.{stored_rows}
 use Rattle.run_base_laws.proofs.StoredLemmas.{stored_with}
 use Rattle.run_base_laws.proofs.TurnEventLemmas.{cases_nat, record_own}
-use Rattle.tree_laws.specs.BeyondLaws.{IsNamed, RecordHeard, WritesHeard}
+use Rattle.tree_laws.specs.BeyondLaws.{RecordHeard, WritesHeard}
 use Rattle.tree_laws.specs.Forests.{forest_of}
 use Rattle.tree_laws.proofs.DecidedRowLemmas.{IsAlone}
 use Rattle.tree_laws.proofs.PrefixLemmas.{so_far, f_at, e_at, one_on, more_on}
 use Rattle.tree_laws.proofs.SettleRunLemmas.{records_heard}
 use Rattle.tree_laws.proofs.SiteLemmas.{IsDecisionOf, wrote_decision, later_undecided}
-use Rattle.tree_site_laws.proofs.TimeLemmas.{part_of, part_lawful, may_of, each_at, keep_on}
-use Rattle.commit_forget_laws.proofs.EventLemmas.{happening_added}
-
--- a site without a parent and without children in its record has nobody that it names
-nobody : (parent : Option BranchId) (ps : List Peer) → (is_some parent || is_some (slice_get (map kid_of ps) 0)) ≡ false → (x : BranchId) → IsNamed parent (map (λ (c : Peer). c.branch) ps) x → ⊥
-nobody (Some q) ps none x named = absurd cc
-nobody None (c ∷ ps) none x named = absurd cc
-nobody None [] none x (inl up) = absurd cc
-nobody None [] none x (inr down) = absurd cc
-
-done_later : {Q : Event → Type 0} {t r : List Event} → Added Q t r → (b : BranchId) → IsDone t b → IsDone r b
-done_later more b (inl learns) = inl (learned_later b _ more learns)
-done_later more b (inr forgot) = inr (has_later (Forget b) more forgot)
+use Rattle.tree_laws.proofs.TimeLemmas.{Part, may_of, each_at, keep_on}
+use Rattle.tree_laws.proofs.MoreLemmas.{happening_added}
+use Rattle.tree_laws.proofs.AtTurn.{at_happening}
+use Rattle.tree_laws.proofs.DecidedRowLemmas.{done_later, nobody}
 
 module _ (t : History) (whole : IsLawfulRun t) (b : BranchId) where
   abbrev p : Forest
@@ -69,14 +60,7 @@ module _ (t : History) (whole : IsLawfulRun t) (b : BranchId) where
   decided_there e rs _ heard at = absurd at
 
   module _ (hs : List Happening) (h : Happening) (rest : List Happening) (is : hs ++ h ∷ rest ≡ t.trace) (now : Stays (f_at t hs) (e_at t hs)) where
-    abbrev f : Facts
-    f = f_at t hs
-
-    abbrev e : List Event
-    e = e_at t hs
-
-    lawful : IsLawfulRun (so_far t hs)
-    lawful = part_lawful t whole hs (part_of t whole hs h rest is)
+    open at_happening t whole hs h rest is use {f, e, lawful}
 
     abbrev g : Happening → Facts
     g y = facts_after t.places t.commands f y
@@ -185,5 +169,9 @@ module _ (t : History) (whole : IsLawfulRun t) (b : BranchId) where
   unfolding events_from
   first_stays n decided = absurd cc
 
+  -- at each moment of the run, by the forest of the whole
+  pub decided_at : (hs : List Happening) → Part t whole hs → (n : ℕ) → exit (e_at t hs) b ≡ Some (Decided n) → HasRow b (stored_rows (f_at t hs) b.node) ⊎ (IsDone (e_at t hs) b ⊎ IsAlone p (e_at t hs) b)
+  decided_at hs part = keep_on t whole (λ xs. Stays (f_at t xs) (e_at t xs)) stays_on [] hs part first_stays
+
   pub decided_end : (n : ℕ) → exit (events_of t) b ≡ Some (Decided n) → HasRow b (stored_rows (facts_at t) b.node) ⊎ (IsDone (events_of t) b ⊎ IsAlone (forest_of t) (events_of t) b)
-  decided_end = keep_on t whole (λ hs. Stays (f_at t hs) (e_at t hs)) stays_on [] t.trace (record { rest = []; is = append-nil t.trace }) first_stays
+  decided_end = decided_at t.trace (record { rest = []; is = append-nil t.trace })

@@ -1,8 +1,8 @@
 -- The book of a run against its events: a sealed branch of a transaction whose seals have all ended with commit learned the
 -- commit, and was never forced. An Ack among the events was sent.
 use Rattle.std.proofs.Common.{◌≡◌, ℕ, zero, suc, ◌⊎◌, ◌&&◌, ◌||◌, Bool, true, false, List, [], ◌∷◌, ◌++◌, map, slice_get, Option, Some, None, inl, inr, refl, sym, ap, subst, ◌∙◌, append-nil}
-use Rattle.std.specs.List.{AllByRecursion, list_any}
-use Rattle.std.proofs.lemmas.Bool.{cond_both, or_right}
+use Rattle.std.specs.List.{AllByRecursion}
+use Rattle.std.proofs.lemmas.Bool.{or_right}
 use Rattle.tran_ids.proofs.BranchLemmas.{same_from_equal}
 use Rattle.agreement.specs.BookOf.{entry_by, with_entry, book_of}
 use Rattle.agreement.specs.Data.{Change, Entry}
@@ -12,33 +12,29 @@ use Rattle.agreement.specs.Outcomes.{At}
 use Rattle.agreement.proofs.AgreementLaws.{was_allowed}
 use Rattle.agreement.proofs.EventLemmas.{exit_new, sealed_by, learned_stays, forced_new, force_by, only_at_same}
 use Rattle.agreement.proofs.Invariant.{allowed_at}
-use Rattle.node_rules.specs.Data.{BranchId, Decision, Kind, Msg, RedoRecord}
+use Rattle.node_rules.specs.Data.{BranchId, Decision, Kind, Msg}
 use Rattle.node_rules.specs.Data.decisions
 use Rattle.node_rules.specs.Data.kinds
-use Rattle.node_rules.specs.Data.records
 use Rattle.node_rules.specs.Words.{same}
 use Rattle.run_rules.specs.Data.{Happening}
 use Rattle.run_rules.specs.Data.happenings
 use Rattle.run_rules.specs.Facts.{Facts, first_facts, node_at, facts_after}
 use Rattle.run_base_laws.specs.InTurnLaws.{post_of, said_in}
 use Rattle.run_rules.specs.Lawful.{History, IsLawfulRun, facts_at}
-use Rattle.run_base_laws.specs.RunEvents.{with_event, record_event, wrote_event, message_event, with_messages, leave_event, has_left, with_leaver, with_leavers, with_record, lives_at, events_after, events_from, events_of}
-use Rattle.run_rules.specs.Trail.{is_quiet}
+use Rattle.run_base_laws.specs.RunEvents.{with_event, message_event, with_messages, with_record, lives_at, events_after, events_from, events_of}
 use Rattle.run_branch_laws.specs.WalkLaws.{was_sent}
 use Rattle.run_branch_laws.proofs.EventBookLemmas.{book_of_events}
 use Rattle.run_rules.proofs.FactLemmas.{book_is}
 use Rattle.run_base_laws.proofs.SaidPostLemmas.{posts_of, said_after}
 use Rattle.tree_laws.proofs.AskLemmas.{sent_more, sent_new}
 use Rattle.tree_laws.proofs.PrefixLemmas.{f_at, e_at, one_on, more_on}
-use Rattle.tree_site_laws.proofs.TimeLemmas.{keep_on}
+use Rattle.tree_laws.proofs.TimeLemmas.{keep_on}
 use Rattle.run_claims.specs.Undisturbed.{SealIsEnded}
 use Rattle.commit_forget_laws.specs.RowLaws.{is_ack}
+use Rattle.commit_forget_laws.proofs.SentBackLemmas.{leavers_back, wrote_back}
+use Rattle.tree_laws.proofs.ClearLemmas.{all_parts}
 
 -- ---- entries
-
-all_parts : {A : Type 0} (P : A → Type 0) (xs ys : List A) → AllByRecursion P (xs ++ ys) → AllByRecursion P xs × AllByRecursion P ys
-all_parts P [] ys all = (tt, all)
-all_parts P (x ∷ xs) ys all = let rest = all_parts P xs ys all.1 in ((all.0, rest.0), rest.1)
 
 last_or : {A : Type 0} (xs : List A) (z y : A) (i : ℕ) → slice_get (xs ++ z ∷ []) i ≡ Some y → (slice_get xs i ≡ Some y) ⊎ (z ≡ y)
 last_or [] z y zero is = inr (let it : Some z ≡ Some y = is in cc)
@@ -188,28 +184,6 @@ module _ (x b : BranchId) where
       or_here true q is = refl
       or_here false q is = absurd cc
 
-  leave_plain : (c : BranchId) (sent : List Msg) → leave_event sent c ≡ Send_ack x b → ⊥
-  leave_plain c sent = cond_both (list_any (is_quiet c) sent) (Answer_read_only c) (Drop c) (λ e. e ≡ Send_ack x b → ⊥) (λ quiet it. absurd cc) (λ other it. absurd cc)
-
-  leavers_back : (after : List BranchId) (sent : List Msg) (cs : List BranchId) (t : List Event) → IsAck (with_leavers after sent cs t) → IsAck t
-  leavers_back after sent [] t has = has
-  leavers_back after sent (c ∷ cs) t has =
-      cond_both (has_left after t c) (leave_event sent c ∷ t) t (λ xs. IsAck xs → IsAck t) (λ left. one_back (leave_event sent c) t (leave_plain c sent)) (λ stays it. it) (leavers_back after sent cs (with_leaver after sent c t) has)
-
-  record_back : (n : ℕ) (r : RedoRecord) (t : List Event) → IsAck (with_event (record_event n r) t) → IsAck t
-  record_back n (records.Table y) t has = one_back _ t (λ no. absurd cc) has
-  record_back n (records.Sealed r) t has = one_back _ t (λ no. absurd cc) has
-  record_back n (records.Decided r) t has = one_back _ t (λ no. absurd cc) has
-  record_back n (records.Ended c d) t has = one_back _ t (λ no. absurd cc) has
-  record_back n (records.Forced c d given) t has = one_back _ t (λ no. absurd cc) has
-  record_back n (records.Met c d mixed) t has = one_back _ t (λ no. absurd cc) has
-  record_back n (records.Forgot c) t has = one_back _ t (λ no. absurd cc) has
-  record_back n _ t has = has
-
-  wrote_back : (n : ℕ) (w : Option RedoRecord) (t : List Event) → IsAck (with_event (wrote_event n w) t) → IsAck t
-  wrote_back n None t has = has
-  wrote_back n (Some r) t has = record_back n r t has
-
   module _ (t : History) (whole : IsLawfulRun t) where
     abbrev Sent : List Happening → Type 0
     Sent hs = IsAck (e_at t hs) → was_sent is_ack (said_in (f_at t hs)) x b ≡ true
@@ -221,10 +195,10 @@ module _ (x b : BranchId) where
       sent_by : (h : Happening) → IsAck (events_after t.places t.commands f h (e_at t hs)) → was_sent is_ack (said_in f ++ posts_of h) x b ≡ true
       sent_by (happenings.Turn u) has = elim (messages_back u.sent _ has) [
         | inl earlier ↦ sent_more is_ack (said_in f) (posts_of (happenings.Turn u)) x b
-            (now (wrote_back u.node u.wrote (e_at t hs) (leavers_back (lives_at (node_at (facts_after t.places t.commands f (happenings.Turn u)) u.node)) u.sent (lives_at (node_at f u.node)) (with_record u (e_at t hs)) earlier)))
+            (now (wrote_back (Send_ack x b) refl u.node u.wrote (e_at t hs) (leavers_back (Send_ack x b) refl (lives_at (node_at (facts_after t.places t.commands f (happenings.Turn u)) u.node)) u.sent (lives_at (node_at f u.node)) (with_record u (e_at t hs)) earlier)))
         | inr new ↦ sent_new is_ack (said_in f) (posts_of (happenings.Turn u)) x b new
       ]
-      sent_by (happenings.Stopped n) has = sent_more is_ack (said_in f) [] x b (now (leavers_back [] [] (lives_at (node_at f n)) (e_at t hs) has))
+      sent_by (happenings.Stopped n) has = sent_more is_ack (said_in f) [] x b (now (leavers_back (Send_ack x b) refl [] [] (lives_at (node_at f n)) (e_at t hs) has))
       sent_by (happenings.Started n boot) has = sent_more is_ack (said_in f) [] x b (now has)
       sent_by (happenings.Begun c) has = sent_more is_ack (said_in f) [] x b (now has)
       sent_by (happenings.Cut m n) has = sent_more is_ack (said_in f) [] x b (now has)

@@ -1,68 +1,20 @@
--- The events of a lawful run as its forest allows them, at each moment: who forgot knew the commit, who learned it was told
--- it by one who knew it, and what is Forgot by a record alone.
-use Rattle.std.proofs.Common.{◌≡◌, ◌≢◌, ℕ, ◌⊎◌, List, [], ◌∷◌, Option, Some, None, inl, inr, sym, ap, subst, ◌∙◌}
+-- The events of a lawful run as its forest allows them: who forgot knew the commit, who learned it was told it by one who
+-- knew it, and what is Forgot by a record alone.
+use Rattle.std.proofs.Common.{◌≡◌, ◌≢◌, ℕ, ◌⊎◌, List, [], ◌∷◌, Option, Some, None, inl, inr, ap}
 use Rattle.std.proofs.lemmas.Bool.{cond_both}
 use Rattle.agreement.specs.Events.{Forest, Event, Decided, Answer_read_only, Drop, Forget, Learn, Send_commit, exit, learned, Has, Knows, Lawful}
 use Rattle.agreement.proofs.EventLemmas.{learn_by, learned_new}
 use Rattle.agreement.proofs.Invariant.{Inv, knows_stays, allowed_at}
-use Rattle.agreement.proofs.InvariantKept.{inv}
-use Rattle.node_rules.specs.Data.{BranchId, Kind, Msg, Place, RedoRecord}
+use Rattle.node_rules.specs.Data.{BranchId, Kind, Msg, RedoRecord}
 use Rattle.node_rules.specs.Data.decisions
 use Rattle.node_rules.specs.Data.kinds
 use Rattle.node_rules.specs.Data.records
-use Rattle.run_rules.specs.Data.{Command, Happening, Turn}
-use Rattle.run_rules.specs.Data.happenings
-use Rattle.run_rules.specs.Facts.{Facts, first_facts, facts_after, node_at}
-use Rattle.run_rules.specs.Lawful.{History, IsLawfulRun}
-use Rattle.run_base_laws.specs.RunEvents.{with_event, record_event, wrote_event, message_event, with_messages, leave_event, has_left, with_leaver, with_leavers, with_record, lives_at, events_after, events_from, events_of}
+use Rattle.run_rules.specs.Data.{Turn}
+use Rattle.run_rules.specs.Facts.{Facts, node_at}
+use Rattle.run_base_laws.specs.RunEvents.{with_event, record_event, wrote_event, message_event, with_messages, leave_event, has_left, with_leaver, with_leavers, with_record, lives_at}
 use Rattle.run_rules.specs.Trail.{is_quiet}
 use Rattle.std.specs.List.{list_any}
-use Rattle.run_branch_laws.proofs.JustLemmas.{just_runs_are_lawful}
-use Rattle.run_base_laws.proofs.LaterLemmas.{Added, Nothing_more, One_more, Any, added_on, added_wider, wrote_added, turn_added, stop_added, exit_later, learned_later}
-use Rattle.run_branch_laws.proofs.TreeJustLemmas.{runs_by_trees_are_just}
-use Rattle.tree_laws.specs.Forests.{forest_of}
-use Rattle.tree_laws.proofs.AgreeLemmas.{runs_go_by_forest}
-use Rattle.tree_laws.proofs.ForestRunLemmas.{runs_have_forests}
-use Rattle.tree_laws.proofs.PrefixLemmas.{f_at, e_at}
-use Rattle.tree_site_laws.proofs.TimeLemmas.{Part, events_join}
-
--- ---- the invariant of agreement, at each moment
-
-pub run_lawful : (t : History) → IsLawfulRun t → Lawful (forest_of t) (events_of t)
-run_lawful t whole = just_runs_are_lawful t (forest_of t) (runs_by_trees_are_just t whole (forest_of t) (runs_go_by_forest t whole))
-
-lawful_back : (p : Forest) {t r : List Event} → Added Any t r → Lawful p r → Lawful p t
-lawful_back p Nothing_more lawful = lawful
-lawful_back p (One_more e is more) lawful = lawful_back p more lawful.1
-
-module _ (places : List Place) (asked : List Command) where
-  pub happening_added : (f : Facts) (h : Happening) (e : List Event) → Added Any e (events_after places asked f h e)
-  happening_added f (happenings.Turn u) e = added_on (wrote_added u e) (added_wider (λ x is. tt) (turn_added f (facts_after places asked f (happenings.Turn u)) u e))
-  happening_added f (happenings.Stopped n) e = added_wider (λ x is. tt) (stop_added f (facts_after places asked f (happenings.Stopped n)) n e)
-  happening_added f (happenings.Started n boot) e = Nothing_more
-  happening_added f (happenings.Begun c) e = Nothing_more
-  happening_added f (happenings.Cut a b) e = Nothing_more
-  happening_added f (happenings.Join a b) e = Nothing_more
-  happening_added f (happenings.Lost k) e = Nothing_more
-
-  trace_added : (f : Facts) (hs : List Happening) (e : List Event) → Added Any e (events_from places asked f hs e)
-  unfolding events_from
-  trace_added f [] e = Nothing_more
-  trace_added f (h ∷ hs) e = added_on (happening_added f h e) (trace_added (facts_after places asked f h) hs (events_after places asked f h e))
-
-module _ (t : History) (whole : IsLawfulRun t) (hs : List Happening) (part : Part t whole hs) where
-  -- the events at the end are these and more
-  pub part_added : Added Any (e_at t hs) (events_of t)
-  part_added =
-      let is : events_of t ≡ events_from t.places t.commands (f_at t hs) part.rest (e_at t hs)
-      = ap (λ xs. events_from t.places t.commands (first_facts t.places) xs []) (sym part.is) ∙ events_join t.places t.commands (first_facts t.places) hs part.rest [] in
-      subst (Added Any (e_at t hs)) (sym is) (trace_added t.places t.commands (f_at t hs) part.rest (e_at t hs))
-
-  pub part_allowed : Lawful (forest_of t) (e_at t hs)
-  part_allowed = lawful_back (forest_of t) part_added (run_lawful t whole)
-
-  pub part_inv : Inv (forest_of t) (e_at t hs)
-  part_inv = inv (forest_of t) (e_at t hs) (runs_have_forests t whole) part_allowed
+use Rattle.run_base_laws.proofs.LaterLemmas.{Added, exit_later, learned_later}
 
 -- who forgot has left
 pub forgot_left : (p : Forest) (e : List Event) → Inv p e → (b : BranchId) → Has (Forget b) e → exit e b ≢ None

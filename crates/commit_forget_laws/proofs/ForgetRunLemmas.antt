@@ -5,17 +5,17 @@ use Rattle.std.specs.Prelude.{IfSome}
 use Rattle.std.specs.List.{AllByRecursion}
 use Rattle.tran_ids.proofs.ListedLemmas.{item_is}
 use Rattle.session_tree.specs.Live.{is_branch}
-use Rattle.agreement.specs.Events.{Forest, Event, Quiet, Forget, Send_forgotten, Beyond, exit, Has, site_of}
-use Rattle.node_rules.specs.Data.{BranchId, Place, Post, Standing}
+use Rattle.agreement.specs.Events.{Forest, Quiet, Forget, Send_forgotten, Beyond, exit, Has, site_of}
+use Rattle.node_rules.specs.Data.{BranchId, Place, Post, KeptRow}
 use Rattle.node_rules.specs.Data.kinds
 use Rattle.node_rules.specs.Data.records
-use Rattle.node_rules.specs.NodeState.{NodeState, Deed, standing_id}
+use Rattle.node_rules.specs.NodeState.{NodeState, TurnDraft, kept_row_id}
 use Rattle.node_rules.specs.Commit.{to_beyond}
-use Rattle.node_rules.specs.Turn.{turn_of, deed_of}
+use Rattle.node_rules.specs.Turn.{turn_of, draft_of}
 use Rattle.run_rules.specs.Data.{Happening, Turn}
 use Rattle.run_rules.specs.Data.happenings
 use Rattle.run_base_laws.specs.EventLaws.{EachEventFrom}
-use Rattle.run_rules.specs.Facts.{Facts, first_facts, place_at, facts_after}
+use Rattle.run_rules.specs.Facts.{first_facts, place_at, facts_after}
 use Rattle.run_base_laws.specs.IdLaws.{IsRecordOf}
 use Rattle.run_base_laws.specs.InTurnLaws.{post_of, said_in}
 use Rattle.run_rules.specs.Lawful.{IsOwed, MayHappen, MayTurn, History, IsLawfulRun, facts_at}
@@ -38,13 +38,15 @@ use Rattle.tree_laws.proofs.ForestRunLemmas.{runs_have_forests}
 use Rattle.tree_laws.proofs.NameLemmas.{rows_name_beyond}
 use Rattle.tree_laws.proofs.PrefixLemmas.{so_far, f_at, e_at, one_on, more_on}
 use Rattle.tree_laws.proofs.RowLemmas.{kid_branch}
-use Rattle.tree_site_laws.proofs.TimeLemmas.{Part, part_of, part_lawful, may_of, each_at, keep_on}
+use Rattle.tree_laws.proofs.TimeLemmas.{may_of, each_at, keep_on}
 use Rattle.commit_laws.specs.WaitLaws.{HasStopped}
 use Rattle.commit_laws.proofs.StopLemmas.{stopped_on, cut_stops}
 use Rattle.commit_forget_laws.specs.ForgetLaws.{is_forgotten, ToldForgotten, ForgetsAreTold, ForgetsComeFromToward}
-use Rattle.commit_forget_laws.proofs.EventLemmas.{happening_added, part_inv, forgot_left, turn_back, stop_back, wrote_back}
+use Rattle.tree_laws.proofs.MoreLemmas.{happening_added, inv_at}
+use Rattle.commit_forget_laws.proofs.EventLemmas.{forgot_left, turn_back, stop_back, wrote_back}
 use Rattle.commit_forget_laws.proofs.ForgetStepLemmas.{SaysForgot, forgot_says, same_kids, beyond_told}
-use Rattle.commit_forget_laws.proofs.WayLemmas.{WayIs, rows_way}
+use Rattle.tree_laws.proofs.FitRowLemmas.{RowFits, rows_fit}
+use Rattle.tree_laws.proofs.AtTurn.{at_happening}
 
 module _ (t : History) (whole : IsLawfulRun t) (b : BranchId) where
   abbrev p : Forest
@@ -62,20 +64,7 @@ module _ (t : History) (whole : IsLawfulRun t) (b : BranchId) where
   Forgets hs = Has (Forget b) (e_at t hs) → (Told hs ⊎ HasStopped (f_at t hs) b) × Came_to hs
 
   module _ (hs : List Happening) (h : Happening) (rest : List Happening) (is : hs ++ h ∷ rest ≡ t.trace) (now : Forgets hs) where
-    abbrev f : Facts
-    f = f_at t hs
-
-    abbrev e : List Event
-    e = e_at t hs
-
-    abbrev after : List Happening
-    after = hs ++ h ∷ []
-
-    part : Part t whole hs
-    part = part_of t whole hs h rest is
-
-    lawful : IsLawfulRun (so_far t hs)
-    lawful = part_lawful t whole hs part
+    open at_happening t whole hs h rest is use {f, e, after, part, lawful}
 
     said_is : said_in (f_at t after) ≡ said_in f ++ posts_of h
     said_is = ap said_in (one_on t hs h) ∙ said_after t.places t.commands f h
@@ -98,7 +87,7 @@ module _ (t : History) (whole : IsLawfulRun t) (b : BranchId) where
         let was = now has in (
           elim was.0 [
             | inl told ↦ inl (told_stays told)
-            | inr stopped ↦ inr (stopped_on t whole b hs h rest is (forgot_left p e (part_inv t whole hs part) b has) stopped)
+            | inr stopped ↦ inr (stopped_on t whole b hs h rest is (forgot_left p e (inv_at t whole hs part) b has) stopped)
           ],
           came_stays was.1,
         )
@@ -109,10 +98,10 @@ module _ (t : History) (whole : IsLawfulRun t) (b : BranchId) where
       abbrev place : Place
       place = place_at t.places u.node
 
-      abbrev d : Deed
-      d = deed_of place k u.input
+      abbrev d : TurnDraft
+      d = draft_of place k u.input
 
-      abbrev ks : List Standing
+      abbrev ks : List KeptRow
       ks = k.stored.durable.kept
 
       node : b.node ≡ u.node
@@ -130,23 +119,23 @@ module _ (t : History) (whole : IsLawfulRun t) (b : BranchId) where
       names =
           each_at t.places t.commands (NodesName p) (first_facts t.places) hs h rest [] (subst (EachEventFrom (NodesName p) t.places t.commands (first_facts t.places) []) (sym is) (rows_name_beyond t whole)) u.node k may.up
 
-      ways : AllByRecursion (λ s. WayIs p s.me s.toward) ks
-      ways = rows_way t whole hs part u.node k may.up
+      ways : AllByRecursion (λ s. RowFits p s.me s.toward) ks
+      ways = rows_fit t whole hs part u.node k may.up
 
-      module _ (s : Standing) (like : IsRowLike ks b s) where
-        abbrev row : Standing
+      module _ (s : KeptRow) (like : IsRowLike ks b s) where
+        abbrev row : KeptRow
         row = like.row
 
         me : row.me ≡ b
-        me = item_is standing_id ks b row like.stands
+        me = item_is kept_row_id ks b row like.stands
 
         mine : s.me ≡ b
-        mine = ap (λ (y : Standing). y.me) like.like ∙ me
+        mine = ap (λ (y : KeptRow). y.me) like.like ∙ me
 
-        way : WayIs p b s.toward
+        way : RowFits p b s.toward
         way =
-            subst (WayIs p b) (sym (ap (λ (y : Standing). y.toward) like.like))
-            (subst (λ c. WayIs p c row.toward) me (all_found (λ (y : Standing). WayIs p y.me y.toward) standing_id ks b row ways like.stands))
+            subst (RowFits p b) (sym (ap (λ (y : KeptRow). y.toward) like.like))
+            (subst (λ c. RowFits p c row.toward) me (all_found (λ (y : KeptRow). RowFits p y.me y.toward) kept_row_id ks b row ways like.stands))
 
         apart : (x : BranchId) → Beyond p x b → is_branch x s.toward ≡ false
         apart x edge = elim way [
@@ -156,11 +145,11 @@ module _ (t : History) (whole : IsLawfulRun t) (b : BranchId) where
 
         tells : (says : List Post) → says ≡ to_beyond s kinds.Forgotten → (x : BranchId) → Beyond p x b → (was_sent is_forgotten says b x ≡ true) ⊎ (exit e x ≡ Some Quiet)
         tells says it x edge =
-            let named : RowNames p e row = all_found (RowNames p e) standing_id ks b row names like.stands in
+            let named : RowNames p e row = all_found (RowNames p e) kept_row_id ks b row names like.stands in
             elim (named x (subst (λ c. Beyond p x c) (sym me) edge)) [
               | inr quiet ↦ inr quiet
               | inl here ↦ (let there : IsNamed s.parent (map kid_branch s.children) x
-                  = subst (λ cs. IsNamed s.parent cs x) (sym (same_kids s row (ap (λ (y : Standing). y.children) like.like))) (subst (λ o. IsNamed o (map kid_branch row.children) x) (sym (ap (λ (y : Standing). y.parent) like.like)) here) in
+                  = subst (λ cs. IsNamed s.parent cs x) (sym (same_kids s row (ap (λ (y : KeptRow). y.children) like.like))) (subst (λ o. IsNamed o (map kid_branch row.children) x) (sym (ap (λ (y : KeptRow). y.parent) like.like)) here) in
                   let told : was_sent is_forgotten (to_beyond s kinds.Forgotten) s.me x ≡ true = beyond_told s x (apart x edge) there in
                   inl (subst (λ xs. was_sent is_forgotten xs b x ≡ true) (sym it) (subst (λ c. was_sent is_forgotten (to_beyond s kinds.Forgotten) c x ≡ true) mine told)))
             ]
@@ -180,7 +169,7 @@ module _ (t : History) (whole : IsLawfulRun t) (b : BranchId) where
       told_by false cut owed =
           let posts : posts_of (happenings.Turn u) ≡ d.says = ap (λ xs. map post_of xs) owed.1 ∙ posts_back d.after.clock d.says in
           let its : posts_of h ≡ d.says = ap posts_of turn ∙ posts in
-          let says : IfSome d.wrote (SaysForgot ks d.says) = subst (λ (rows : List Standing). IfSome d.wrote (SaysForgot rows d.says)) (heard_rows k u.input) (forgot_says place u.input (serves t.places f u k may).step) in
+          let says : IfSome d.wrote (SaysForgot ks d.says) = subst (λ (rows : List KeptRow). IfSome d.wrote (SaysForgot rows d.says)) (heard_rows k u.input) (forgot_says place u.input (serves t.places f u k may).step) in
           let row : SaysForgot ks d.says (records.Forgot b) = subst (λ o. IfSome o (SaysForgot ks d.says)) (sym owed.0 ∙ wrote) says in
           inl (λ x edge. elim (tells row.0 row.1 d.says row.2 x edge) [
             | inl sent ↦ inl (subst (λ xs. was_sent is_forgotten xs b x ≡ true) (sym (said_is ∙ ap (λ ys. said_in f ++ ys) its)) (sent_new is_forgotten (said_in f) d.says b x sent))
@@ -219,6 +208,6 @@ forgets_are_told t whole b has = (forgets_end t whole b has).0
 
 pub forgets_come_from_toward : ForgetsComeFromToward
 forgets_come_from_toward t whole b has sealed = elim (forgets_end t whole b has).1 [
-  | inl site ↦ absurd (((part_inv t whole t.trace (record { rest = []; is = append-nil t.trace })).sealed_in b sealed.0 sealed.1).1 site)
+  | inl site ↦ absurd (((inv_at t whole t.trace (record { rest = []; is = append-nil t.trace })).sealed_in b sealed.0 sealed.1).1 site)
   | inr told ↦ told
 ]

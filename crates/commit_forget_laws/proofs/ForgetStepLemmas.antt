@@ -9,12 +9,12 @@ use Rattle.commit_forget.specs.declared.next.Beyond.{Beyond as Neighbor}
 use Rattle.commit_forget.specs.declared.next.Next.TheVariants as nexts
 use Rattle.commit_forget.specs.Beyond.{beyond, parent_beyond, kid_beyond}
 use Rattle.session_tree.specs.Live.{is_branch}
-use Rattle.node_rules.specs.Data.{BranchId, Input, Kid, Place, Post, RedoRecord, Standing}
+use Rattle.node_rules.specs.Data.{BranchId, Input, Kid, Place, Post, RedoRecord, KeptRow}
 use Rattle.node_rules.specs.Data.acts
 use Rattle.node_rules.specs.Data.kinds
 use Rattle.node_rules.specs.Data.records
 use Rattle.node_rules.specs.Words.{same, item_at, put_item}
-use Rattle.node_rules.specs.NodeState.{NodeState, Deed, standing_id, to_each}
+use Rattle.node_rules.specs.NodeState.{NodeState, TurnDraft, kept_row_id, to_each}
 use Rattle.node_rules.specs.Commit.{acked_by, to_beyond}
 use Rattle.node_rules.proofs.Steps as steps
 use Rattle.node_rules.proofs.Steps.{Step}
@@ -28,17 +28,17 @@ use Rattle.tree_laws.proofs.RowLemmas.{kid_branch}
 use Rattle.commit_forget_laws.specs.ForgetLaws.{is_forgotten}
 
 -- a branch that forgets tells so, by its row
-abbrev pub SaysForgot : List Standing → List Post → RedoRecord → Type 0
-SaysForgot ks says (records.Forgot b) = (s : Standing) × IsRowLike ks b s × (says ≡ to_beyond s kinds.Forgotten)
+abbrev pub SaysForgot : List KeptRow → List Post → RedoRecord → Type 0
+SaysForgot ks says (records.Forgot b) = (s : KeptRow) × IsRowLike ks b s × (says ≡ to_beyond s kinds.Forgotten)
 SaysForgot ks says _ = Unit {0}
 
-acked_says : (ks : List Standing) (s : Standing) (from : BranchId) (says : List Post) → item_at standing_id ks s.me ≡ Some s → (w : Option RedoRecord) → IfSome w (SaysForgot (put_item standing_id ks (acked_by s from)) says) → IfSome w (SaysForgot ks says)
+acked_says : (ks : List KeptRow) (s : KeptRow) (from : BranchId) (says : List Post) → item_at kept_row_id ks s.me ≡ Some s → (w : Option RedoRecord) → IfSome w (SaysForgot (put_item kept_row_id ks (acked_by s from)) says) → IfSome w (SaysForgot ks says)
 acked_says ks s from says stands None is = tt
 acked_says ks s from says stands (Some (records.Forgot b)) is = (is.0, like_acked ks s from stands b is.0 is.1, is.2)
 acked_says ks s from says stands (Some _) is = tt
 
 module _ (p : Place) (input : Input) where
-  pub forgot_says : {k : NodeState} {d : Deed} → Step p input k d → IfSome d.wrote (SaysForgot k.stored.durable.kept d.says)
+  pub forgot_says : {k : NodeState} {d : TurnDraft} → Step p input k d → IfSome d.wrote (SaysForgot k.stored.durable.kept d.says)
   forgot_says (steps.Begins n s call rows range none step) = forgot_says step
   forgot_says (steps.Pends n l given call has live code step) = forgot_says step
   forgot_says (steps.Lets_reads_go l comment below live begins step) = forgot_says step
@@ -70,7 +70,7 @@ module _ (p : Place) (input : Input) where
 -- ---- each neighbour beyond is told
 
 -- a row that is like another names the same neighbours
-pub same_kids : (s row : Standing) → map unacked_kid s.children ≡ map unacked_kid row.children → map kid_branch s.children ≡ map kid_branch row.children
+pub same_kids : (s row : KeptRow) → map unacked_kid s.children ≡ map unacked_kid row.children → map kid_branch s.children ≡ map kid_branch row.children
 same_kids s row like = sym (map_after kid_branch unacked_kid kid_branch (λ c. refl) s.children) ∙ (ap (λ cs. map kid_branch cs) like ∙ map_after kid_branch unacked_kid kid_branch (λ c. refl) row.children)
 
 module _ (x : BranchId) (toward : Option BranchId) (apart : is_branch x toward ≡ false) where
@@ -92,14 +92,14 @@ module _ (x : BranchId) (toward : Option BranchId) (apart : is_branch x toward �
       by false here false away found later = or_right (same c.branch x) (list_any is_it (map kid_beyond (filter off cs))) (later found)
       by false here true on found later = later found
 
-parent_there : (s : Standing) (x : BranchId) → is_branch x s.toward ≡ false → (o : Option BranchId) → o ≡ Some x → list_any (λ (y : Neighbor). same y.branch x) (parent_beyond s o) ≡ true
+parent_there : (s : KeptRow) (x : BranchId) → is_branch x s.toward ≡ false → (o : Option BranchId) → o ≡ Some x → list_any (λ (y : Neighbor). same y.branch x) (parent_beyond s o) ≡ true
 parent_there s x apart None is = absurd cc
 parent_there s x apart (Some q) is =
     let it : q ≡ x = cc in
     cond_both (is_branch q s.toward) _ _ (λ (ys : List Neighbor). list_any (λ (y : Neighbor). same y.branch x) ys ≡ true)
     (λ on. (let no : is_branch q s.toward ≡ false = ap (λ b. is_branch b s.toward) it ∙ apart in absurd (cc (on, no)))) (λ away. or_left (same q x) false (same_from_equal q x it))
 
-named_there : (s : Standing) (x : BranchId) → is_branch x s.toward ≡ false → IsNamed s.parent (map kid_branch s.children) x → list_any (λ (y : Neighbor). same y.branch x) (beyond s) ≡ true
+named_there : (s : KeptRow) (x : BranchId) → is_branch x s.toward ≡ false → IsNamed s.parent (map kid_branch s.children) x → list_any (λ (y : Neighbor). same y.branch x) (beyond s) ≡ true
 unfolding beyond
 named_there s x apart (inl above) = list_any-append (λ (y : Neighbor). same y.branch x) (parent_beyond s s.parent) _ ∙ or_left _ _ (parent_there s x apart s.parent above)
 named_there s x apart (inr below) = list_any-append (λ (y : Neighbor). same y.branch x) (parent_beyond s s.parent) _ ∙ or_right (list_any (λ (y : Neighbor). same y.branch x) (parent_beyond s s.parent)) _ (kid_there x s.toward apart s.children below)
@@ -120,5 +120,5 @@ each_told me x (y ∷ ys) is = by (same y.branch x) refl is (each_told me x ys)
     by false here found rest = or_right ((same me me && same y.branch x) && true) _ (rest found)
 
 -- so a neighbour that a row names, and that is not toward, is told
-pub beyond_told : (s : Standing) (x : BranchId) → is_branch x s.toward ≡ false → IsNamed s.parent (map kid_branch s.children) x → was_sent is_forgotten (to_beyond s kinds.Forgotten) s.me x ≡ true
+pub beyond_told : (s : KeptRow) (x : BranchId) → is_branch x s.toward ≡ false → IsNamed s.parent (map kid_branch s.children) x → was_sent is_forgotten (to_beyond s kinds.Forgotten) s.me x ≡ true
 beyond_told s x apart named = each_told s.me x (beyond s) (named_there s x apart named)

@@ -1,11 +1,11 @@
--- In every lawful run each row of a node is found there by its branch, and each branch that began by its id: none is there
--- twice.
+-- In every lawful run each row of a node is found there by its branch, each live branch by its id, and each branch that began
+-- by its id: none is there twice.
 use Rattle.std.proofs.Common.{◌≡◌, ℕ, ◌+◌, ◌≤◌, Bool, true, false, if◌then◌else◌, List, [], ◌∷◌, Some, refl, ap, arith}
 use Rattle.std.specs.List.{AllByRecursion}
 use Rattle.tran_ids.proofs.BranchLemmas.{same_from_equal}
 use Rattle.node_rules.specs.Data.{BranchId}
 use Rattle.node_rules.specs.Words.{same, item_at}
-use Rattle.node_rules.specs.NodeState.{NodeState, standing_id, live_id}
+use Rattle.node_rules.specs.NodeState.{NodeState, kept_row_id, live_id}
 use Rattle.run_rules.specs.Births.{births_of, born_id}
 use Rattle.run_base_laws.specs.BirthLaws.{Began}
 use Rattle.run_rules.specs.Facts.{node_at}
@@ -51,7 +51,11 @@ module _ {A : Type 0} (id : A → BranchId) where
 
 pub rows_found : (t : History) → IsLawfulRun t → (n : ℕ) (k : NodeState) → node_at (facts_at t) n ≡ Some k → Found k.stored.durable.kept
 rows_found t lawful n k up =
-    each_found standing_id k.stored.durable.kept (λ b. (let one : count_of standing_id b k.stored.durable.kept + count_of live_id b k.lives ≤ 1 = ids_are_fresh t lawful n k up b in omega (arith, one)))
+    each_found kept_row_id k.stored.durable.kept (λ b. (let one : count_of kept_row_id b k.stored.durable.kept + count_of live_id b k.lives ≤ 1 = ids_are_fresh t lawful n k up b in omega (arith, one)))
+
+pub lives_found : (t : History) → IsLawfulRun t → (n : ℕ) (k : NodeState) → node_at (facts_at t) n ≡ Some k → AllByRecursion (λ l. item_at live_id k.lives l.me ≡ Some l) k.lives
+lives_found t lawful n k up =
+    each_found live_id k.lives (λ b. (let one : count_of kept_row_id b k.stored.durable.kept + count_of live_id b k.lives ≤ 1 = ids_are_fresh t lawful n k up b in omega (arith, one)))
 
 pub births_found : (t : History) → IsLawfulRun t → AllByRecursion (λ x. Began (births_of t) x) (births_of t)
 births_found t lawful = each_found born_id (births_of t) (no_id_begins_twice t lawful)

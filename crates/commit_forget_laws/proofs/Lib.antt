@@ -13,6 +13,7 @@ pub mod NotedStepLemmas
 pub mod CameHereLemmas
 pub mod AckHeardLemmas
 pub mod ForgottenHeardLemmas
+pub mod SentBackLemmas
 pub mod ForgetStepLemmas
 pub mod ForgetRunLemmas
 pub mod EndedLemmas

@@ -8,7 +8,7 @@ use Rattle.commit_forget.specs.Beyond.{parent_beyond, kid_beyond}
 use Rattle.prepare_phase.specs.Records.{named_children, is_prepared, is_place, peer_record}
 use Rattle.redo_record.specs.Rows.{kid_of}
 use Rattle.session_tree.specs.Live.{is_branch}
-use Rattle.node_rules.specs.Data.{BranchId, Edge, Peer, Standing}
+use Rattle.node_rules.specs.Data.{BranchId, Edge, Peer, KeptRow}
 use Rattle.node_rules.specs.Words.{numbered}
 
 module _ (P Q : BranchId → Type 0) (path : Option ℕ) where
@@ -42,6 +42,6 @@ module _ (P : BranchId → Type 0) (toward : Option BranchId) where
       by true on rest = rest
       by false off rest = (elim all.0 [ inl so ↦ so | inr on ↦ absurd (cc (on, off)) ], rest)
 
-pub parent_so : (P : BranchId → Type 0) (s : Standing) (o : Option BranchId) → ((q : BranchId) → o ≡ Some q → is_branch q s.toward ≡ false → P q) → AllByRecursion (λ (y : Beyond). P y.branch) (parent_beyond s o)
+pub parent_so : (P : BranchId → Type 0) (s : KeptRow) (o : Option BranchId) → ((q : BranchId) → o ≡ Some q → is_branch q s.toward ≡ false → P q) → AllByRecursion (λ (y : Beyond). P y.branch) (parent_beyond s o)
 parent_so P s None each = tt
 parent_so P s (Some q) each = cond_both (is_branch q s.toward) _ _ (AllByRecursion (λ (y : Beyond). P y.branch)) (λ on. tt) (λ off. (each q refl off, tt))

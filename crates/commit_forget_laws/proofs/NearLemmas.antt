@@ -5,10 +5,10 @@ use Rattle.std.proofs.lemmas.Bool.{cond_both, not-true}
 use Rattle.commit_forget.specs.declared.next.Beyond.{Beyond as Neighbor}
 use Rattle.commit_forget.specs.Beyond.{beyond, parent_beyond as parent_neighbor, kid_beyond}
 use Rattle.session_tree.specs.Live.{is_branch}
-use Rattle.node_rules.specs.Data.{BranchId, Kid, Standing}
+use Rattle.node_rules.specs.Data.{BranchId, Kid, KeptRow}
 use Rattle.node_rules.specs.Words.{same}
-use Rattle.node_rules.specs.NodeState.{NodeState, Branch, live_at, branch_at, standing_at, with_work}
-use Rattle.node_rules.specs.Turn.{Is_gone, live_or, stand_of}
+use Rattle.node_rules.specs.NodeState.{NodeState, Branch, live_at, branch_at, kept_row_at, with_work}
+use Rattle.node_rules.specs.Turn.{Is_gone, live_or, status_of}
 use Rattle.run_rules.specs.Births.{Born, born_at}
 use Rattle.run_base_laws.specs.BirthLaws.{IsChild, KeptIs}
 use Rattle.run_rules.proofs.ListLemmas.{all_filter, all_append, all_map}
@@ -32,7 +32,7 @@ far_low false site depth most one two = omega (arith, one, two)
 
 -- ---- the neighbours of a row that are not toward
 
-module _ (B : Born → Type 0) (s : Standing) (is : KeptIs B s) where
+module _ (B : Born → Type 0) (s : KeptRow) (is : KeptIs B s) where
   -- one that is not toward, and is the parent or a child
   abbrev pub IsOff : BranchId → Type 0
   IsOff x = (is_branch x s.toward ≡ false) × ((s.parent ≡ Some x) ⊎ IsChild B x s.me)
@@ -49,11 +49,11 @@ module _ (B : Born → Type 0) (s : Standing) (is : KeptIs B s) where
       (all_filter (λ (c : Kid). IsChild B c.branch s.me) (λ (c : Kid). IsOff c.branch) (λ c. not (is_branch c.branch s.toward)) (λ c off child. (not-true (is_branch c.branch s.toward) off, inr child)) s.children is.kids))
 
 -- nothing of a branch is known that is neither live nor kept
-pub gone_so : (k : NodeState) (b : BranchId) → branch_at k b ≡ None → standing_at k b ≡ None → stand_of k b ≡ Is_gone
-unfolding stand_of
-gone_so k b live row = by (branch_at k b) (standing_at k b) live row
+pub gone_so : (k : NodeState) (b : BranchId) → branch_at k b ≡ None → kept_row_at k b ≡ None → status_of k b ≡ Is_gone
+unfolding status_of
+gone_so k b live row = by (branch_at k b) (kept_row_at k b) live row
   where
-    by : (o : Option Branch) (q : Option Standing) → o ≡ None → q ≡ None → live_or o q ≡ Is_gone
+    by : (o : Option Branch) (q : Option KeptRow) → o ≡ None → q ≡ None → live_or o q ≡ Is_gone
     by None None is it = refl
     by (Some z) q is it = absurd cc
     by None (Some z) is it = absurd cc

@@ -12,13 +12,13 @@ use Rattle.redo_record.specs.Durable.{durable_after}
 use Rattle.redo_record.specs.Kept.{stands_at, ended_commit, forced_state, in_state, met_as, forgot_as, is_done, hidden_as, kept_after}
 use Rattle.redo_record.specs.Rows.{sealed_as, decided_as, has_neighbors}
 use Rattle.session_tree.specs.Live.{is_branch}
-use Rattle.node_rules.specs.Data.{BranchId, Input, Kid, Place, RedoRecord, Standing}
+use Rattle.node_rules.specs.Data.{BranchId, Input, Kid, Place, RedoRecord, KeptRow}
 use Rattle.node_rules.specs.Data.acts
 use Rattle.node_rules.specs.Data.decisions
 use Rattle.node_rules.specs.Data.params
 use Rattle.node_rules.specs.Data.records
 use Rattle.node_rules.specs.Words.{same, change_where, drop_where, put_item}
-use Rattle.node_rules.specs.NodeState.{NodeState, Stored, Deed, standing_id}
+use Rattle.node_rules.specs.NodeState.{NodeState, Stored, TurnDraft, kept_row_id}
 use Rattle.node_rules.specs.Records.{applied}
 use Rattle.node_rules.specs.Prepare.{sealed_record, decided_record}
 use Rattle.node_rules.proofs.Steps as steps
@@ -33,10 +33,10 @@ use Rattle.commit_forget_laws.proofs.TellLemmas.{rows_changed, rows_left, ended_
 
 module _ (x b : BranchId) where
   -- the row of the branch holds it
-  abbrev pub Holds : Standing → Type 0
+  abbrev pub Holds : KeptRow → Type 0
   Holds s = s.me ≡ b → HoldsAck x s
 
-  abbrev pub Held : List Standing → Type 0
+  abbrev pub Held : List KeptRow → Type 0
   Held ks = AllByRecursion Holds ks
 
   -- a record that is not of a new row of the branch
@@ -45,14 +45,14 @@ module _ (x b : BranchId) where
   NotNew (records.Decided r) = r.me ≢ b
   NotNew _ = Unit {0}
 
-  changed : (c : BranchId) (g : Standing → Standing) → ((y : Standing) → (g y).me ≡ y.me) → ((y : Standing) → beyond (g y) ≡ beyond y) → (ks : List Standing) → Held ks → Held (change_where (stands_at c) g ks)
+  changed : (c : BranchId) (g : KeptRow → KeptRow) → ((y : KeptRow) → (g y).me ≡ y.me) → ((y : KeptRow) → beyond (g y) ≡ beyond y) → (ks : List KeptRow) → Held ks → Held (change_where (stands_at c) g ks)
   changed c g me kept ks all =
       rows_changed Holds Holds c g (λ y at so its. subst (λ (bs : List Beyond). AllByRecursion (λ z. z.branch ≡ x → z.acked ≡ true) bs) (sym (kept y)) (so (sym (me y) ∙ its))) (λ y apart so. so) ks all
 
-  left : (test : Standing → Bool) (ks : List Standing) → Held ks → Held (drop_where test ks)
+  left : (test : KeptRow → Bool) (ks : List KeptRow) → Held ks → Held (drop_where test ks)
   left test ks all = rows_left Holds Holds test (λ y passes so. so) ks all
 
-  pub rows_kept : (ks : List Standing) (r : RedoRecord) → NotNew r → Held ks → Held (kept_after ks r)
+  pub rows_kept : (ks : List KeptRow) (r : RedoRecord) → NotNew r → Held ks → Held (kept_after ks r)
   unfolding kept_after
   rows_kept ks (records.Sealed r) new all = all_put Holds (λ y. y.me) ks (sealed_as r) all (λ me. absurd (new me))
   rows_kept ks (records.Decided r) new all = cond_both (has_neighbors (decided_as r)) _ _ Held (λ some. all_put Holds (λ y. y.me) ks (decided_as r) all (λ me. absurd (new me))) (λ alone. all)
@@ -76,16 +76,16 @@ module _ (x b : BranchId) where
   recorded s (records.Param (params.Strength strength)) new all = all
   recorded s r new all = rows_kept s.durable.kept r new all
 
-  held_acked : (s : Standing) (from : BranchId) → Holds s → Holds (acked_by s from)
+  held_acked : (s : KeptRow) (from : BranchId) → Holds s → Holds (acked_by s from)
   held_acked s from so me = acked_so (λ c a. c ≡ x → a ≡ true) (λ c a was is. refl) from s (so me)
 
   module _ (p : Place) (input : Input) where
-    pub held_on : {k : NodeState} {d : Deed} → Step p input k d → IfSome d.wrote NotNew → Held k.stored.durable.kept → Held d.after.stored.durable.kept
+    pub held_on : {k : NodeState} {d : TurnDraft} → Step p input k d → IfSome d.wrote NotNew → Held k.stored.durable.kept → Held d.after.stored.durable.kept
     held_on (steps.Begins n s call rows range none step) new all = held_on step new all
     held_on (steps.Pends n l given call has live code step) new all = held_on step new all
     held_on (steps.Lets_reads_go l comment below live begins step) new all = held_on step new all
     held_on (steps.Counts_ack {k = k} s from kept came counts step) new all =
-        held_on step new (all_with Holds standing_id k.stored.durable.kept (acked_by s from) all (held_acked s from (all_found Holds standing_id k.stored.durable.kept s.me s all kept)))
+        held_on step new (all_with Holds kept_row_id k.stored.durable.kept (acked_by s from) all (held_acked s from (all_found Holds kept_row_id k.stored.durable.kept s.me s all kept)))
     held_on (steps.Acts {k = k} l below acts.Seal why) new all = recorded k.stored (sealed_record k l None) new all
     held_on (steps.Acts {k = k} l below (acts.SealAndPass i) why) new all = recorded k.stored (sealed_record k l (Some i)) new all
     held_on (steps.Acts {k = k} l below acts.Decide why) new all = recorded k.stored (decided_record k l) new all
@@ -116,23 +116,23 @@ module _ (x b : BranchId) where
   -- ---- the row in which the Ack is noted
 
   -- no row of the branch is left
-  none_left : (ks : List Standing) → count_of standing_id b ks ≡ 0 → Held ks
+  none_left : (ks : List KeptRow) → count_of kept_row_id b ks ≡ 0 → Held ks
   none_left [] none = tt
   none_left (z ∷ ks) none = by (same z.me b) refl none (none_left ks)
     where
-      by : (q : Bool) → same z.me b ≡ q → (if q then 1 + count_of standing_id b ks else count_of standing_id b ks) ≡ 0 → (count_of standing_id b ks ≡ 0 → Held ks) → Held (z ∷ ks)
+      by : (q : Bool) → same z.me b ≡ q → (if q then 1 + count_of kept_row_id b ks else count_of kept_row_id b ks) ≡ 0 → (count_of kept_row_id b ks ≡ 0 → Held ks) → Held (z ∷ ks)
       by true is low rest = absurd (omega (arith, low))
       by false is low rest = ((λ me. (let yes : same z.me b ≡ true = same_from_equal z.me b me in absurd (cc (yes, is)))), rest low)
 
-  pub put_once : (ks : List Standing) (y : Standing) → y.me ≡ b → count_of standing_id b ks ≤ 1 → HoldsAck x y → Held (put_item standing_id ks y)
+  pub put_once : (ks : List KeptRow) (y : KeptRow) → y.me ≡ b → count_of kept_row_id b ks ≤ 1 → HoldsAck x y → Held (put_item kept_row_id ks y)
   put_once [] y me one so = ((λ its. so), tt)
   put_once (z ∷ ks) y me one so = by (same z.me y.me) refl (put_once ks y me)
     where
-      low : (q : Bool) → same z.me b ≡ q → (if q then 1 + count_of standing_id b ks else count_of standing_id b ks) ≤ 1 → (q ≡ true → count_of standing_id b ks ≡ 0) × (count_of standing_id b ks ≤ 1)
+      low : (q : Bool) → same z.me b ≡ q → (if q then 1 + count_of kept_row_id b ks else count_of kept_row_id b ks) ≤ 1 → (q ≡ true → count_of kept_row_id b ks ≡ 0) × (count_of kept_row_id b ks ≤ 1)
       low true is few = ((λ yes. omega (arith, few)), omega (arith, few))
       low false is few = ((λ yes. absurd cc), few)
 
-      by : (q : Bool) → same z.me y.me ≡ q → (count_of standing_id b ks ≤ 1 → HoldsAck x y → Held (put_item standing_id ks y)) → Held (if q then y ∷ ks else z ∷ put_item standing_id ks y)
+      by : (q : Bool) → same z.me y.me ≡ q → (count_of kept_row_id b ks ≤ 1 → HoldsAck x y → Held (put_item kept_row_id ks y)) → Held (if q then y ∷ ks else z ∷ put_item kept_row_id ks y)
       by true is rest = ((λ its. so), none_left ks ((low (same z.me b) refl one).0 (ap (same z.me) (sym me) ∙ is)))
       by false is rest = ((λ its. (let yes : same z.me y.me ≡ true = same_from_equal z.me y.me (its ∙ sym me) in absurd (cc (yes, is)))), rest (low (same z.me b) refl one).1 so)
 
@@ -143,7 +143,7 @@ module _ (x : BranchId) where
   or_true true q is = refl
   or_true false q is = is
 
-  up_held : (s : Standing) (o : Option BranchId) → s.parent ≡ o → AllByRecursion (λ (z : Beyond). z.branch ≡ x → z.acked ≡ true) (parent_beyond (acked_by s x) o)
+  up_held : (s : KeptRow) (o : Option BranchId) → s.parent ≡ o → AllByRecursion (λ (z : Beyond). z.branch ≡ x → z.acked ≡ true) (parent_beyond (acked_by s x) o)
   up_held s None is = tt
   up_held s (Some q) is =
       cond_both (is_branch q s.toward) _ _ (AllByRecursion (λ (z : Beyond). z.branch ≡ x → z.acked ≡ true)) (λ on. tt)
@@ -158,12 +158,12 @@ module _ (x : BranchId) where
       one : (acks_kid x c).branch ≡ x → (acks_kid x c).acked ≡ true
       one = cond_both (same c.branch x) (record c { acked = true }) c (λ y. y.branch ≡ x → y.acked ≡ true) (λ here at. refl) (λ other at. (let yes : same c.branch x ≡ true = same_from_equal c.branch x at in absurd (cc (yes, other))))
 
-  pub now_held : (s : Standing) → HoldsAck x (acked_by s x)
+  pub now_held : (s : KeptRow) → HoldsAck x (acked_by s x)
   unfolding beyond
   now_held s = all_append (λ (z : Beyond). z.branch ≡ x → z.acked ≡ true) (parent_beyond (acked_by s x) s.parent) _ (up_held s s.parent refl) (down_held s.toward s.children)
 
   -- one that does not name it has nothing to hold
-  pub none_named : (s : Standing) → is_beyond s x ≡ false → HoldsAck x s
+  pub none_named : (s : KeptRow) → is_beyond s x ≡ false → HoldsAck x s
   none_named s none = by (beyond s) none
     where
       by : (bs : List Beyond) → list_any (λ (y : Beyond). same y.branch x) bs ≡ false → AllByRecursion (λ (z : Beyond). z.branch ≡ x → z.acked ≡ true) bs

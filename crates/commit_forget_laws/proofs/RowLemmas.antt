@@ -10,7 +10,7 @@ use Rattle.redo_record.specs.Rows.{kid_of, sealed_as, decided_as, has_neighbors}
 use Rattle.session_tree.specs.Live.{is_branch}
 use Rattle.agreement.specs.Events.{Event, Sealed, Seal, Decide, Force, Learn, Forget, Has}
 use Rattle.agreement.proofs.EventLemmas.{exit_stays}
-use Rattle.node_rules.specs.Data.{BranchId, Decision, Kid, Peer, Post, Standing, Sealed as SealedRecord, Decided as DecidedRecord}
+use Rattle.node_rules.specs.Data.{BranchId, Decision, Kid, Peer, Post, KeptRow, Sealed as SealedRecord, Decided as DecidedRecord}
 use Rattle.node_rules.specs.Data.decisions
 use Rattle.node_rules.specs.Data.kinds
 use Rattle.node_rules.specs.Data.states
@@ -30,7 +30,7 @@ kid_unacked toward ps =
     all_map (λ (y : Beyond). y.acked ≡ false) kid_beyond (filter (λ c. not (is_branch c.branch toward)) (map kid_of ps))
     (all_filter (λ (c : Kid). c.acked ≡ false) (λ (c : Kid). c.acked ≡ false) (λ c. not (is_branch c.branch toward)) (λ c off is. is) (map kid_of ps) (all_each (λ (c : Kid). c.acked ≡ false) kid_of ps (λ q. refl)))
 
-parent_unacked : (s : Standing) → s.parent_acked ≡ false → (o : Option BranchId) → AllByRecursion (λ (y : Beyond). y.acked ≡ false) (parent_beyond s o)
+parent_unacked : (s : KeptRow) → s.parent_acked ≡ false → (o : Option BranchId) → AllByRecursion (λ (y : Beyond). y.acked ≡ false) (parent_beyond s o)
 parent_unacked s none None = tt
 parent_unacked s none (Some b) = cond_both (is_branch b s.toward) _ _ (AllByRecursion (λ (y : Beyond). y.acked ≡ false)) (λ on. tt) (λ off. (none, tt))
 
@@ -86,11 +86,11 @@ module _ (said : List Post) (t : List Event) (bound : ℕ) where
   -- ---- the commit is learned
 
   -- what is passed on where nobody is beyond
-  passed_ack : (s : Standing) (n : ℕ) (bs : List Beyond) → bs ≡ [] → (q : BranchId) → s.toward ≡ Some q → was_sent is_ack (passes_commit s n bs) s.me q ≡ true
+  passed_ack : (s : KeptRow) (n : ℕ) (bs : List Beyond) → bs ≡ [] → (q : BranchId) → s.toward ≡ Some q → was_sent is_ack (passes_commit s n bs) s.me q ≡ true
   passed_ack s n [] none q at = one_sent is_ack s.me kinds.Ack s.toward q refl at
   passed_ack s n (y ∷ ys) none q at = absurd cc
 
-  learnt_acks : (s : Standing) (n : ℕ) (y : Standing) → y.me ≡ s.me → y.toward ≡ s.toward → beyond y ≡ beyond s → AllByRecursion (λ z. z.acked ≡ false) (beyond s) → (q : BranchId) → s.toward ≡ Some q
+  learnt_acks : (s : KeptRow) (n : ℕ) (y : KeptRow) → y.me ≡ s.me → y.toward ≡ s.toward → beyond y ≡ beyond s → AllByRecursion (λ z. z.acked ≡ false) (beyond s) → (q : BranchId) → s.toward ≡ Some q
       → all_acked y ≡ true → SaidAck (said ++ passes s (decisions.Commit n)) y
   learnt_acks s n y me toward same_beyond none q at all =
       let empty : beyond s ≡ [] = none_acked (beyond s) none (subst (λ (bs : List Beyond). list_all (λ z. z.acked) bs ≡ true) same_beyond all) in
@@ -98,7 +98,7 @@ module _ (said : List Post) (t : List Event) (bound : ℕ) where
       (q, toward ∙ at, subst (λ b. was_sent is_ack (said ++ passes s (decisions.Commit n)) b q ≡ true) (sym me) (sent_new is_ack said (passes s (decisions.Commit n)) s.me q told))
 
   -- a sealed branch learns the commit
-  pub ended_tells : (n : ℕ) (s : Standing) → s.decision ≡ None → s.state ≡ states.Sealed → (q : BranchId) → s.toward ≡ Some q → Tells said t bound s
+  pub ended_tells : (n : ℕ) (s : KeptRow) → s.decision ≡ None → s.state ≡ states.Sealed → (q : BranchId) → s.toward ≡ Some q → Tells said t bound s
       → Tells (said ++ passes s (decisions.Commit n)) (Learn s.me (decisions.Commit n) None ∷ t) bound (ended_commit n s)
   ended_tells n s none sealed q at (inr old) = inr old
   ended_tells n s none sealed q at (inl is) =
@@ -115,7 +115,7 @@ module _ (said : List Post) (t : List Event) (bound : ℕ) where
       )
 
   -- so does a forced one
-  pub met_tells : (n : ℕ) (mixed : Bool) (s : Standing) → s.decision ≡ None → is_forced s.state ≡ true → (q : BranchId) → s.toward ≡ Some q → Tells said t bound s
+  pub met_tells : (n : ℕ) (mixed : Bool) (s : KeptRow) → s.decision ≡ None → is_forced s.state ≡ true → (q : BranchId) → s.toward ≡ Some q → Tells said t bound s
       → Tells (said ++ passes s (decisions.Commit n)) (Learn s.me (decisions.Commit n) (Some mixed) ∷ t) bound (met_as (decisions.Commit n) mixed s)
   met_tells n mixed s none was q at (inr old) = inr old
   met_tells n mixed s none was q at (inl is) =
@@ -132,7 +132,7 @@ module _ (said : List Post) (t : List Event) (bound : ℕ) where
       )
 
   -- a mixed branch learns the rollback
-  pub met_rollback_tells : (says : List Post) (mixed : Bool) (s : Standing) → is_forced s.state ≡ true → Tells said t bound s → Tells (said ++ says) (Learn s.me decisions.Rollback (Some mixed) ∷ t) bound (met_as decisions.Rollback mixed s)
+  pub met_rollback_tells : (says : List Post) (mixed : Bool) (s : KeptRow) → is_forced s.state ≡ true → Tells said t bound s → Tells (said ++ says) (Learn s.me decisions.Rollback (Some mixed) ∷ t) bound (met_as decisions.Rollback mixed s)
   met_rollback_tells says mixed s was (inr old) = inr old
   met_rollback_tells says mixed s was (inl is) =
       let e : Event = Learn s.me decisions.Rollback (Some mixed) in
@@ -153,7 +153,7 @@ module _ (said : List Post) (t : List Event) (bound : ℕ) where
   forced_is (decisions.Commit n) = refl
   forced_is decisions.Rollback = refl
 
-  pub forced_tells : (says : List Post) (d : Decision) (s : Standing) → Tells said t bound s → Tells (said ++ says) (Force s.me d ∷ t) bound (in_state (forced_state d) s)
+  pub forced_tells : (says : List Post) (d : Decision) (s : KeptRow) → Tells said t bound s → Tells (said ++ says) (Force s.me d ∷ t) bound (in_state (forced_state d) s)
   forced_tells says d s (inr old) = inr old
   forced_tells says d s (inl is) =
       let e : Event = Force s.me d in
@@ -169,7 +169,7 @@ module _ (said : List Post) (t : List Event) (bound : ℕ) where
         λ knows new all. acks_more said says s is.1 knows new (subst (λ (bs : List Beyond). list_all (λ z. z.acked) bs ≡ true) (state_beyond (forced_state d) s) all),
       )
 
-  pub hidden_tells : (says : List Post) (s : Standing) → Tells said t bound s → Tells (said ++ says) t bound (hidden_as s)
+  pub hidden_tells : (says : List Post) (s : KeptRow) → Tells said t bound s → Tells (said ++ says) t bound (hidden_as s)
   hidden_tells says s (inr old) = inr old
   hidden_tells says s (inl is) =
       inl (
@@ -190,15 +190,15 @@ module _ (said : List Post) (t : List Event) (bound : ℕ) where
   mixed_if false m is here = absurd cc
 
   -- the row of a branch that forgets goes, or it was mixed
-  pub forgot_tells : (says : List Post) (b : BranchId) (ks : List Standing) → AllByRecursion (TellsBut said t bound b) ks → AllByRecursion (Tells (said ++ says) (Forget b ∷ t) bound) (forgotten ks b)
+  pub forgot_tells : (says : List Post) (b : BranchId) (ks : List KeptRow) → AllByRecursion (TellsBut said t bound b) ks → AllByRecursion (Tells (said ++ says) (Forget b ∷ t) bound) (forgotten ks b)
   forgot_tells says b ks all =
       rows_changed Left (Tells (said ++ says) (Forget b ∷ t) bound) b forgot_as own other (drop_where (is_done b) ks)
       (rows_left (TellsBut said t bound b) Left (is_done b) (λ x stays is. (is, λ me. mixed_if (same x.me b) x.mixed stays (same_from_equal x.me b me))) ks all)
     where
-      Left : Standing → Type 0
+      Left : KeptRow → Type 0
       Left x = TellsBut said t bound b x × (x.me ≡ b → x.mixed ≡ true)
 
-      own : (x : Standing) → x.me ≡ b → Left x → Tells (said ++ says) (Forget b ∷ t) bound (forgot_as x)
+      own : (x : KeptRow) → x.me ≡ b → Left x → Tells (said ++ says) (Forget b ∷ t) bound (forgot_as x)
       own x me is = elim is.0 [
         | inr old ↦ inr old
         | inl so ↦ inl (
@@ -212,7 +212,7 @@ module _ (said : List Post) (t : List Event) (bound : ℕ) where
         )
       ]
 
-      other : (x : Standing) → same x.me b ≡ false → Left x → Tells (said ++ says) (Forget b ∷ t) bound x
+      other : (x : KeptRow) → same x.me b ≡ false → Left x → Tells (said ++ says) (Forget b ∷ t) bound x
       other x apart is = elim is.0 [
         | inr old ↦ inr old
         | inl so ↦ (let stays : Stays t (Forget b ∷ t) x.me = stays_with t (Forget b) x.me (λ at. (let it : b ≡ x.me = cc in let yes : same x.me b ≡ true = same_from_equal x.me b (sym it) in absurd (cc (apart, yes)))) in

@@ -6,14 +6,14 @@ use Rattle.std.specs.Option.{option_to_list}
 use Rattle.std.specs.List.{AllByRecursion}
 use Rattle.redo_record.specs.Durable.{durable_after}
 use Rattle.agreement.specs.Events.{Event, Forget, exit, Has}
-use Rattle.node_rules.specs.Data.{BranchId, Input, Kind, Msg, Place, Post, RedoRecord, Standing}
+use Rattle.node_rules.specs.Data.{BranchId, Input, Kind, Msg, Place, Post, RedoRecord, KeptRow}
 use Rattle.node_rules.specs.Data.inputs
 use Rattle.node_rules.specs.Data.kinds
 use Rattle.node_rules.specs.Data.records
 use Rattle.node_rules.specs.Inputs.{Came}
-use Rattle.node_rules.specs.NodeState.{NodeState, Deed}
+use Rattle.node_rules.specs.NodeState.{NodeState, TurnDraft}
 use Rattle.node_rules.specs.Records.{applied, nothing_stored, stored_by}
-use Rattle.node_rules.specs.Turn.{turn_of, start_of, heard, deed_of, kind_turn, ack_turn, stand_of}
+use Rattle.node_rules.specs.Turn.{turn_of, start_of, heard, draft_of, kind_turn, ack_turn, status_of}
 use Rattle.run_rules.specs.Data.{Happening, Turn}
 use Rattle.run_rules.specs.Data.happenings
 use Rattle.run_base_laws.specs.EventRows.{MayStand}
@@ -36,24 +36,26 @@ use Rattle.run_base_laws.proofs.StoredLemmas.{stored_with}
 use Rattle.run_branch_laws.proofs.TowardLemmas.{heard_rows}
 use Rattle.run_base_laws.proofs.TurnEventLemmas.{all_both, cases_nat, record_own}
 use Rattle.tree_laws.specs.RecordLaws.{RecordLeads, WritesAsTold}
-use Rattle.tree_laws.proofs.PrefixLemmas.{so_far, f_at, e_at, one_on, more_on}
+use Rattle.tree_laws.proofs.PrefixLemmas.{f_at, e_at, one_on, more_on}
 use Rattle.tree_laws.proofs.RecordRunLemmas.{records_are_as_told}
-use Rattle.tree_site_laws.proofs.TimeLemmas.{part_of, part_lawful, may_of, fact_at, exit_on, keep_on}
+use Rattle.tree_laws.proofs.TimeLemmas.{may_of, fact_at, exit_on, keep_on}
 use Rattle.commit_laws.specs.WaitLaws.{HasStopped}
 use Rattle.commit_forget_laws.specs.RowLaws.{is_ack, RowTells, RowsTell}
 use Rattle.commit_forget_laws.proofs.AckTurnLemmas.{ack_rows}
-use Rattle.commit_forget_laws.proofs.EventLemmas.{part_inv, forgot_left, turn_back, stop_back, wrote_back}
+use Rattle.tree_laws.proofs.MoreLemmas.{inv_at}
+use Rattle.commit_forget_laws.proofs.EventLemmas.{forgot_left, turn_back, stop_back, wrote_back}
 use Rattle.commit_forget_laws.proofs.TellLemmas.{Tells, Stays, plain_stays, tells_stays}
 use Rattle.commit_forget_laws.proofs.RowStepLemmas.{After, Found, rows_on}
-use Rattle.commit_forget_laws.proofs.VotedLemmas.{deed_voted}
+use Rattle.commit_forget_laws.proofs.VotedLemmas.{draft_voted}
 use Rattle.commit_forget_laws.proofs.FoundRowLemmas.{rows_found}
+use Rattle.tree_laws.proofs.AtTurn.{at_happening}
 
-ack_is : (kind : Kind) → is_ack kind ≡ true → kind ≡ kinds.Ack
+pub ack_is : (kind : Kind) → is_ack kind ≡ true → kind ≡ kinds.Ack
 ack_is kinds.Ack is = refl
 ack_is _ is = absurd cc
 
 -- with more events alone
-pub tells_later : (said : List Post) (t r : List Event) (bound : ℕ) (s : Standing) → Stays t r s.me → Tells said t bound s → Tells said r bound s
+pub tells_later : (said : List Post) (t r : List Event) (bound : ℕ) (s : KeptRow) → Stays t r s.me → Tells said t bound s → Tells said r bound s
 tells_later said t r bound s stays (inl is) = inl (plain_stays t r s stays is.0, is.1)
 tells_later said t r bound s stays (inr old) = inr old
 
@@ -63,17 +65,7 @@ module _ (t : History) (whole : IsLawfulRun t) where
   NodesTell f e = (n : ℕ) (k : NodeState) → node_at f n ≡ Some k → AllByRecursion (Tells (said_in f) e (boots (records_at f n))) k.stored.durable.kept
 
   module _ (hs : List Happening) (h : Happening) (rest : List Happening) (is : hs ++ h ∷ rest ≡ t.trace) (now : NodesTell (f_at t hs) (e_at t hs)) where
-    abbrev f : Facts
-    f = f_at t hs
-
-    abbrev e : List Event
-    e = e_at t hs
-
-    abbrev s : History
-    s = so_far t hs
-
-    lawful : IsLawfulRun s
-    lawful = part_lawful t whole hs (part_of t whole hs h rest is)
+    open at_happening t whole hs h rest is use {f, e, s, lawful}
 
     abbrev after_h : Happening → Facts
     after_h y = facts_after t.places t.commands f y
@@ -82,7 +74,7 @@ module _ (t : History) (whole : IsLawfulRun t) where
     events_h y = events_after t.places t.commands f y e
 
     known : (b : BranchId) → Has (Forget b) e → exit e b ≢ None
-    known b has = forgot_left _ e (part_inv s lawful hs (record { rest = []; is = append-nil hs })) b has
+    known b has = forgot_left _ e (inv_at s lawful hs (record { rest = []; is = append-nil hs })) b has
 
     rows_here : (n : ℕ) (k : NodeState) → node_at f n ≡ Some k → AllByRecursion (λ x. Tells (said_in f) e (boots (records_at f n)) x × (x.me.node ≡ n)) k.stored.durable.kept
     rows_here n k up = all_both _ _ k.stored.durable.kept (now n k up) (ids_name_their_node s lawful n k up).rows
@@ -108,20 +100,20 @@ module _ (t : History) (whole : IsLawfulRun t) where
       abbrev bound : ℕ
       bound = boots (records_at f u.node)
 
-      abbrev d : Deed
-      d = deed_of p k u.input
+      abbrev d : TurnDraft
+      d = draft_of p k u.input
 
       abbrev g : Facts
       g = after_h (happenings.Turn u)
 
-      abbrev Left : Deed → Type 0
+      abbrev Left : TurnDraft → Type 0
       Left x = After (said_in f) e bound u.node known x
 
       found0 : (i : Input) → Found (heard k i).stored.durable.kept
       found0 i = subst Found (sym (heard_rows k i)) (rows_found s lawful u.node k may.up)
 
       rows0 : (i : Input) → AllByRecursion (Tells (said_in f) e bound) (heard k i).stored.durable.kept
-      rows0 i = subst (λ (ks : List Standing). AllByRecursion (Tells (said_in f) e bound) ks) (sym (heard_rows k i)) (now u.node k may.up)
+      rows0 i = subst (λ (ks : List KeptRow). AllByRecursion (Tells (said_in f) e bound) ks) (sym (heard_rows k i)) (now u.node k may.up)
 
       leads : IfSome u.wrote (RecordLeads (said_in f))
       leads =
@@ -135,14 +127,14 @@ module _ (t : History) (whole : IsLawfulRun t) where
         by_step : ((from to : BranchId) → Came u.input from to kinds.Ack → ⊥) → Left d
         by_step never =
             rows_on (said_in f) e bound u.node known p u.input never (serves t.places f u k may).step (subst (λ w. IfSome w (MayStand e)) wrote stands)
-            (deed_voted t hs lawful u k may (subst (λ w. IfSome w (RecordLeads (said_in f))) wrote leads)) (found0 u.input) (rows0 u.input)
+            (draft_voted t hs lawful u k may (subst (λ w. IfSome w (RecordLeads (said_in f))) wrote leads)) (found0 u.input) (rows0 u.input)
 
         by_ack : (m : Msg) → u.input ≡ inputs.Message m → m.kind ≡ kinds.Ack → Left d
         by_ack m it kind =
             let k0 : NodeState = heard k (inputs.Message m) in
-            let left : Left (ack_turn k0 m.from m.to (stand_of k0 m.to)) = ack_rows (said_in f) e bound u.node known k0 m.from m.to (rows0 (inputs.Message m)) in
-            let same_turn : Left (kind_turn p k0 m.from m.to m.kind (stand_of k0 m.to)) = subst (λ x. Left (kind_turn p k0 m.from m.to x (stand_of k0 m.to))) (sym kind) left in
-            subst (λ i. Left (deed_of p k i)) (sym it) same_turn
+            let left : Left (ack_turn k0 m.from m.to (status_of k0 m.to)) = ack_rows (said_in f) e bound u.node known k0 m.from m.to (rows0 (inputs.Message m)) in
+            let same_turn : Left (kind_turn p k0 m.from m.to m.kind (status_of k0 m.to)) = subst (λ x. Left (kind_turn p k0 m.from m.to x (status_of k0 m.to))) (sym kind) left in
+            subst (λ i. Left (draft_of p k i)) (sym it) same_turn
 
         by_input : (i : Input) → u.input ≡ i → Left d
         by_input (inputs.Message m) it = by_kind (is_ack m.kind) refl
@@ -231,22 +223,22 @@ module _ (t : History) (whole : IsLawfulRun t) where
       unfolding applied durable_after
       booted = ap (λ x. x.durable.kept) (stored_with (records_at f m) (Some (records.Boot boot)))
 
-      low_one : (x : Standing) → exit e x.me ≢ None → x.me.node ≡ m → x.me.boot < boots zs
+      low_one : (x : KeptRow) → exit e x.me ≢ None → x.me.node ≡ m → x.me.boot < boots zs
       low_one x left node =
           let given = ((run_stands s lawful).1.given x.me left).0 in
           let old : x.me.boot ≤ boots (records_at f m) = subst (λ i. x.me.boot ≤ boots (records_at f i)) node given in
           let one : boots zs ≡ boots (records_at f m) + 1 = boots_started (records_at f m) boot in
           omega (arith, old, one)
 
-      low_rows : AllByRecursion (λ (x : Standing). x.me.boot < boots zs) (stored_rows f m)
+      low_rows : AllByRecursion (λ (x : KeptRow). x.me.boot < boots zs) (stored_rows f m)
       low_rows =
           all_weaker _ _ (λ x so. low_one x so.0 so.1) (stored_rows f m)
-          (all_both (λ (x : Standing). exit e x.me ≢ None) (λ (x : Standing). x.me.node ≡ m) (stored_rows f m) (all_weaker _ _ (λ x so. so.left) (stored_rows f m) ((run_stands s lawful).1.rows m))
+          (all_both (λ (x : KeptRow). exit e x.me ≢ None) (λ (x : KeptRow). x.me.node ≡ m) (stored_rows f m) (all_weaker _ _ (λ x so. so.left) (stored_rows f m) ((run_stands s lawful).1.rows m))
           (rows_stored (λ b. b.node ≡ m) nothing_stored (records_at f m) ((run_stands s lawful).1.own m) tt))
 
       started : (said : List Post) (r : List Event) → AllByRecursion (Tells said r (boots zs)) (start_of zs).stored.durable.kept
       unfolding start_of
-      started said r = subst (λ (ks : List Standing). AllByRecursion (Tells said r (boots zs)) ks) (sym booted) (all_weaker _ _ (λ x low. inr low) (stored_rows f m) low_rows)
+      started said r = subst (λ (ks : List KeptRow). AllByRecursion (Tells said r (boots zs)) ks) (sym booted) (all_weaker _ _ (λ x low. inr low) (stored_rows f m) low_rows)
 
       start_tells : NodesTell (after_h (happenings.Started m boot)) (events_h (happenings.Started m boot))
       start_tells n j up = elim (cases_nat m n) [
@@ -290,6 +282,6 @@ pub rows_tell : RowsTell
 rows_tell t whole n k up =
     all_weaker _ _ (λ x so. by x so.0 so.1) k.stored.durable.kept (all_both _ _ k.stored.durable.kept (run_tells t whole n k up) (ids_name_their_node t whole n k up).rows)
   where
-    by : (x : Standing) → Tells (said_in (facts_at t)) (events_of t) (boots (records_at (facts_at t) n)) x → x.me.node ≡ n → RowTells (said_in (facts_at t)) (events_of t) x ⊎ HasStopped (facts_at t) x.me
+    by : (x : KeptRow) → Tells (said_in (facts_at t)) (events_of t) (boots (records_at (facts_at t) n)) x → x.me.node ≡ n → RowTells (said_in (facts_at t)) (events_of t) x ⊎ HasStopped (facts_at t) x.me
     by x (inl so) node = inl (record { sealed = so.0.sealed; acks = so.1; plain = λ un. (so.0.whole un).1; forgets = so.0.forgets })
     by x (inr old) node = inr (λ j there. subst (λ i. x.me.boot < boots (records_at (facts_at t) i)) (sym node) old)

@@ -9,7 +9,7 @@ use Rattle.redo_record.specs.Durable.{durable_after}
 use Rattle.redo_record.specs.Kept.{stands_at, ended_commit, forced_state, in_state, met_as, hidden_as, kept_after}
 use Rattle.redo_record.specs.Rows.{sealed_as, decided_as, has_neighbors}
 use Rattle.agreement.specs.Events.{Event, Seal, Decide, Force, Learn, Forget, Make, exit, Has}
-use Rattle.node_rules.specs.Data.{BranchId, Decision, Input, Place, Post, RedoRecord, Standing, State, Sealed as SealedRecord, Decided as DecidedRecord}
+use Rattle.node_rules.specs.Data.{BranchId, Decision, Input, Place, Post, RedoRecord, KeptRow, State, Sealed as SealedRecord, Decided as DecidedRecord}
 use Rattle.node_rules.specs.Data.acts
 use Rattle.node_rules.specs.Data.decisions
 use Rattle.node_rules.specs.Data.kinds
@@ -18,12 +18,12 @@ use Rattle.node_rules.specs.Data.records
 use Rattle.node_rules.specs.Data.states
 use Rattle.node_rules.specs.Inputs.{Came}
 use Rattle.node_rules.specs.Words.{item_at, change_where, drop_where}
-use Rattle.node_rules.specs.NodeState.{NodeState, Stored, Deed, standing_id}
+use Rattle.node_rules.specs.NodeState.{NodeState, Stored, TurnDraft, kept_row_id}
 use Rattle.node_rules.specs.Records.{applied}
 use Rattle.node_rules.specs.Prepare.{sealed_of, decided_of, own_changes}
 use Rattle.node_rules.specs.Commit.{passes, to_beyond}
 use Rattle.node_rules.proofs.Steps as steps
-use Rattle.node_rules.proofs.Steps.{Step, Doing, Acting, IsKept}
+use Rattle.node_rules.proofs.Steps.{Step, Doing}
 use Rattle.node_rules.proofs.StepLemmas.{branch_found}
 use Rattle.run_base_laws.specs.EventRows.{MayStand}
 use Rattle.run_base_laws.specs.RunEvents.{with_event, wrote_event}
@@ -40,8 +40,8 @@ RecordVoted t (records.Decided r) = AllByRecursion (λ y. IsSealed t y.branch) (
 RecordVoted t _ = Unit {0}
 
 -- each row is found by its branch
-abbrev pub Found : List Standing → Type 0
-Found ks = AllByRecursion (λ s. item_at standing_id ks s.me ≡ Some s) ks
+abbrev pub Found : List KeptRow → Type 0
+Found ks = AllByRecursion (λ s. item_at kept_row_id ks s.me ≡ Some s) ks
 
 forced_if : (state : State) → state ≢ states.Sealed → state ≢ states.Committed → is_forced state ≡ true
 forced_if states.Sealed one two = absurd (one refl)
@@ -50,19 +50,19 @@ forced_if (states.ForcedCommit n) one two = refl
 forced_if states.ForcedRollback one two = refl
 
 module _ (said : List Post) (t : List Event) (bound node : ℕ) (known : (b : BranchId) → Has (Forget b) t → exit t b ≢ None) where
-  abbrev pub AllTell : List Standing → Type 0
+  abbrev pub AllTell : List KeptRow → Type 0
   AllTell ks = AllByRecursion (Tells said t bound) ks
 
-  -- what a deed leaves
-  abbrev pub After : Deed → Type 0
+  -- what a draft leaves
+  abbrev pub After : TurnDraft → Type 0
   After d = AllByRecursion (Tells (said ++ d.says) (with_event (wrote_event node d.wrote) t) bound) d.after.stored.durable.kept
 
   -- with more messages
-  pub more : (says : List Post) (ks : List Standing) → AllTell ks → AllByRecursion (Tells (said ++ says) t bound) ks
+  pub more : (says : List Post) (ks : List KeptRow) → AllTell ks → AllByRecursion (Tells (said ++ says) t bound) ks
   more says ks all = all_weaker (Tells said t bound) _ (λ x is. tells_stays said says t t bound x (stays_same t x.me) is) ks all
 
   -- and one event that is no Forget
-  later : (says : List Post) (e : Event) → ((b : BranchId) → e ≡ Forget b → ⊥) → (ks : List Standing) → AllTell ks → AllByRecursion (Tells (said ++ says) (e ∷ t) bound) ks
+  later : (says : List Post) (e : Event) → ((b : BranchId) → e ≡ Forget b → ⊥) → (ks : List KeptRow) → AllTell ks → AllByRecursion (Tells (said ++ says) (e ∷ t) bound) ks
   later says e other ks all = all_weaker (Tells said t bound) _ (λ x is. tells_stays said says t (e ∷ t) bound x (stays_with t e x.me (other x.me)) is) ks all
 
   unforgotten : (b : BranchId) → exit t b ≡ None → Has (Forget b) t → ⊥
@@ -87,15 +87,15 @@ module _ (said : List Post) (t : List Event) (bound node : ℕ) (known : (b : Br
       (λ some. all_put (Tells (said ++ says) (e ∷ t) bound) (λ y. y.me) s.durable.kept (decided_as r) old (decided_tells said t bound says r (unforgotten r.me may) voted some)) (λ alone. old)
 
   -- a row, and that it is found
-  abbrev Here : List Standing → Standing → Type 0
-  Here ks x = Tells said t bound x × (item_at standing_id ks x.me ≡ Some x)
+  abbrev Here : List KeptRow → KeptRow → Type 0
+  Here ks x = Tells said t bound x × (item_at kept_row_id ks x.me ≡ Some x)
 
-  module _ (ks : List Standing) (s : Standing) (kept : item_at standing_id ks s.me ≡ Some s) where
-    its_row : (x : Standing) → x.me ≡ s.me → item_at standing_id ks x.me ≡ Some x → x ≡ s
-    its_row x me found = let here : item_at standing_id ks s.me ≡ Some x = subst (λ b. item_at standing_id ks b ≡ Some x) me found in let both : Some x ≡ Some s = sym here ∙ kept in cc
+  module _ (ks : List KeptRow) (s : KeptRow) (kept : item_at kept_row_id ks s.me ≡ Some s) where
+    its_row : (x : KeptRow) → x.me ≡ s.me → item_at kept_row_id ks x.me ≡ Some x → x ≡ s
+    its_row x me found = let here : item_at kept_row_id ks s.me ≡ Some x = subst (λ b. item_at kept_row_id ks b ≡ Some x) me found in let both : Some x ≡ Some s = sym here ∙ kept in cc
 
     -- its row is changed, with an event
-    changed : (says : List Post) (e : Event) → ((b : BranchId) → e ≡ Forget b → ⊥) → (g : Standing → Standing) → (Tells said t bound s → Tells (said ++ says) (e ∷ t) bound (g s)) → Found ks → AllTell ks
+    changed : (says : List Post) (e : Event) → ((b : BranchId) → e ≡ Forget b → ⊥) → (g : KeptRow → KeptRow) → (Tells said t bound s → Tells (said ++ says) (e ∷ t) bound (g s)) → Found ks → AllTell ks
         → AllByRecursion (Tells (said ++ says) (e ∷ t) bound) (change_where (stands_at s.me) g ks)
     changed says e other g own found all =
         rows_changed (Here ks) (Tells (said ++ says) (e ∷ t) bound) s.me g
@@ -108,13 +108,13 @@ module _ (said : List Post) (t : List Event) (bound node : ℕ) (known : (b : Br
         rows_left (Tells said t bound) (Tells (said ++ says) (e ∷ t) bound) (stands_at s.me) (λ x apart is. tells_stays said says t (e ∷ t) bound x (stays_with t e x.me (other x.me)) is) ks all
 
   -- why a sealed branch learns, and a forced one
-  ends_why : {clock : ℕ} {input : Input} {s : Standing} {from : BranchId} {d : Decision} → Doing clock input s from (nexts.End d) → (s.toward ≡ Some from) × (s.decision ≡ None) × (s.state ≡ states.Sealed)
+  ends_why : {clock : ℕ} {input : Input} {s : KeptRow} {from : BranchId} {d : Decision} → Doing clock input s from (nexts.End d) → (s.toward ≡ Some from) × (s.decision ≡ None) × (s.state ≡ states.Sealed)
   ends_why {s = s} {from = from} (steps.Ends_so d brings toward none sealed met) = (branch_found from s.toward toward, none, sealed)
 
-  meets_why : {clock : ℕ} {input : Input} {s : Standing} {from : BranchId} {d : Decision} {mixed : Bool} → Doing clock input s from (nexts.Meet d mixed) → (s.toward ≡ Some from) × (s.decision ≡ None) × (is_forced s.state ≡ true)
+  meets_why : {clock : ℕ} {input : Input} {s : KeptRow} {from : BranchId} {d : Decision} {mixed : Bool} → Doing clock input s from (nexts.Meet d mixed) → (s.toward ≡ Some from) × (s.decision ≡ None) × (is_forced s.state ≡ true)
   meets_why {s = s} {from = from} (steps.Meets_so d brings toward none unsealed uncommitted met) = (branch_found from s.toward toward, none, forced_if s.state unsealed uncommitted)
 
-  module _ (st : Stored) (s : Standing) (kept : item_at standing_id st.durable.kept s.me ≡ Some s) (found : Found st.durable.kept) (all : AllTell st.durable.kept) where
+  module _ (st : Stored) (s : KeptRow) (kept : item_at kept_row_id st.durable.kept s.me ≡ Some s) (found : Found st.durable.kept) (all : AllTell st.durable.kept) where
     ended_rows : (d : Decision) (from : BranchId) → (s.toward ≡ Some from) × (s.decision ≡ None) × (s.state ≡ states.Sealed)
         → AllByRecursion (Tells (said ++ passes s d) (Learn s.me d None ∷ t) bound) (applied st (records.Ended s.me d)).durable.kept
     unfolding applied durable_after kept_after
@@ -139,7 +139,7 @@ module _ (said : List Post) (t : List Event) (bound node : ℕ) (known : (b : Br
   unfolding applied durable_after kept_after
   forgot_rows st says b all = forgot_tells said t bound says b st.durable.kept all
 
-  pub but : (b : BranchId) (ks : List Standing) → AllTell ks → AllByRecursion (TellsBut said t bound b) ks
+  pub but : (b : BranchId) (ks : List KeptRow) → AllTell ks → AllByRecursion (TellsBut said t bound b) ks
   but b ks all = all_weaker (Tells said t bound) (TellsBut said t bound b) (λ x is. elim is [ inl so ↦ inl (so.0, λ apart. so.1) | inr old ↦ inr old ]) ks all
 
   forced_rows : (st : Stored) (says : List Post) (b : BranchId) (d : Decision) (given : Bool) → AllTell st.durable.kept → AllByRecursion (Tells (said ++ says) (Force b d ∷ t) bound) (applied st (records.Forced b d given)).durable.kept
@@ -175,7 +175,7 @@ module _ (said : List Post) (t : List Event) (bound node : ℕ) (known : (b : Br
   -- ---- steps
 
   module _ (p : Place) (input : Input) (no : (from to : BranchId) → Came input from to kinds.Ack → ⊥) where
-    pub rows_on : {k : NodeState} {d : Deed} → Step p input k d → IfSome d.wrote (MayStand t) → IfSome d.wrote (RecordVoted t) → Found k.stored.durable.kept → AllTell k.stored.durable.kept → After d
+    pub rows_on : {k : NodeState} {d : TurnDraft} → Step p input k d → IfSome d.wrote (MayStand t) → IfSome d.wrote (RecordVoted t) → Found k.stored.durable.kept → AllTell k.stored.durable.kept → After d
     rows_on (steps.Begins n s call rows range none step) may voted found all = rows_on step may voted found all
     rows_on (steps.Pends n l given call has live code step) may voted found all = rows_on step may voted found all
     rows_on (steps.Lets_reads_go l comment below live begins step) may voted found all = rows_on step may voted found all

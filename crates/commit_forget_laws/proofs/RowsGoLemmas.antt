@@ -1,30 +1,27 @@
 -- Where all messages of a transaction came, no node has stopped, and each of its seals has ended with commit, no node keeps a row
 -- of it: each branch forgot, the nearest to the site first.
-use Rattle.std.proofs.Common.{◌≡◌, ◌≢◌, ℕ, zero, suc, ◌<◌, ◌≤◌, ◌⊎◌, true, List, Option, Some, None, inl, inr, refl, sym, ap, subst, ◌∙◌, arith}
+use Rattle.std.proofs.Common.{◌≡◌, ◌≢◌, ℕ, zero, suc, ◌<◌, ◌≤◌, ◌⊎◌, true, Option, Some, None, inl, inr, refl, sym, ap, subst, ◌∙◌, arith}
 use Rattle.tran_ids.proofs.ListedLemmas.{item_is}
-use Rattle.agreement.specs.Events.{Forest, Event, Sealed, Decided, Forget, Beyond, exit, Has, site_of}
+use Rattle.agreement.specs.Events.{Sealed, Decided, Forget, Beyond, exit, Has, site_of}
 use Rattle.agreement.proofs.Invariant.{Inv}
-use Rattle.node_rules.specs.Data.{BranchId, Live, Post, Standing}
+use Rattle.node_rules.specs.Data.{BranchId, Live, KeptRow}
 use Rattle.node_rules.specs.Data.decisions
-use Rattle.node_rules.specs.NodeState.{NodeState, live_id, live_at, standing_at}
-use Rattle.node_rules.specs.Turn.{Is_gone, stand_of}
-use Rattle.run_rules.specs.Births.{Born, births_of, born_id}
+use Rattle.node_rules.specs.NodeState.{NodeState, live_id, live_at, kept_row_at}
+use Rattle.node_rules.specs.Turn.{Is_gone, status_of}
+use Rattle.run_rules.specs.Births.{Born, born_id}
 use Rattle.run_base_laws.specs.BirthLaws.{Began}
 use Rattle.run_base_laws.specs.EventRows.{HasRow}
 use Rattle.run_base_laws.specs.NodeLaws.{unacked_row}
 use Rattle.run_branch_laws.proofs.KeptRowLemmas.{any_map}
 use Rattle.run_base_laws.proofs.NodesStandLemmas.{stored_rows}
 use Rattle.run_base_laws.proofs.StoredLemmas.{records_are_kept}
-use Rattle.run_rules.specs.Facts.{Facts, node_at}
-use Rattle.run_base_laws.specs.InTurnLaws.{said_in}
-use Rattle.run_rules.specs.Lawful.{History, IsLawfulRun, facts_at}
-use Rattle.run_base_laws.specs.RunEvents.{events_of}
+use Rattle.run_rules.specs.Facts.{node_at}
+use Rattle.run_rules.specs.Lawful.{History, IsLawfulRun}
 use Rattle.run_branch_laws.specs.WalkLaws.{was_sent}
 use Rattle.run_base_laws.proofs.EventsStandLemmas.{nodes_are_as_events}
 use Rattle.run_branch_laws.proofs.GoneLemmas.{kept_not_gone}
 use Rattle.run_rules.proofs.ListLemmas.{all_weaker, all_map, all_filter}
 use Rattle.run_base_laws.proofs.OwnLemmas.{all_found}
-use Rattle.tree_laws.specs.Forests.{forest_of}
 use Rattle.tree_laws.proofs.ForestLemmas as trees
 use Rattle.tree_laws.proofs.ForestRunLemmas.{runs_have_forests}
 use Rattle.commit_laws.specs.WaitLaws.{HasStopped}
@@ -39,27 +36,16 @@ use Rattle.node_rules.specs.Words.{same}
 use Rattle.std.specs.List.{AllByRecursion}
 use Rattle.commit_forget_laws.proofs.DecidedEndLemmas.{decided_end}
 use Rattle.commit_forget_laws.proofs.ForgottenHeardLemmas.{forgottens_are_heard}
-use Rattle.commit_forget_laws.proofs.EventLemmas.{run_lawful, learn_knows}
+use Rattle.tree_laws.proofs.MoreLemmas.{events_lawful}
+use Rattle.commit_forget_laws.proofs.EventLemmas.{learn_knows}
 use Rattle.commit_forget_laws.proofs.ForgetRunLemmas.{forgets_are_told}
 use Rattle.commit_forget_laws.proofs.FoundRowLemmas.{births_found, rows_found}
 use Rattle.commit_forget_laws.proofs.NearLemmas.{gone_so, none_live}
 use Rattle.commit_forget_laws.proofs.AckedLemmas as acked
+use Rattle.tree_laws.proofs.AtPart.{at_end}
 
 module _ (t : History) (whole : IsLawfulRun t) (root : BranchId) (ended : AllEnded t root) where
-  abbrev f : Facts
-  f = facts_at t
-
-  abbrev e : List Event
-  e = events_of t
-
-  abbrev p : Forest
-  p = forest_of t
-
-  abbrev bs : List Born
-  bs = births_of t
-
-  abbrev said : List Post
-  said = said_in f
+  open at_end t use {f, e, forest as p, bs, said}
 
   abbrev Of : BranchId → Type 0
   Of x = acked.Of t whole root ended x
@@ -83,7 +69,7 @@ module _ (t : History) (whole : IsLawfulRun t) (root : BranchId) (ended : AllEnd
 
   -- the site has
   decided_forgot : (y b : BranchId) → Of y → (n : ℕ) → exit e y ≡ Some (Decided n) → Beyond p b y → IsSealed e b → Has (Forget y) e
-  decided_forgot y b of n decided edge sealed = by (standing_at (up_at y of).0 y) refl
+  decided_forgot y b of n decided edge sealed = by (kept_row_at (up_at y of).0 y) refl
     where
       is_live : live_at (up_at y of).0 y ≡ None
       is_live = by_live (live_at (up_at y of).0 y) refl
@@ -95,7 +81,7 @@ module _ (t : History) (whole : IsLawfulRun t) (root : BranchId) (ended : AllEnd
               let mine : exit e y ≡ None = subst (λ z. exit e z ≡ None) (item_is live_id (up_at y of).0.lives y l is) none in
               absurd (cc (mine, decided))
 
-      by : (o : Option Standing) → standing_at (up_at y of).0 y ≡ o → Has (Forget y) e
+      by : (o : Option KeptRow) → kept_row_at (up_at y of).0 y ≡ o → Has (Forget y) e
       by (Some r) found =
           let row = acked.row_of t whole root ended y.node (up_at y of).0 (up_at y of).1 y of r found in
           let told = acked.said_ack t whole root ended y.node (up_at y of).0 (up_at y of).1 r row.0 row.1 (acked.all_have t whole root ended y.node (up_at y of).0 (up_at y of).1 r row.0 row.1) in
@@ -135,7 +121,7 @@ module _ (t : History) (whole : IsLawfulRun t) (root : BranchId) (ended : AllEnd
       forgot_y : Has (Forget y) e
       forgot_y =
           let learnt = acked.learns t whole root ended b of m sealed in
-          elim (learn_knows p e (run_lawful t whole) b learnt.0 learnt.1) [
+          elim (learn_knows p e (events_lawful t whole) b learnt.0 learnt.1) [
             | inl decided ↦ decided_forgot y b of_y learnt.0 decided edge_b (m, sealed)
             | inr learnt_y ↦ (let sealed_y = i.learned_sealed y (decisions.Commit learnt.0) learnt_y in nearer y of_y sealed_y.0 sealed_y.1 ((runs_have_forests t whole).nearer b within.0 within.1))
           ]
@@ -152,16 +138,16 @@ module _ (t : History) (whole : IsLawfulRun t) (root : BranchId) (ended : AllEnd
 
   -- ---- so no row is left
 
-  none_left : (n : ℕ) (k : NodeState) (up : node_at f n ≡ Some k) (s : Standing) → standing_at k s.me ≡ Some s → s.root ≡ root → ⊥
+  none_left : (n : ℕ) (k : NodeState) (up : node_at f n ≡ Some k) (s : KeptRow) → kept_row_at k s.me ≡ Some s → s.root ≡ root → ⊥
   none_left n k up s at of_root = elim (acked.left t whole root ended n k up s at of_root) [
     | inl sealed ↦ acked.never_forgot t whole root ended n k up s at of_root (forgot_by_far (p.far s.me) s.me (acked.of_row t whole root ended n k up s at of_root) sealed.0 sealed.1 (omega arith))
     | inr decided ↦ (acked.said_ack t whole root ended n k up s at of_root (acked.all_have t whole root ended n k up s at of_root)).0 (i.decided_at s.me decided.0 decided.1)
   ]
 
-  gone_now : (b : Born) → Began bs b → b.root ≡ root → (k : NodeState) → node_at f b.me.node ≡ Some k → live_at k b.me ≡ None → stand_of k b.me ≡ Is_gone
-  gone_now b began of k up none = by (standing_at k b.me) refl
+  gone_now : (b : Born) → Began bs b → b.root ≡ root → (k : NodeState) → node_at f b.me.node ≡ Some k → live_at k b.me ≡ None → status_of k b.me ≡ Is_gone
+  gone_now b began of k up none = by (kept_row_at k b.me) refl
     where
-      by : (o : Option Standing) → standing_at k b.me ≡ o → stand_of k b.me ≡ Is_gone
+      by : (o : Option KeptRow) → kept_row_at k b.me ≡ o → status_of k b.me ≡ Is_gone
       by None row = gone_so k b.me (none_live k b.me none) row
       by (Some s) row = (let its_row = acked.row_of t whole root ended b.me.node k up b.me (b, began, refl, of) s row in absurd (none_left b.me.node k up s its_row.0 its_row.1))
 
@@ -176,7 +162,7 @@ module _ (t : History) (whole : IsLawfulRun t) (root : BranchId) (ended : AllEnd
     is_gone_at : (b : Born) → Began bs b → b.root ≡ root → stand_at f b.me ≡ Some Is_gone
     is_gone_at b began of =
         let at = up_at b.me (b, began, refl, of) in
-        ap (λ o. option_map (λ (k : NodeState). stand_of k b.me) o) at.1 ∙ ap Some (gone_now b began of at.0 at.1 (left_all b began of at.0 at.1))
+        ap (λ o. option_map (λ (k : NodeState). status_of k b.me) o) at.1 ∙ ap Some (gone_now b began of at.0 at.1 (left_all b began of at.0 at.1))
 
     pub branches_gone : AllByRecursion (λ b. stand_at f b ≡ Some Is_gone) (branches_in bs root)
     branches_gone =

@@ -10,25 +10,23 @@ use Rattle.prepare_phase.specs.Records.{named_children, is_prepared, is_prepared
 use Rattle.redo_record.specs.Rows.{sealed_as, decided_as, toward_of}
 use Rattle.session_tree.specs.Live.{is_branch, children_of}
 use Rattle.session_tree.specs.Tree.{step}
-use Rattle.agreement.specs.Events.{Event}
-use Rattle.node_rules.specs.Data.{Act, BranchId, Edge, Live, Peer, Post, RedoRecord, Standing, Vote, Sealed as SealedRecord, Decided as DecidedRecord}
+use Rattle.node_rules.specs.Data.{Act, BranchId, Edge, Live, Peer, RedoRecord, KeptRow, Vote, Sealed as SealedRecord, Decided as DecidedRecord}
 use Rattle.node_rules.specs.Data.acts
 use Rattle.node_rules.specs.Data.phases
 use Rattle.node_rules.specs.Data.records
 use Rattle.node_rules.specs.Data.votes
 use Rattle.node_rules.specs.Data.walks
 use Rattle.node_rules.specs.Words.{numbered}
-use Rattle.node_rules.specs.NodeState.{NodeState, Deed, live_at}
+use Rattle.node_rules.specs.NodeState.{NodeState, TurnDraft, live_at}
 use Rattle.node_rules.specs.Prepare.{voted, with_prepare_sent}
-use Rattle.node_rules.specs.Turn.{heard, deed_of}
+use Rattle.node_rules.specs.Turn.{heard, draft_of}
 use Rattle.node_rules.proofs.Steps as steps
 use Rattle.node_rules.proofs.Steps.{Acting, Collected}
-use Rattle.run_rules.specs.Births.{Born, births_of}
+use Rattle.run_rules.specs.Births.{Born}
 use Rattle.run_base_laws.specs.BirthLaws.{Began, LiveIs}
 use Rattle.run_rules.specs.Data.{Turn, Happening}
-use Rattle.run_rules.specs.Facts.{Facts, place_at}
+use Rattle.run_rules.specs.Facts.{place_at}
 use Rattle.run_branch_laws.specs.HeardLaws.{VoteIs, EdgeIs}
-use Rattle.run_base_laws.specs.InTurnLaws.{said_in}
 use Rattle.run_rules.specs.Lawful.{MayTurn, History, IsLawfulRun}
 use Rattle.run_branch_laws.specs.WalkLaws.{is_below, is_above, was_sent}
 use Rattle.run_base_laws.proofs.LawfulLemmas.{serves}
@@ -42,35 +40,23 @@ use Rattle.tree_laws.proofs.AskRunLemmas.{paths_are_told}
 use Rattle.tree_laws.proofs.AskStepLemmas.{voted_peers}
 use Rattle.tree_laws.proofs.ForestLemmas as trees
 use Rattle.tree_laws.proofs.ForestRunLemmas.{run_known}
-use Rattle.tree_laws.proofs.PrefixLemmas.{so_far, f_at, e_at}
+use Rattle.tree_laws.proofs.PrefixLemmas.{so_far, f_at}
 use Rattle.tree_laws.proofs.SettleLemmas as settle
 use Rattle.tree_laws.proofs.SettleLemmas.{Settling, Seals, Passes_on, Decides, above_heard}
 use Rattle.tree_laws.proofs.WhyLemmas.{Near, ActsIn, WroteWhy, seal_act, why_on}
 use Rattle.commit_forget_laws.specs.RowLaws.{IsSealed}
 use Rattle.commit_forget_laws.proofs.RowStepLemmas.{RecordVoted}
 use Rattle.commit_forget_laws.proofs.NamedLemmas.{named_so, kids_so, parent_so}
+use Rattle.tree_laws.proofs.AtPart.{at_part}
 
 module _ (t : History) (before : List Happening) (lawful : IsLawfulRun (so_far t before)) (u : Turn) (k : NodeState) (may : MayTurn t.places (f_at t before) u k) where
-  abbrev s : History
-  s = so_far t before
-
-  abbrev f : Facts
-  f = f_at t before
-
-  abbrev e : List Event
-  e = e_at t before
-
-  abbrev bs : List Born
-  bs = births_of s
-
-  abbrev said : List Post
-  said = said_in f
+  open at_part t before use {s, f, e, bs, said}
 
   abbrev k0 : NodeState
   k0 = heard k u.input
 
-  abbrev d : Deed
-  d = deed_of (place_at t.places u.node) k u.input
+  abbrev d : TurnDraft
+  d = draft_of (place_at t.places u.node) k u.input
 
   known : trees.Known bs said
   known = run_known s lawful
@@ -189,7 +175,7 @@ module _ (t : History) (before : List Happening) (lawful : IsLawfulRun (so_far t
     kids_sealed : (toward : Option BranchId) → LeadsTo said l.me l.parent toward → (ps : List Peer) → NamedSo l.me ps → AllByRecursion (λ (q : Peer). IsSealed e q.branch ⊎ (is_branch q.branch toward ≡ true)) ps
     kids_sealed toward leads ps named = all_weaker _ _ (λ q is. elim is [ inl sealed ↦ inl sealed | inr on ↦ inr (on_toward l.me l.parent born toward leads q.branch on) ]) ps named
 
-    above_sealed : (y : Standing) → y.me ≡ l.me → LeadsTo said l.me l.parent y.toward → AllByRecursion (λ (z : Beyond). IsSealed e z.branch) (parent_beyond y l.parent)
+    above_sealed : (y : KeptRow) → y.me ≡ l.me → LeadsTo said l.me l.parent y.toward → AllByRecursion (λ (z : Beyond). IsSealed e z.branch) (parent_beyond y l.parent)
     above_sealed y me leads = parent_so (IsSealed e) y l.parent (λ q at off. parent_sealed q (comes_from l.me l.parent y.toward leads q at off))
 
   named_path : (path : Option ℕ) {l : Live} {b : Bool} → ActsIn k0 u.input l b (seal_act path) → NamedSo l.me (named_children path 1 l.edges)
@@ -224,5 +210,5 @@ module _ (t : History) (before : List Happening) (lawful : IsLawfulRun (so_far t
   voted_by (Some _) why leads = tt
 
   -- so those beyond what a turn writes are sealed
-  pub deed_voted : IfSome d.wrote (RecordLeads said) → IfSome d.wrote (RecordVoted e)
-  deed_voted leads = voted_by d.wrote (why_on k0 u.input (place_at t.places u.node) (serves t.places f u k may).step (λ no. record { lives = refl; clock = refl })).0 leads
+  pub draft_voted : IfSome d.wrote (RecordLeads said) → IfSome d.wrote (RecordVoted e)
+  draft_voted leads = voted_by d.wrote (why_on k0 u.input (place_at t.places u.node) (serves t.places f u k may).step (λ no. record { lives = refl; clock = refl })).0 leads

@@ -5,7 +5,7 @@ use Rattle.std.specs.Prelude.{◌≡◌, ◌<◌, ◌⊎◌, Bool, true, false, 
 use Rattle.std.specs.List.{AllByRecursion}
 use Rattle.commit_forget.specs.Beyond.{beyond}
 use Rattle.agreement.specs.Events.{Quiet, Forget, Send_forgotten, Beyond, exit, Has}
-use Rattle.node_rules.specs.Data.{BranchId, Kind, Standing}
+use Rattle.node_rules.specs.Data.{BranchId, Kind, KeptRow}
 use Rattle.node_rules.specs.Data.kinds
 use Rattle.node_rules.specs.NodeState.{NodeState}
 use Rattle.run_rules.specs.Data.fates
@@ -24,7 +24,7 @@ is_forgotten kinds.Forgotten = true
 is_forgotten _ = false
 
 -- a row holds the Ack of a neighbour that it names as one beyond
-abbrev pub HoldsAck : BranchId → Standing → Type 0
+abbrev pub HoldsAck : BranchId → KeptRow → Type 0
 HoldsAck x s = AllByRecursion (λ y. y.branch ≡ x → y.acked ≡ true) (beyond s)
 
 -- the row of a branch holds it, where there is one, or the node has stopped since the branch began

@@ -6,7 +6,7 @@ use Rattle.std.specs.Prelude.{◌≡◌, ◌≢◌, ℕ, Some, None}
 use Rattle.std.specs.List.{AllByRecursion}
 use Rattle.node_rules.specs.Data.{BranchId}
 use Rattle.node_rules.specs.NodeState.{NodeState, live_at}
-use Rattle.node_rules.specs.Turn.{Is_gone, stand_of}
+use Rattle.node_rules.specs.Turn.{Is_gone, status_of}
 use Rattle.run_rules.specs.Births.{Born, births_of}
 use Rattle.run_base_laws.specs.BirthLaws.{Began}
 use Rattle.run_rules.specs.Data.fates
@@ -26,7 +26,7 @@ pub record AllEnded (t : History) (root : BranchId) : Type 0 where
 -- No node keeps a row of a transaction, and each of its branches that is not live is gone.
 pub record RowsAreGone (t : History) (root : BranchId) : Type 0 where
   pub rows : (n : ℕ) (k : NodeState) → node_at (facts_at t) n ≡ Some k → AllByRecursion (λ s. s.root ≢ root) k.stored.durable.kept
-  pub gone : (b : Born) → Began (births_of t) b → b.root ≡ root → (k : NodeState) → node_at (facts_at t) b.me.node ≡ Some k → live_at k b.me ≡ None → stand_of k b.me ≡ Is_gone
+  pub gone : (b : Born) → Began (births_of t) b → b.root ≡ root → (k : NodeState) → node_at (facts_at t) b.me.node ≡ Some k → live_at k b.me ≡ None → status_of k b.me ≡ Is_gone
 
 -- In every lawful run it is so of such a transaction.
 abbrev pub EndedRowsGo : Type 0

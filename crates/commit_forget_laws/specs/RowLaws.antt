@@ -7,7 +7,7 @@ use Rattle.std.specs.List.{AllByRecursion}
 use Rattle.commit_forget.specs.Beyond.{beyond, all_acked}
 use Rattle.commit_forget.specs.Next.{knows_commit}
 use Rattle.agreement.specs.Events.{Event, Sealed, Forget, exit, Has}
-use Rattle.node_rules.specs.Data.{BranchId, Kind, Post, Standing, State}
+use Rattle.node_rules.specs.Data.{BranchId, Kind, Post, KeptRow, State}
 use Rattle.node_rules.specs.Data.kinds
 use Rattle.node_rules.specs.Data.states
 use Rattle.node_rules.specs.NodeState.{NodeState}
@@ -34,12 +34,12 @@ abbrev pub IsSealed : List Event → BranchId → Type 0
 IsSealed t b = (m : ℕ) × (exit t b ≡ Some (Sealed m))
 
 -- a branch said Ack to the neighbour that its row has as toward
-abbrev pub SaidAck : List Post → Standing → Type 0
+abbrev pub SaidAck : List Post → KeptRow → Type 0
 SaidAck said s = (q : BranchId) × (s.toward ≡ Some q) × (was_sent is_ack said s.me q ≡ true)
 
 -- Those beyond are sealed. Where the branch knows the commit, has not forgotten, and all beyond acknowledged, it said Ack;
 -- the site, which has none to say it to, has no such row. A branch that forgot is one that was forced.
-pub record RowTells (said : List Post) (t : List Event) (s : Standing) : Type 0 where
+pub record RowTells (said : List Post) (t : List Event) (s : KeptRow) : Type 0 where
   pub sealed : AllByRecursion (λ y. IsSealed t y.branch) (beyond s)
   pub acks : knows_commit s.decision ≡ true → s.forgot ≡ false → all_acked s ≡ true → SaidAck said s
   pub plain : is_forced s.state ≡ false → s.forgot ≡ false

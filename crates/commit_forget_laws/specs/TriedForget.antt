@@ -2,7 +2,7 @@
 -- Forgotten comes to B, and at the end.
 use Rattle.std.specs.Prelude.{◌≡◌, ℕ, true, false, List, [], ◌∷◌, map, flat_map, take, Option, Some, None}
 use Rattle.commit_forget.specs.Beyond.{beyond}
-use Rattle.node_rules.specs.Data.{Standing}
+use Rattle.node_rules.specs.Data.{KeptRow}
 use Rattle.node_rules.specs.NodeState.{NodeState}
 use Rattle.run_rules.specs.Facts.{Facts, first_facts, node_at, facts_of}
 use Rattle.run_base_laws.specs.InTurnLaws.{said_in}
@@ -16,12 +16,12 @@ abbrev pub facts_by : ℕ → Facts
 facts_by count = facts_of tried.places [] (first_facts tried.places) (take count tried.trace)
 
 -- the rows of a node that is up
-abbrev pub rows_in : Option NodeState → List Standing
+abbrev pub rows_in : Option NodeState → List KeptRow
 rows_in None = []
 rows_in (Some k) = k.stored.durable.kept
 
 -- the rows that they leave at a node
-abbrev pub rows_by : ℕ → ℕ → List Standing
+abbrev pub rows_by : ℕ → ℕ → List KeptRow
 rows_by count node = rows_in (node_at (facts_by count) node)
 
 -- B has nobody beyond, and said Ack as it learned the commit. A waits for it, has no row once it came, and told B Forgotten.

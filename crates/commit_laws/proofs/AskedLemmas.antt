@@ -24,7 +24,7 @@ use Rattle.tree_laws.specs.AnswerLaws.{ReadyIs}
 use Rattle.tree_laws.specs.AskLaws.{HeardAbove}
 use Rattle.tree_laws.proofs.AnswerRunLemmas.{answers_are_as_told}
 use Rattle.tree_laws.proofs.AskLemmas.{sent_wider, below_asks}
-use Rattle.tree_site_laws.proofs.HeardLemmas.{left_were_asked}
+use Rattle.tree_laws.proofs.HeardLemmas.{left_were_asked}
 use Rattle.commit_laws.specs.DeliveryLaws.{is_answer, AnswersWereAsked}
 
 module _ (t : History) (whole : IsLawfulRun t) where

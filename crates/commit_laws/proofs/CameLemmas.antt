@@ -8,7 +8,7 @@ use Rattle.run_rules.specs.Facts.{Facts, facts_of}
 use Rattle.run_rules.specs.Lawful.{MayHappen, History, IsLawfulRun}
 use Rattle.run_rules.proofs.ListLemmas.{all_weaker}
 use Rattle.tree_laws.proofs.PrefixLemmas.{f_at, one_on}
-use Rattle.tree_site_laws.proofs.TimeLemmas.{may_of, keep_on}
+use Rattle.tree_laws.proofs.TimeLemmas.{may_of, keep_on}
 use Rattle.commit_laws.specs.DeliveryLaws.{CameInTurn, DeliveriesCame}
 use Rattle.commit_laws.proofs.NetLemmas.{IfCame, AllCame, Takes, came_after, took_it}
 

@@ -1,4 +1,4 @@
--- What is known of the root to which a COMMIT comes stays known through the steps that go before the deed of a turn.
+-- What is known of the root to which a COMMIT comes stays known through the steps that go before the draft of a turn.
 use Rattle.std.proofs.Common.{◌≡◌, ℕ, List, Option, Some, None, sym, ap, subst, ◌∙◌}
 use Rattle.node_rules.specs.Data.{Live, Place, Input, Stmt}
 use Rattle.node_rules.specs.Data.inputs

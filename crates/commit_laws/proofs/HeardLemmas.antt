@@ -1,21 +1,19 @@
 -- In every lawful run a branch to which Prepare was delivered is not working, and one to which an answer was delivered
 -- waits for that child no more.
-use Rattle.std.proofs.Common.{◌≡◌, ◌≢◌, Bool, true, false, List, [], ◌∷◌, ◌++◌, Option, Some, None, refl, sym, ap, subst, ◌∙◌}
+use Rattle.std.proofs.Common.{◌≡◌, ◌≢◌, Bool, true, false, [], ◌∷◌, Option, Some, None, refl, sym, ap, subst, ◌∙◌}
 use Rattle.std.proofs.lemmas.List.{append_assoc}
 use Rattle.tran_ids.proofs.ListedLemmas.{item_is}
-use Rattle.node_rules.specs.Data.{BranchId, Kind, Live, Msg, Place, Vote, Input}
+use Rattle.node_rules.specs.Data.{BranchId, Kind, Live, Msg, Vote, Input}
 use Rattle.node_rules.specs.Data.inputs
 use Rattle.node_rules.specs.Data.kinds
 use Rattle.node_rules.specs.Data.phases
 use Rattle.node_rules.specs.Data.votes
-use Rattle.node_rules.specs.NodeState.{NodeState, Branch, Deed, live_id, live_at, branch_at, work_at, with_work}
+use Rattle.node_rules.specs.NodeState.{NodeState, Branch, TurnDraft, live_id, live_at, branch_at, work_at, with_work}
 use Rattle.node_rules.specs.Prepare.{is_awaited}
-use Rattle.node_rules.specs.Turn.{turn_of, heard, deed_of, kind_turn, stand_of}
+use Rattle.node_rules.specs.Turn.{turn_of, heard, draft_of, kind_turn, status_of}
 use Rattle.run_rules.specs.Births.{Born, births_of, born_id}
 use Rattle.run_base_laws.specs.BirthLaws.{Began, IsChild, GoesSo, StandsBelow}
-use Rattle.run_rules.specs.Data.{Turn, Happening}
-use Rattle.run_rules.specs.Data.happenings
-use Rattle.run_rules.specs.Facts.{Facts, place_at, node_at, kept_after, facts_after}
+use Rattle.run_rules.specs.Facts.{node_at, kept_after, facts_after}
 use Rattle.run_base_laws.specs.FreezeLaws.{was_asked}
 use Rattle.run_base_laws.specs.InTurnLaws.{said_in}
 use Rattle.run_rules.specs.Lawful.{MayHappen, History, IsLawfulRun, facts_at}
@@ -30,13 +28,14 @@ use Rattle.run_rules.proofs.ListLemmas.{all_weaker}
 use Rattle.run_base_laws.proofs.OwnLemmas.{all_found}
 use Rattle.run_branch_laws.proofs.PhaseLemmas.{phases_fit}
 use Rattle.tree_laws.proofs.PrefixLemmas.{so_far, f_at, one_on}
-use Rattle.tree_site_laws.proofs.TimeLemmas.{part_on, part_of, part_lawful, may_of, born_end}
+use Rattle.tree_laws.proofs.TimeLemmas.{part_on, part_lawful, may_of, born_end}
 use Rattle.commit_laws.specs.DeliveryLaws.{CameInTurn, IsBusy, PreparesAreHeard, is_answer, HasAnswerOf, AnswersAreHeard}
 use Rattle.commit_laws.proofs.AskedLemmas.{answers_were_asked}
 use Rattle.commit_laws.proofs.CameLemmas.{deliveries_came}
 use Rattle.commit_laws.proofs.KeepLemmas.{Served}
 use Rattle.commit_laws.proofs.ServedLemmas.{ServedAt, HasBorn, served_end}
 use Rattle.commit_laws.proofs.TurnLemmas.{prepare_served, answer_served}
+use Rattle.tree_laws.proofs.AtTurn.{at_turn}
 
 -- the vote of an answer
 vote_of : (kind : Kind) → is_answer kind ≡ true → (v : Vote) × (is_awaited v ≡ false)
@@ -46,29 +45,9 @@ vote_of kinds.Ready is = (votes.Ready, refl)
 vote_of _ is = absurd cc
 
 module _ (t : History) (whole : IsLawfulRun t) (m : Msg) (came : CameInTurn t.trace m) where
-  abbrev hs : List Happening
-  hs = came.before
-
-  abbrev u : Turn
-  u = came.turn
-
-  abbrev h : Happening
-  h = happenings.Turn u
-
-  abbrev s : History
-  s = so_far t hs
-
-  abbrev f : Facts
-  f = f_at t hs
-
-  abbrev after : List Happening
-  after = hs ++ h ∷ []
-
-  abbrev b : BranchId
-  b = m.to
-
-  lawful : IsLawfulRun s
-  lawful = part_lawful t whole hs (part_of t whole hs h came.later came.is)
+  open came use {before as hs, turn as u}
+  open m use {to as b}
+  open at_turn t whole came.before came.turn came.later came.is use {h, s, f, lawful, p, after}
 
   lawful_z : IsLawfulRun (so_far t after)
   lawful_z = part_lawful t whole after (part_on t whole hs h came.later came.is)
@@ -79,17 +58,14 @@ module _ (t : History) (whole : IsLawfulRun t) (m : Msg) (came : CameInTurn t.tr
   abbrev k : NodeState
   k = may.0
 
-  abbrev p : Place
-  p = place_at t.places u.node
-
   up : node_at f b.node ≡ Some k
   up = subst (λ i. node_at f i ≡ Some k) came.here may.1.up
 
   abbrev k0 : NodeState
   k0 = heard k (inputs.Message m)
 
-  abbrev d : Deed
-  d = deed_of p k (inputs.Message m)
+  abbrev d : TurnDraft
+  d = draft_of p k (inputs.Message m)
 
   -- how the message goes
   goes : GoesSo (Began (births_of s)) m.from m.to m.kind
@@ -134,7 +110,7 @@ module _ (t : History) (whole : IsLawfulRun t) (m : Msg) (came : CameInTurn t.tr
   prepared (kinds.Prepare below comment) is asks =
       let child : IsChild (Began (births_of s)) m.to m.from = subst (GoesSo (Began (births_of s)) m.from m.to) is goes in
       let served : ServedAt t whole b None (facts_at t)
-      = served_now None (λ y live. prepare_served k0 m.from b below comment y (subst (λ (x : Kind). live_at (kind_turn p k0 m.from m.to x (stand_of k0 m.to)).after b ≡ Some y) is live)) (child_born child None) in
+      = served_now None (λ y live. prepare_served k0 m.from b below comment y (subst (λ (x : Kind). live_at (kind_turn p k0 m.from m.to x (status_of k0 m.to)).after b ≡ Some y) is live)) (child_born child None) in
       λ j l there live. (served j l there live).busy
   prepared _ is asks = absurd cc
 
@@ -161,10 +137,10 @@ module _ (t : History) (whole : IsLawfulRun t) (m : Msg) (came : CameInTurn t.tr
       item_me l live = item_is live_id k.lives b l live
 
   answered : (kind : Kind) → m.kind ≡ kind → is_answer kind ≡ true → (v : Vote) → is_awaited v ≡ false
-      → ((y : Live) → live_at (kind_turn p k0 m.from m.to kind (stand_of k0 m.to)).after b ≡ Some y → Served (Some m.from) y) → IsChild (Began (births_of s)) m.from m.to → HasAnswerOf (facts_at t) m.to m.from
+      → ((y : Live) → live_at (kind_turn p k0 m.from m.to kind (status_of k0 m.to)).after b ≡ Some y → Served (Some m.from) y) → IsChild (Began (births_of s)) m.from m.to → HasAnswerOf (facts_at t) m.to m.from
   answered kind is answers v done so child =
       let served : ServedAt t whole b (Some m.from) (facts_at t)
-      = served_now (Some m.from) (λ y live. so y (subst (λ (x : Kind). live_at (kind_turn p k0 m.from m.to x (stand_of k0 m.to)).after b ≡ Some y) is live)) (parent_born child (Some m.from)) in
+      = served_now (Some m.from) (λ y live. so y (subst (λ (x : Kind). live_at (kind_turn p k0 m.from m.to x (status_of k0 m.to)).after b ≡ Some y) is live)) (parent_born child (Some m.from)) in
       λ j l there live. (served j l there live).has
 
   by_kind : (kind : Kind) → m.kind ≡ kind → is_answer kind ≡ true → HasAnswerOf (facts_at t) m.to m.from

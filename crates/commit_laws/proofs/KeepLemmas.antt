@@ -9,12 +9,12 @@ use Rattle.node_rules.specs.Data.acts
 use Rattle.node_rules.specs.Data.phases
 use Rattle.node_rules.specs.Data.votes
 use Rattle.node_rules.specs.Words.{numbered, set_numbered}
-use Rattle.node_rules.specs.NodeState.{NodeState, Branch, Deed, live_id, live_at, branch_at}
+use Rattle.node_rules.specs.NodeState.{NodeState, Branch, TurnDraft, live_id, live_at, branch_at}
 use Rattle.node_rules.specs.Statement.{ran, after_run}
 use Rattle.node_rules.specs.Calls.{with_edge, hears_reply}
 use Rattle.node_rules.specs.Prepare.{ready, voted, has_voted, answers_first, is_awaited, act_turn}
 use Rattle.node_rules.proofs.Steps as steps
-use Rattle.node_rules.proofs.Steps.{Step, Asked, Acting, Collects, HasRoot, IsOfRows, vote_kind}
+use Rattle.node_rules.proofs.Steps.{Step, Asked, Acting, Collects, vote_kind}
 use Rattle.node_rules.proofs.StandLemmas.{live_so}
 use Rattle.run_rules.proofs.ListLemmas.{all_weaker, all_append, all_map}
 use Rattle.run_base_laws.proofs.NeighborLemmas.{News, reply_is}
@@ -110,7 +110,7 @@ module _ (b : BranchId) (c : Option BranchId) (p : Place) (input : Input) where
     acts_so l below acts.Finish so = all_without IfMe live_id k.lives l.me now
     acts_so l below acts.Abandon so = all_without IfMe live_id k.lives l.me now
 
-  pub served_on : {k : NodeState} {d : Deed} → Step p input k d → News (λ y. y.me ≢ b) p input k → CallsOther k → AllServed k → AllServed d.after
+  pub served_on : {k : NodeState} {d : TurnDraft} → Step p input k d → News (λ y. y.me ≢ b) p input k → CallsOther k → AllServed k → AllServed d.after
   served_on (steps.Begins {k = k} n s call rows range free step) news other now =
       served_on step (begun_news (λ y. y.me ≢ b) p input k n news) (begun_commit (λ l. l.me ≢ b) p input k n s call rows) (all_last IfMe live_id k.lives _ now (λ is. absurd (news.root n s call rows free is)))
   served_on (steps.Pends {k = k} n l given call has live code step) news other now = served_on step (pends_news (λ y. y.me ≢ b) p input k n given call news) (pends_commit (λ l. l.me ≢ b) p input k n l given call has other) now

@@ -6,16 +6,16 @@ use Rattle.std.specs.List.{AllByRecursion, list_any}
 use Rattle.std.proofs.lemmas.Bool.{or_right}
 use Rattle.std.proofs.lemmas.List.Folds.{list_any-append}
 use Rattle.tran_ids.proofs.ListedLemmas.{item_is}
-use Rattle.agreement.specs.Events.{Event, Exit, Sealed, Decided, Quiet, Dropped, exit}
+use Rattle.agreement.specs.Events.{Exit, Sealed, Decided, Quiet, Dropped, exit}
 use Rattle.node_rules.specs.Data.{BranchId, Live, Place, RedoRecord}
 use Rattle.node_rules.specs.Data.records
-use Rattle.node_rules.specs.NodeState.{NodeState, Deed, live_id, live_at}
-use Rattle.node_rules.specs.Turn.{turn_of, heard, deed_of}
+use Rattle.node_rules.specs.NodeState.{NodeState, TurnDraft, live_id, live_at}
+use Rattle.node_rules.specs.Turn.{turn_of, heard, draft_of}
 use Rattle.run_rules.specs.Births.{Born, births_of, born_at}
 use Rattle.run_base_laws.specs.BirthLaws.{Began, IsChild, RecordNames}
 use Rattle.run_rules.specs.Data.{Turn, Happening}
 use Rattle.run_rules.specs.Data.happenings
-use Rattle.run_rules.specs.Facts.{Facts, place_at, node_at, records_at, facts_after}
+use Rattle.run_rules.specs.Facts.{place_at, node_at, records_at, facts_after}
 use Rattle.run_base_laws.specs.InTurnLaws.{post_of, said_in}
 use Rattle.run_rules.specs.Lawful.{IsOwed, MayHappen, MayTurn, History, IsLawfulRun, facts_at}
 use Rattle.run_base_laws.specs.RunEvents.{with_record, with_exits, lives_at, events_after, events_from, events_of}
@@ -35,10 +35,10 @@ use Rattle.tree_laws.proofs.PrefixLemmas.{so_far, f_at, e_at, one_on, more_on}
 use Rattle.tree_laws.proofs.SealLemmas.{IsSealOf, wrote_seal, later_unsealed}
 use Rattle.tree_laws.proofs.SiteLemmas.{IsDecisionOf, wrote_decision, later_undecided}
 use Rattle.tree_laws.proofs.WhyLemmas.{WroteWhy, why_on}
-use Rattle.tree_site_laws.specs.LeaveLaws.{LeftSo}
-use Rattle.tree_site_laws.proofs.FateLemmas.{drops_alone}
-use Rattle.tree_site_laws.proofs.LeaveLemmas.{messages_exit, all_quiet, wrote_quiet, was_there}
-use Rattle.tree_site_laws.proofs.TimeLemmas.{Part, part_on, part_of, part_lawful, may_of, exit_on, born_end, keep_on}
+use Rattle.tree_laws.specs.LeaveLaws.{LeftSo}
+use Rattle.tree_laws.proofs.FateLemmas.{drops_alone}
+use Rattle.tree_laws.proofs.LeaveLemmas.{messages_exit, all_quiet, wrote_quiet, was_there}
+use Rattle.tree_laws.proofs.TimeLemmas.{Part, part_on, exit_on, born_end, keep_on}
 use Rattle.commit_laws.specs.DeliveryLaws.{is_answer}
 use Rattle.commit_laws.specs.WaitLaws.{HasStopped, LeftHaveAnswered}
 use Rattle.commit_laws.proofs.ListLemmas.{all_at}
@@ -48,6 +48,7 @@ use Rattle.commit_laws.proofs.SealSayLemmas.{SaysSeal, seal_says, WasReady, deci
 use Rattle.commit_laws.proofs.StopLemmas.{stopped_on, cut_stops}
 use Rattle.commit_laws.proofs.UnlessStoppedLemmas.{left_on}
 use Rattle.commit_laws.proofs.AnswerGoesLemmas.{any_posts, quiet_sent}
+use Rattle.tree_laws.proofs.AtTurn.{at_happening}
 
 module _ (t : History) (whole : IsLawfulRun t) (x : Born) (began : Began (births_of t) x) (q : BranchId) (above : x.parent ≡ Some q) where
   abbrev c : BranchId
@@ -75,29 +76,7 @@ module _ (t : History) (whole : IsLawfulRun t) (x : Born) (began : Began (births
       cc
 
   module _ (hs : List Happening) (h : Happening) (rest : List Happening) (is : hs ++ h ∷ rest ≡ t.trace) where
-    abbrev f : Facts
-    f = f_at t hs
-
-    abbrev g : Facts
-    g = facts_after t.places t.commands f h
-
-    abbrev e : List Event
-    e = e_at t hs
-
-    abbrev s : History
-    s = so_far t hs
-
-    abbrev after : List Happening
-    after = hs ++ h ∷ []
-
-    part_z : Part t whole after
-    part_z = part_on t whole hs h rest is
-
-    lawful : IsLawfulRun s
-    lawful = part_lawful t whole hs (part_of t whole hs h rest is)
-
-    lawful_z : IsLawfulRun (so_far t after)
-    lawful_z = part_lawful t whole after part_z
+    open at_happening t whole hs h rest is use {f, g, e, s, after, part_after as part_z, lawful, lawful_after as lawful_z, may}
 
     said_is : said_in (f_at t after) ≡ said_in f ++ posts_of h
     said_is = ap said_in (one_on t hs h) ∙ said_after t.places t.commands f h
@@ -111,9 +90,6 @@ module _ (t : History) (whole : IsLawfulRun t) (x : Born) (began : Began (births
     even : length f.nodes ≡ length f.records
     even = (run_stands s lawful).0.even
 
-    may : MayHappen t.places t.commands f h
-    may = may_of t whole hs h rest is
-
     settled_stays : IsSettled hs → IsSettled after
     settled_stays (inl dropped) = inl (exit_stays Dropped dropped)
     settled_stays (inr (inl sent)) = inr (inl (sent_stays sent))
@@ -125,8 +101,8 @@ module _ (t : History) (whole : IsLawfulRun t) (x : Born) (began : Began (births
       abbrev p : Place
       p = place_at t.places u.node
 
-      abbrev d : Deed
-      d = deed_of p k u.input
+      abbrev d : TurnDraft
+      d = draft_of p k u.input
 
       left_cut : u.cut ≡ true → (z : Exit) → exit (e_at t after) c ≡ Some z → IsSettled after
       left_cut cut z now = inr (inr ((λ no. absurd (cc (no, now))), cut_stops t whole c hs h rest is u turn k may_u.up node cut))

@@ -6,16 +6,16 @@ use Rattle.tran_ids.proofs.BranchLemmas.{equal_from_same}
 use Rattle.node_rules.specs.Data.{BranchId, Edge, Kind, Live, Place, Post}
 use Rattle.node_rules.specs.Data.stmts
 use Rattle.node_rules.specs.Words.{same, item_at}
-use Rattle.node_rules.specs.NodeState.{NodeState, Deed, live_id, live_at, branch_at, work_at, with_work}
+use Rattle.node_rules.specs.NodeState.{NodeState, TurnDraft, live_id, live_at, branch_at, work_at, with_work}
 use Rattle.node_rules.specs.Prepare.{prepares, with_prepare_sent}
-use Rattle.node_rules.specs.Turn.{turn_of, heard, deed_of}
+use Rattle.node_rules.specs.Turn.{turn_of, heard, draft_of}
 use Rattle.node_rules.proofs.Steps.{HasRoot}
 use Rattle.run_rules.specs.Births.{Born, births_of}
 use Rattle.run_base_laws.specs.BirthLaws.{Began, ChildrenAre, LiveIs}
 use Rattle.run_base_laws.specs.CallLaws.{ComesAtRest}
 use Rattle.run_rules.specs.Data.{Turn, Happening}
 use Rattle.run_rules.specs.Data.happenings
-use Rattle.run_rules.specs.Facts.{Facts, first_facts, place_at, facts_of}
+use Rattle.run_rules.specs.Facts.{first_facts, place_at, facts_of}
 use Rattle.run_base_laws.specs.FreezeLaws.{was_asked}
 use Rattle.run_base_laws.specs.InTurnLaws.{post_of, said_in}
 use Rattle.run_rules.specs.Lawful.{IsOwed, MayHappen, MayTurn, History, IsLawfulRun}
@@ -30,10 +30,11 @@ use Rattle.run_base_laws.proofs.OwnLemmas.{all_found}
 use Rattle.run_base_laws.proofs.RestRunLemmas.{calls_come_at_rest}
 use Rattle.run_base_laws.proofs.SaidPostLemmas.{posts_back, posts_of, said_after}
 use Rattle.tree_laws.proofs.AnswerRunLemmas.{lives_heard}
-use Rattle.tree_laws.proofs.PrefixLemmas.{so_far, f_at, one_on}
-use Rattle.tree_site_laws.proofs.TimeLemmas.{part_of, part_lawful, may_of, fact_at, keep_on}
+use Rattle.tree_laws.proofs.PrefixLemmas.{f_at, one_on}
+use Rattle.tree_laws.proofs.TimeLemmas.{may_of, fact_at, keep_on}
 use Rattle.commit_laws.specs.OnceLaws.{count_sent, PreparesAreSentOnce}
 use Rattle.commit_laws.proofs.OnceStepLemmas.{AsksDown, FindsWork, Asks, asks_on}
+use Rattle.tree_laws.proofs.AtTurn.{at_happening}
 
 -- ---- counts
 
@@ -95,14 +96,7 @@ module _ (t : History) (whole : IsLawfulRun t) where
   Once hs = (p c : BranchId) → count_sent is_prepare (said_in (f_at t hs)) p c ≤ 1
 
   module _ (hs : List Happening) (h : Happening) (rest : List Happening) (is : hs ++ h ∷ rest ≡ t.trace) (now : Once hs) where
-    abbrev f : Facts
-    f = f_at t hs
-
-    abbrev s : History
-    s = so_far t hs
-
-    lawful : IsLawfulRun s
-    lawful = part_lawful t whole hs (part_of t whole hs h rest is)
+    open at_happening t whole hs h rest is use {f, s, lawful}
 
     -- with messages that may be added
     abbrev Adds : List Post → Type 0
@@ -120,8 +114,8 @@ module _ (t : History) (whole : IsLawfulRun t) where
       abbrev p0 : Place
       p0 = place_at t.places u.node
 
-      abbrev d : Deed
-      d = deed_of p0 k u.input
+      abbrev d : TurnDraft
+      d = draft_of p0 k u.input
 
       rest_at : ComesAtRest t.places f (happenings.Turn u)
       rest_at =

@@ -4,34 +4,26 @@ use Rattle.std.specs.Prelude.{◌⊎◌}
 use Rattle.commit_forget.specs.declared.next.Next.TheVariants as nexts
 use Rattle.session_tree.specs.Live.{children_of, peer_of, new_edge}
 use Rattle.session_tree.specs.Tree.{step as step_from}
-use Rattle.node_rules.specs.Data.{Answer, Stmt, BranchId, Live, Act, Post, Place, Input}
+use Rattle.node_rules.specs.Data.{Live, Act, Post, Place, Input}
 use Rattle.node_rules.specs.Data.acts
 use Rattle.node_rules.specs.Data.kinds
 use Rattle.node_rules.specs.Data.phases
-use Rattle.node_rules.specs.declared.session.Session.{Session}
-use Rattle.node_rules.specs.NodeState.{NodeState, Branch, Deed, live_at, to_one, to_each}
-use Rattle.node_rules.specs.Calls.{answer_says, exec_to, with_edge, hears_reply}
+use Rattle.node_rules.specs.NodeState.{NodeState, TurnDraft, live_at, to_one, to_each}
+use Rattle.node_rules.specs.Calls.{with_edge, hears_reply}
 use Rattle.node_rules.specs.Statement.{ran, after_run}
 use Rattle.node_rules.specs.Prepare.{path_of, with_prepare_sent, collecting, with_comment, prepares, site_neighbors, act_turn}
 use Rattle.node_rules.specs.Recovery.{kept_told}
 use Rattle.node_rules.proofs.Steps as steps
-use Rattle.node_rules.proofs.Steps.{Step, Acting, Collects, Collected, Pointed, Says, HasRoot, IsOfRows}
+use Rattle.node_rules.proofs.Steps.{Step, Acting, Collects, Collected, Pointed, Says}
 use Rattle.run_branch_laws.proofs.FreezeLemmas.{IsPlain, plain_decisions, no_ask}
 use Rattle.run_base_laws.proofs.KindSayLemmas.{AllSay, one_says, each_says, told_says, passes_say, askings_say}
 use Rattle.run_rules.proofs.ListLemmas.{all_append}
 use Rattle.run_branch_laws.proofs.QuietLemmas.{NoRows, acting_apart}
 use Rattle.tree_laws.proofs.WhyLemmas.{Near}
 use Rattle.commit_laws.proofs.CommitCallLemmas.{OfCommit, begun_commit, pends_commit}
+use Rattle.tree_laws.proofs.AskStepLemmas.{answer_plain, exec_plain}
 
 -- ---- messages that are no Prepare
-
-answer_plain : (x : Branch) (a : Answer) (o : Option BranchId) → AllSay IsPlain (answer_says x a o)
-answer_plain x a None = tt
-answer_plain x a (Some parent) = (refl, tt)
-
-exec_plain : (ss : List Session) (x : Branch) (i : ℕ) (s : Stmt) (given : ℕ) (o : Option BranchId) → AllSay IsPlain (exec_to ss x i s given o)
-exec_plain ss x i s given None = tt
-exec_plain ss x i s given (Some c) = (refl, tt)
 
 says_plain : {k : NodeState} {input : Input} {says : List Post} → Says k input says → AllSay IsPlain says
 says_plain (steps.Tells s from came kept) = (told_says IsPlain plain_decisions (kept_told s from), tt)
@@ -91,7 +83,7 @@ module _ (k0 : NodeState) (p : Place) (input : Input) where
     acts_ask acts.Finish why = inl tt
     acts_ask {l = l} acts.Abandon why = inl (all_append (λ x. IsPlain x.kind) (to_one l.me kinds.Abort l.parent) _ (one_says IsPlain l.me kinds.Abort l.parent refl) (rolled_plain l))
 
-  pub asks_on : {k : NodeState} {d : Deed} → Step p input k d → (NoRows input → Near k0 k) → FindsWork k → Asks d.says
+  pub asks_on : {k : NodeState} {d : TurnDraft} → Step p input k d → (NoRows input → Near k0 k) → FindsWork k → Asks d.says
   asks_on (steps.Begins {k = k} n s call rows range none step) near work = asks_on step (λ apart. absurd (apart n s call rows)) (begun_commit (λ l. l.phase ≡ phases.Working) p input k n s call rows)
   asks_on (steps.Pends {k = k} n l given call has live code step) near work = asks_on step (λ apart. (let is = near apart in record { lives = is.lives; clock = is.clock })) (pends_commit (λ l. l.phase ≡ phases.Working) p input k n l given call has work)
   asks_on (steps.Lets_reads_go {k = k} l comment b live begins step) near work = asks_on step (λ apart. (let is = near apart in record { lives = is.lives; clock = is.clock })) work

@@ -4,7 +4,7 @@ use Rattle.std.specs.Prelude.{IfSome}
 use Rattle.std.specs.List.{AllByRecursion}
 use Rattle.node_rules.specs.Data.{Live, Post, RedoRecord}
 use Rattle.node_rules.specs.NodeState.{NodeState, live_id}
-use Rattle.node_rules.specs.Turn.{start_of, deed_of}
+use Rattle.node_rules.specs.Turn.{start_of, draft_of}
 use Rattle.run_rules.specs.Data.{Turn, Happening}
 use Rattle.run_rules.specs.Facts.{place_at}
 use Rattle.run_base_laws.specs.InTurnLaws.{said_in}
@@ -31,10 +31,10 @@ started_so said rs = tt
 
 -- a turn leaves it so at its node
 turn_answered : (t : History) (before : List Happening) → IsLawfulRun (so_far t before) → EachNode AllAnswered (f_at t before) → (u : Turn) (k : NodeState) → MayTurn t.places (f_at t before) u k
-    → AllAnswered (said_in (f_at t before) ++ (deed_of (place_at t.places u.node) k u.input).says) (deed_of (place_at t.places u.node) k u.input).after
+    → AllAnswered (said_in (f_at t before) ++ (draft_of (place_at t.places u.node) k u.input).says) (draft_of (place_at t.places u.node) k u.input).after
 turn_answered t before lawful now u k may =
     let said : List Post = said_in (f_at t before) in
-    let says : List Post = (deed_of (place_at t.places u.node) k u.input).says in
+    let says : List Post = (draft_of (place_at t.places u.node) k u.input).says in
     let old : AllAnswered said k = subst (λ o. IfSome o (AllAnswered said)) may.up (now u.node) in
     answered_on (said ++ says) (place_at t.places u.node) u.input (serves t.places (f_at t before) u k may).step (λ b q is. sent_new is_answer said says b q is)
     (subst (λ (ls : List Live). AllByRecursion (Answered (said ++ says)) ls) (sym (lives_heard k u.input)) (lives_more said says k.lives old))

@@ -9,7 +9,7 @@ use Rattle.node_rules.specs.Data.acts
 use Rattle.node_rules.specs.Data.kinds
 use Rattle.node_rules.specs.Data.phases
 use Rattle.node_rules.specs.Words.{same}
-use Rattle.node_rules.specs.NodeState.{NodeState, Branch, Deed, live_id, branch_at, to_one}
+use Rattle.node_rules.specs.NodeState.{NodeState, Branch, TurnDraft, live_id, branch_at, to_one}
 use Rattle.node_rules.specs.Statement.{ran, after_run}
 use Rattle.node_rules.specs.Calls.{with_edge, hears_reply}
 use Rattle.node_rules.specs.Prepare.{ready, act_turn}
@@ -73,7 +73,7 @@ module _ (all : List Post) where
       acts_so l below acts.Finish adds so = all_without Answered live_id k.lives l.me now
       acts_so l below acts.Abandon adds so = all_without Answered live_id k.lives l.me now
 
-    pub answered_on : {k : NodeState} {d : Deed} → Step p input k d → Adds d.says → AllAnswered k → AllAnswered d.after
+    pub answered_on : {k : NodeState} {d : TurnDraft} → Step p input k d → Adds d.says → AllAnswered k → AllAnswered d.after
     answered_on (steps.Begins {k = k} n s call rows range free step) adds now = answered_on step adds (all_last Answered live_id k.lives _ now (λ is. absurd cc))
     answered_on (steps.Pends n l given call has live code step) adds now = answered_on step adds now
     answered_on (steps.Lets_reads_go l comment below live begins step) adds now = answered_on step adds now

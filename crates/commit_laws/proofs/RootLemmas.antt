@@ -9,15 +9,15 @@ use Rattle.node_rules.specs.Data.phases
 use Rattle.node_rules.specs.Data.stmts
 use Rattle.node_rules.specs.declared.session.PendingCall.TheVariants as pending
 use Rattle.node_rules.specs.Client.{root_by, root_at, commit_by}
-use Rattle.node_rules.specs.NodeState.{NodeState, Branch, Deed, live_id, live_at, work_at, with_work}
+use Rattle.node_rules.specs.NodeState.{NodeState, Branch, TurnDraft, live_id, live_at, work_at, with_work}
 use Rattle.node_rules.specs.Prepare.{collecting, with_comment, without_read_keys, first_act}
 use Rattle.node_rules.specs.Sessions.{with_call}
-use Rattle.node_rules.specs.Turn.{turn_of, deed_of}
+use Rattle.node_rules.specs.Turn.{turn_of, draft_of}
 use Rattle.run_rules.specs.Births.{Born, births_of, born_id, born_at}
 use Rattle.run_base_laws.specs.BirthLaws.{Began, LiveIs, StandsBelow}
 use Rattle.run_rules.specs.Data.{Happening}
 use Rattle.run_rules.specs.Data.happenings
-use Rattle.run_rules.specs.Facts.{Facts, place_at, node_at, kept_after, facts_after}
+use Rattle.run_rules.specs.Facts.{place_at, node_at, kept_after, facts_after}
 use Rattle.run_rules.specs.Lawful.{History, IsLawfulRun, facts_at}
 use Rattle.run_branch_laws.specs.PhaseLaws.{PhaseFits}
 use Rattle.run_rules.proofs.AtNodeLemmas.{turn_here}
@@ -27,13 +27,14 @@ use Rattle.run_base_laws.proofs.OwnLemmas.{all_found}
 use Rattle.run_branch_laws.proofs.PhaseLemmas.{phases_fit}
 use Rattle.run_base_laws.proofs.RootLemmas.{roots_are_of_sessions}
 use Rattle.tree_laws.proofs.PrefixLemmas.{so_far, f_at, one_on}
-use Rattle.tree_site_laws.proofs.TimeLemmas.{Part, part_on, part_of, part_lawful, born_end}
+use Rattle.tree_laws.proofs.TimeLemmas.{Part, part_on, part_of, part_lawful, born_end}
 use Rattle.commit_laws.specs.StillLaws.{DroppedNone, UndisturbedRootsLeave}
 use Rattle.run_claims.specs.Undisturbed.{Commit, Undisturbed}
 use Rattle.commit_laws.proofs.KeepLemmas.{Served}
 use Rattle.commit_laws.proofs.ServedLemmas.{ServedAt, HasBorn, served_end}
 use Rattle.commit_laws.proofs.StillLemmas.{undisturbed_collects_end}
 use Rattle.commit_laws.proofs.TurnLemmas.{acted, none_named}
+use Rattle.tree_laws.proofs.AtPart.{at_part}
 
 -- ---- the turn of the COMMIT
 
@@ -49,26 +50,15 @@ module _ (k : NodeState) (n : ℕ) (comment : List ℕ) (l : Live) (y : Live) wh
 -- ---- every run
 
 module _ (t : History) (whole : IsLawfulRun t) (c : Commit t.places t.commands t.trace) (u : Undisturbed t.places t.commands t.trace c) where
-  abbrev hs : List Happening
-  hs = c.before
+  open c use {before as hs, root as b, kept as k}
 
   abbrev h : Happening
   h = happenings.Turn c.call
 
-  abbrev s : History
-  s = so_far t hs
-
-  abbrev f : Facts
-  f = f_at t hs
+  open at_part t hs use {s, f}
 
   abbrev after : List Happening
   after = hs ++ h ∷ []
-
-  abbrev b : BranchId
-  b = c.root
-
-  abbrev k : NodeState
-  k = c.kept
 
   part : Part t whole hs
   part = part_of t whole hs h c.during c.is
@@ -100,8 +90,8 @@ module _ (t : History) (whole : IsLawfulRun t) (c : Commit t.places t.commands t
   abbrev input : Input
   input = inputs.Call c.session (Some (stmts.Commit c.comment))
 
-  abbrev d : Deed
-  d = deed_of (place_at t.places c.call.node) k input
+  abbrev d : TurnDraft
+  d = draft_of (place_at t.places c.call.node) k input
 
   root_is : root_at k c.session ≡ Some (record { live = c.live; work = work_at k c.live.me })
   root_is = ap (root_by k) c.of ∙ ap (with_work k) c.there

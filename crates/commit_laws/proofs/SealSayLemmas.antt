@@ -10,7 +10,7 @@ use Rattle.node_rules.specs.Data.kinds
 use Rattle.node_rules.specs.Data.phases
 use Rattle.node_rules.specs.Data.records
 use Rattle.node_rules.specs.Data.towards
-use Rattle.node_rules.specs.NodeState.{NodeState, Deed, live_at, to_one}
+use Rattle.node_rules.specs.NodeState.{NodeState, TurnDraft, live_at, to_one}
 use Rattle.node_rules.proofs.Steps as steps
 use Rattle.node_rules.proofs.Steps.{Step, Acting, Collected}
 use Rattle.run_branch_laws.specs.WalkLaws.{was_sent}
@@ -24,7 +24,7 @@ SaysSeal says (records.Sealed r) = r.toward ≡ towards.Parent → says ≡ to_o
 SaysSeal says _ = Unit {0}
 
 module _ (p : Place) (input : Input) where
-  pub seal_says : {k : NodeState} {d : Deed} → Step p input k d → IfSome d.wrote (SaysSeal d.says)
+  pub seal_says : {k : NodeState} {d : TurnDraft} → Step p input k d → IfSome d.wrote (SaysSeal d.says)
   seal_says (steps.Begins n s call rows range free step) = seal_says step
   seal_says (steps.Pends n l given call has live code step) = seal_says step
   seal_says (steps.Lets_reads_go l comment below live begins step) = seal_says step

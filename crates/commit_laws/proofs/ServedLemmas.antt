@@ -5,8 +5,8 @@ use Rattle.tran_ids.proofs.ListedLemmas.{item_is}
 use Rattle.node_rules.specs.Data.{BranchId, Live, Place}
 use Rattle.node_rules.specs.Data.stmts
 use Rattle.node_rules.specs.Words.{item_at}
-use Rattle.node_rules.specs.NodeState.{NodeState, Branch, Deed, live_id, live_at, branch_at, work_at, with_work}
-use Rattle.node_rules.specs.Turn.{turn_of, heard, deed_of}
+use Rattle.node_rules.specs.NodeState.{NodeState, Branch, TurnDraft, live_id, live_at, branch_at, work_at, with_work}
+use Rattle.node_rules.specs.Turn.{turn_of, heard, draft_of}
 use Rattle.node_rules.proofs.Steps.{HasRoot}
 use Rattle.run_rules.specs.Births.{Born, births_by, births_of, born_at}
 use Rattle.run_base_laws.specs.BirthLaws.{Began}
@@ -30,9 +30,10 @@ use Rattle.run_base_laws.proofs.TurnEventLemmas.{cases_nat, number_is}
 use Rattle.tree_laws.proofs.AnswerRunLemmas.{lives_heard}
 use Rattle.tree_laws.proofs.FoundLemmas.{lives_found}
 use Rattle.tree_laws.proofs.PrefixLemmas.{so_far, f_at, e_at, one_on}
-use Rattle.tree_site_laws.proofs.FateLemmas.{node_back}
-use Rattle.tree_site_laws.proofs.TimeLemmas.{part_on, part_of, part_lawful, may_of, fact_at, born_end, keep_on}
+use Rattle.tree_laws.proofs.FateLemmas.{node_back}
+use Rattle.tree_laws.proofs.TimeLemmas.{may_of, fact_at, born_end, keep_on}
 use Rattle.commit_laws.proofs.KeepLemmas.{Served, IfMe, AllServed, CallsOther, served_on}
+use Rattle.tree_laws.proofs.AtTurn.{at_happening}
 
 module _ (t : History) (whole : IsLawfulRun t) (b : BranchId) (c : Option BranchId) where
   -- it is so at its node
@@ -46,20 +47,7 @@ module _ (t : History) (whole : IsLawfulRun t) (b : BranchId) (c : Option Branch
   StaysServed hs = HasBorn hs × ServedAt (f_at t hs)
 
   module _ (hs : List Happening) (h : Happening) (rest : List Happening) (is : hs ++ h ∷ rest ≡ t.trace) (now : StaysServed hs) where
-    abbrev f : Facts
-    f = f_at t hs
-
-    abbrev s : History
-    s = so_far t hs
-
-    abbrev after : List Happening
-    after = hs ++ h ∷ []
-
-    lawful : IsLawfulRun s
-    lawful = part_lawful t whole hs (part_of t whole hs h rest is)
-
-    lawful_z : IsLawfulRun (so_far t after)
-    lawful_z = part_lawful t whole after (part_on t whole hs h rest is)
+    open at_happening t whole hs h rest is use {f, s, after, lawful, lawful_after as lawful_z}
 
     born_next : HasBorn after
     born_next = (now.0.0, born_end (so_far t after) lawful_z hs (record { rest = h ∷ []; is = refl }) now.0.0 now.0.1, now.0.2)
@@ -68,8 +56,8 @@ module _ (t : History) (whole : IsLawfulRun t) (b : BranchId) (c : Option Branch
       abbrev p : Place
       p = place_at t.places u.node
 
-      abbrev d : Deed
-      d = deed_of p k u.input
+      abbrev d : TurnDraft
+      d = draft_of p k u.input
 
       up : node_at f b.node ≡ Some k
       up = subst (λ i. node_at f i ≡ Some k) node may.up

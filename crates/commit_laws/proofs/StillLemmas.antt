@@ -25,11 +25,11 @@ use Rattle.commit_laws.proofs.WaitLemmas.{collects_are_over}
 -- ---- lists
 
 -- where a test passes a place is found
-any_placed : {A : Type 0} (p : A → Bool) (xs : List A) → list_any p xs ≡ true → position_or_len p xs < length xs
+pub any_placed : {A : Type 0} (p : A → Bool) (xs : List A) → list_any p xs ≡ true → position_or_len p xs < length xs
 any_placed p [] is = absurd cc
 any_placed p (x ∷ xs) is = grind (arith, any_placed p xs)
 
-none_placed : {A : Type 0} (p : A → Bool) (xs : List A) → option_map (λ i. i + 1) (position p xs) ≡ None → list_any p xs ≡ false
+pub none_placed : {A : Type 0} (p : A → Bool) (xs : List A) → option_map (λ i. i + 1) (position p xs) ≡ None → list_any p xs ≡ false
 none_placed p xs none = by (list_any p xs) refl
   where
     by : (q : Bool) → list_any p xs ≡ q → list_any p xs ≡ false

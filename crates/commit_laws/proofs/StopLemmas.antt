@@ -1,6 +1,6 @@
 -- In every lawful run a branch that has left, and whose node has stopped since it began, is so whatever happens next. A turn
 -- that is cut stops its node, and so does a stop.
-use Rattle.std.proofs.Common.{◌≡◌, ℕ, true, List, ◌∷◌, ◌++◌, [], length, Some, None, inl, inr, sym, ap, subst, ◌∙◌, arith}
+use Rattle.std.proofs.Common.{◌≡◌, ℕ, true, List, ◌∷◌, ◌++◌, length, Some, None, inl, inr, sym, ap, subst, ◌∙◌, arith}
 use Rattle.node_rules.specs.Data.{BranchId}
 use Rattle.node_rules.specs.NodeState.{NodeState}
 use Rattle.node_rules.specs.Turn.{turn_of}
@@ -11,9 +11,10 @@ use Rattle.run_rules.specs.Lawful.{MayHappen, History, IsLawfulRun, facts_at}
 use Rattle.run_rules.proofs.AtNodeLemmas.{turn_here, stop_here}
 use Rattle.run_base_laws.proofs.EventsStandLemmas.{run_stands}
 use Rattle.tree_laws.proofs.PrefixLemmas.{so_far, f_at, one_on}
-use Rattle.tree_site_laws.proofs.TimeLemmas.{part_of, part_lawful, may_of}
+use Rattle.tree_laws.proofs.TimeLemmas.{may_of}
 use Rattle.commit_laws.specs.WaitLaws.{HasStopped}
 use Rattle.commit_laws.proofs.UnlessStoppedLemmas.{HasLeft, Here, TurnsKeep, here_on, here_end}
+use Rattle.tree_laws.proofs.AtTurn.{at_happening}
 
 module _ (t : History) (whole : IsLawfulRun t) (b : BranchId) where
   abbrev never : NodeState → Type 0
@@ -33,14 +34,7 @@ module _ (t : History) (whole : IsLawfulRun t) (b : BranchId) where
   stopped_end hs later is left stops = here_stopped (facts_at t) (here_end t whole b never nothing_kept hs later is left (stopped_here (f_at t hs) stops))
 
   module _ (hs : List Happening) (h : Happening) (rest : List Happening) (is : hs ++ h ∷ rest ≡ t.trace) where
-    abbrev f : Facts
-    f = f_at t hs
-
-    abbrev after : List Happening
-    after = hs ++ h ∷ []
-
-    lawful : IsLawfulRun (so_far t hs)
-    lawful = part_lawful t whole hs (part_of t whole hs h rest is)
+    open at_happening t whole hs h rest is use {f, after, lawful}
 
     even : length f.nodes ≡ length f.records
     even = (run_stands (so_far t hs) lawful).0.even

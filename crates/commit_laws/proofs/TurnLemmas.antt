@@ -5,29 +5,29 @@ use Rattle.std.specs.List.{AllByRecursion, list_any}
 use Rattle.std.proofs.lemmas.Bool.{cond_both}
 use Rattle.tran_ids.proofs.BranchLemmas.{same_from_equal}
 use Rattle.tran_ids.proofs.ListedLemmas.{item_is, put_found, drop_gone}
-use Rattle.node_rules.specs.Data.{Live, Act, BranchId, Edge, Vote, Phase, Standing}
+use Rattle.node_rules.specs.Data.{Live, Act, BranchId, Edge, Vote, Phase, KeptRow}
 use Rattle.node_rules.specs.Data.acts
 use Rattle.node_rules.specs.Data.kinds
 use Rattle.node_rules.specs.Data.phases
 use Rattle.node_rules.specs.Words.{same}
 use Rattle.node_rules.specs.Commit.{is_asked_again}
-use Rattle.node_rules.specs.NodeState.{NodeState, live_id, live_at, work_at, with_work, standing_at, without_branch, nothing, saying, post}
+use Rattle.node_rules.specs.NodeState.{NodeState, live_id, live_at, work_at, with_work, kept_row_at, without_branch, nothing, saying, post}
 use Rattle.node_rules.specs.Prepare.{ready, voted, has_voted, answers_first, is_awaited, act_turn, collecting, with_comment, without_read_keys, first_act, prepare_in, answer_in, answer_act}
 use Rattle.prepare_phase.specs.Acts.{is_first_answer}
-use Rattle.node_rules.specs.Turn.{Stand, Is_live, kept_or_gone, live_or, stand_of, prepare_turn, answer_turn}
+use Rattle.node_rules.specs.Turn.{BranchStatus, Is_live, kept_or_gone, live_or, status_of, prepare_turn, answer_turn}
 use Rattle.run_branch_laws.specs.PhaseLaws.{PhaseFits}
 use Rattle.run_rules.proofs.ListLemmas.{all_each}
 use Rattle.commit_laws.proofs.KeepLemmas.{Has, Served}
 
 -- ---- where a branch stands
 
-stand_live : (k : NodeState) (b : BranchId) (l : Live) → live_at k b ≡ Some l → stand_of k b ≡ Is_live (record { live = l; work = work_at k l.me })
-unfolding stand_of
-stand_live k b l is = ap (λ o. live_or (with_work k o) (standing_at k b)) is
+pub stand_live : (k : NodeState) (b : BranchId) (l : Live) → live_at k b ≡ Some l → status_of k b ≡ Is_live (record { live = l; work = work_at k l.me })
+unfolding status_of
+stand_live k b l is = ap (λ o. live_or (with_work k o) (kept_row_at k b)) is
 
-stand_other : (k : NodeState) (b : BranchId) → live_at k b ≡ None → stand_of k b ≡ kept_or_gone (standing_at k b)
-unfolding stand_of
-stand_other k b is = ap (λ o. live_or (with_work k o) (standing_at k b)) is
+stand_other : (k : NodeState) (b : BranchId) → live_at k b ≡ None → status_of k b ≡ kept_or_gone (kept_row_at k b)
+unfolding status_of
+stand_other k b is = ap (λ o. live_or (with_work k o) (kept_row_at k b)) is
 
 -- ---- acts
 
@@ -62,7 +62,7 @@ none_named (e ∷ es) = (tt, none_named es)
 
 module _ (k : NodeState) (from to : BranchId) (below : Bool) (comment : List ℕ) (y : Live) where
   -- one that is not live
-  unmoved : (o : Option Standing) → (prepare_turn k from to below comment (kept_or_gone o)).after ≡ k
+  unmoved : (o : Option KeptRow) → (prepare_turn k from to below comment (kept_or_gone o)).after ≡ k
   unmoved None = refl
   unmoved (Some s) = cond_both (is_asked_again s from) (saying k (post s.me from kinds.Prepared)) (nothing k) (λ d. d.after ≡ k) (λ again. refl) (λ other. refl)
 
@@ -77,15 +77,15 @@ module _ (k : NodeState) (from to : BranchId) (below : Bool) (comment : List ℕ
       let both : Some l ≡ Some y = sym found ∙ live in let it : l ≡ y = cc in
       subst (Served None) it (record { busy = λ working. (let no : phases.Ready ≡ phases.Working = sym is ∙ working in absurd cc); has = none_named l.edges })
 
-  by_live : (o : Option Live) → live_at k to ≡ o → live_at (prepare_turn k from to below comment (stand_of k to)).after to ≡ Some y → Served None y
+  by_live : (o : Option Live) → live_at k to ≡ o → live_at (prepare_turn k from to below comment (status_of k to)).after to ≡ Some y → Served None y
   by_live None is live =
-      let at : live_at (prepare_turn k from to below comment (kept_or_gone (standing_at k to))).after to ≡ Some y = subst (λ (s : Stand). live_at (prepare_turn k from to below comment s).after to ≡ Some y) (stand_other k to is) live in
-      let still : live_at k to ≡ Some y = subst (λ (j : NodeState). live_at j to ≡ Some y) (unmoved (standing_at k to)) at in
+      let at : live_at (prepare_turn k from to below comment (kept_or_gone (kept_row_at k to))).after to ≡ Some y = subst (λ (s : BranchStatus). live_at (prepare_turn k from to below comment s).after to ≡ Some y) (stand_other k to is) live in
+      let still : live_at k to ≡ Some y = subst (λ (j : NodeState). live_at j to ≡ Some y) (unmoved (kept_row_at k to)) at in
       absurd (cc (is, still))
   by_live (Some l) is live =
-      by_phase l is (item_is live_id k.lives to l is) l.phase refl (subst (λ (s : Stand). live_at (prepare_turn k from to below comment s).after to ≡ Some y) (stand_live k to l is) live)
+      by_phase l is (item_is live_id k.lives to l is) l.phase refl (subst (λ (s : BranchStatus). live_at (prepare_turn k from to below comment s).after to ≡ Some y) (stand_live k to l is) live)
 
-  pub prepare_served : live_at (prepare_turn k from to below comment (stand_of k to)).after to ≡ Some y → Served None y
+  pub prepare_served : live_at (prepare_turn k from to below comment (status_of k to)).after to ≡ Some y → Served None y
   prepare_served live = by_live (live_at k to) refl live
 
 -- ---- an answer
@@ -132,16 +132,16 @@ module _ (k : NodeState) (from to : BranchId) (v : Vote) (done : is_awaited v �
       let so : PhaseFits l.parent l.edges phases.Ready = subst (PhaseFits l.parent l.edges) is (fits l found) in
       still l (record { busy = busy l found; has = none_passes (λ (e : Edge). is_awaited e.vote) (Has (Some from)) (λ e none peer. none) l.edges so.1 }) found live
 
-  not_moved : (o : Option Standing) → (answer_turn k from v (kept_or_gone o)).after ≡ k
+  not_moved : (o : Option KeptRow) → (answer_turn k from v (kept_or_gone o)).after ≡ k
   not_moved None = refl
   not_moved (Some s) = refl
 
-  where_live : (o : Option Live) → live_at k to ≡ o → live_at (answer_turn k from v (stand_of k to)).after to ≡ Some y → Served (Some from) y
+  where_live : (o : Option Live) → live_at k to ≡ o → live_at (answer_turn k from v (status_of k to)).after to ≡ Some y → Served (Some from) y
   where_live None is live =
-      let at : live_at (answer_turn k from v (kept_or_gone (standing_at k to))).after to ≡ Some y = subst (λ (s : Stand). live_at (answer_turn k from v s).after to ≡ Some y) (stand_other k to is) live in
-      let there : live_at k to ≡ Some y = subst (λ (j : NodeState). live_at j to ≡ Some y) (not_moved (standing_at k to)) at in
+      let at : live_at (answer_turn k from v (kept_or_gone (kept_row_at k to))).after to ≡ Some y = subst (λ (s : BranchStatus). live_at (answer_turn k from v s).after to ≡ Some y) (stand_other k to is) live in
+      let there : live_at k to ≡ Some y = subst (λ (j : NodeState). live_at j to ≡ Some y) (not_moved (kept_row_at k to)) at in
       absurd (cc (is, there))
-  where_live (Some l) is live = in_phase l is (item_is live_id k.lives to l is) l.phase refl (subst (λ (s : Stand). live_at (answer_turn k from v s).after to ≡ Some y) (stand_live k to l is) live)
+  where_live (Some l) is live = in_phase l is (item_is live_id k.lives to l is) l.phase refl (subst (λ (s : BranchStatus). live_at (answer_turn k from v s).after to ≡ Some y) (stand_live k to l is) live)
 
-  pub answer_served : live_at (answer_turn k from v (stand_of k to)).after to ≡ Some y → Served (Some from) y
+  pub answer_served : live_at (answer_turn k from v (status_of k to)).after to ≡ Some y → Served (Some from) y
   answer_served live = where_live (live_at k to) refl live

@@ -5,8 +5,8 @@ use Rattle.std.specs.Prelude.{IfSome}
 use Rattle.std.specs.Option.{option_to_list}
 use Rattle.agreement.specs.Events.{exit}
 use Rattle.node_rules.specs.Data.{BranchId, Place, RedoRecord}
-use Rattle.node_rules.specs.NodeState.{NodeState, Deed}
-use Rattle.node_rules.specs.Turn.{turn_of, deed_of}
+use Rattle.node_rules.specs.NodeState.{NodeState, TurnDraft}
+use Rattle.node_rules.specs.Turn.{turn_of, draft_of}
 use Rattle.run_rules.specs.Data.{Happening, Turn}
 use Rattle.run_rules.specs.Data.happenings
 use Rattle.run_rules.specs.Facts.{Facts, place_at, node_at, records_at, kept_after, with_boot, facts_after}
@@ -18,7 +18,8 @@ use Rattle.run_base_laws.proofs.LawfulLemmas.{serves, of_wrote}
 use Rattle.run_base_laws.proofs.NodesStandLemmas.{some_or_none}
 use Rattle.run_base_laws.proofs.TurnEventLemmas.{cases_nat}
 use Rattle.tree_laws.proofs.PrefixLemmas.{so_far, f_at, e_at, one_on, more_on}
-use Rattle.tree_site_laws.proofs.TimeLemmas.{part_of, part_lawful, may_of, exit_on, keep_on}
+use Rattle.tree_laws.proofs.TimeLemmas.{may_of, exit_on, keep_on}
+use Rattle.tree_laws.proofs.AtTurn.{at_happening}
 
 module _ (t : History) (b : BranchId) where
   -- the branch has left
@@ -40,14 +41,10 @@ module _ (t : History) (whole : IsLawfulRun t) (b : BranchId) (Q : NodeState →
   -- each whole turn of its node keeps it
   abbrev pub TurnsKeep : Type 0
   TurnsKeep = (hs : List Happening) (rest : List Happening) (u : Turn) → hs ++ happenings.Turn u ∷ rest ≡ t.trace → HasLeft t b hs → (k : NodeState) (may : MayTurn t.places (f_at t hs) u k) → u.node ≡ b.node
-      → u.wrote ≡ (deed_of (place_at t.places u.node) k u.input).wrote → Q k → Q (deed_of (place_at t.places u.node) k u.input).after
+      → u.wrote ≡ (draft_of (place_at t.places u.node) k u.input).wrote → Q k → Q (draft_of (place_at t.places u.node) k u.input).after
 
   module _ (keeps : TurnsKeep) (hs : List Happening) (h : Happening) (rest : List Happening) (is : hs ++ h ∷ rest ≡ t.trace) (left : HasLeft t b hs) (now : Here (f_at t hs)) where
-    abbrev f : Facts
-    f = f_at t hs
-
-    lawful : IsLawfulRun (so_far t hs)
-    lawful = part_lawful t whole hs (part_of t whole hs h rest is)
+    open at_happening t whole hs h rest is use {f, lawful}
 
     even : length f.nodes ≡ length f.records
     even = (run_stands (so_far t hs) lawful).0.even
@@ -68,8 +65,8 @@ module _ (t : History) (whole : IsLawfulRun t) (b : BranchId) (Q : NodeState →
       abbrev p : Place
       p = place_at t.places u.node
 
-      abbrev d : Deed
-      d = deed_of p k u.input
+      abbrev d : TurnDraft
+      d = draft_of p k u.input
 
       abbrev g : Facts
       g = then (happenings.Turn u)

@@ -13,15 +13,15 @@ use Rattle.node_rules.specs.Data.votes
 use Rattle.node_rules.specs.Words.{numbered}
 use Rattle.node_rules.specs.NodeState.{NodeState, live_id, live_at, work_at, with_work}
 use Rattle.node_rules.specs.Prepare.{is_awaited}
-use Rattle.run_rules.specs.Births.{Born, births_of, born_id, born_at}
+use Rattle.run_rules.specs.Births.{Born, born_id, born_at}
 use Rattle.run_base_laws.specs.BirthLaws.{Began, IsChild, StandsBelow, LiveIs}
 use Rattle.run_rules.specs.Branches.{is_among}
 use Rattle.run_rules.specs.Data.{Fate, Packet}
 use Rattle.run_rules.specs.Data.fates
-use Rattle.run_rules.specs.Facts.{Facts, node_at}
+use Rattle.run_rules.specs.Facts.{node_at}
 use Rattle.run_base_laws.specs.FreezeLaws.{was_asked}
 use Rattle.run_base_laws.specs.InTurnLaws.{said_in}
-use Rattle.run_rules.specs.Lawful.{History, IsLawfulRun, facts_at}
+use Rattle.run_rules.specs.Lawful.{History, IsLawfulRun}
 use Rattle.run_branch_laws.specs.PhaseLaws.{IsUnasked, PhaseFits}
 use Rattle.run_base_laws.specs.RunEvents.{lives_at, events_of}
 use Rattle.run_rules.specs.Trail.{is_prepare}
@@ -33,8 +33,8 @@ use Rattle.run_base_laws.proofs.NodesStandLemmas.{some_or_none}
 use Rattle.run_base_laws.proofs.OwnLemmas.{all_found}
 use Rattle.run_branch_laws.proofs.PhaseLemmas.{phases_fit}
 use Rattle.tree_laws.proofs.AskRunLemmas.{edges_asked}
-use Rattle.tree_site_laws.proofs.FateLemmas.{among_found}
-use Rattle.tree_site_laws.proofs.ShallowLemmas.{parents_are_shallow}
+use Rattle.tree_laws.proofs.FateLemmas.{among_found}
+use Rattle.tree_laws.proofs.ShallowLemmas.{parents_are_shallow}
 use Rattle.commit_laws.specs.DeliveryLaws.{IsBusy, is_answer, HasAnswerOf}
 use Rattle.commit_laws.specs.WaitLaws.{HasStopped, HasNotCome, Awaits, Not_asked, Collects_too, Not_answered, Was_dropped, Has_stopped, CollectorsWait, AllCame, CollectsAreOver}
 use Rattle.commit_laws.proofs.ListLemmas.{IsIn, all_in, in_all}
@@ -43,6 +43,7 @@ use Rattle.commit_laws.proofs.SentLemmas.{IsSent, sent_found}
 use Rattle.commit_laws.proofs.HeardLemmas.{prepares_are_heard, answers_are_heard}
 use Rattle.commit_laws.proofs.LeftLemmas.{left_have_answered}
 use Rattle.commit_laws.proofs.ReadyLemmas.{ready_have_answered}
+use Rattle.tree_laws.proofs.AtPart.{at_end}
 
 -- ---- lists
 
@@ -76,11 +77,7 @@ come_or fates.Lost = inr (λ is. absurd cc)
 -- ---- every run
 
 module _ (t : History) (whole : IsLawfulRun t) where
-  abbrev f : Facts
-  f = facts_at t
-
-  abbrev bs : List Born
-  bs = births_of t
+  open at_end t use {f, bs}
 
   -- a message that was sent came, or has not
   came_or_not : (kind : Kind → Bool) (from to : BranchId) → was_sent kind (said_in f) from to ≡ true → (x : IsSent kind from to f.net.packets) × ((x.packet.fate ≡ fates.Delivered) ⊎ HasNotCome t kind from to)

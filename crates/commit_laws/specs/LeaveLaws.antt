@@ -7,7 +7,7 @@ use Rattle.node_rules.specs.Data.{BranchId, Live, Msg, Place, RedoRecord, Sealed
 use Rattle.node_rules.specs.Data.kinds
 use Rattle.node_rules.specs.Data.records
 use Rattle.node_rules.specs.Inputs.{Came}
-use Rattle.node_rules.specs.NodeState.{NodeState, Outcome, live_at}
+use Rattle.node_rules.specs.NodeState.{NodeState, TurnOutput, live_at}
 use Rattle.node_rules.specs.Turn.{turn_of}
 use Rattle.run_rules.specs.Data.{Happening}
 use Rattle.run_rules.specs.Data.happenings
@@ -27,7 +27,7 @@ pub data Reason (input : Input) (b : BranchId) (parent : Option BranchId) (wrote
   Hears_abort : (from : BranchId) → Came input from b kinds.Abort → Reason input b parent wrote sent
 
 -- each live branch below a root that a turn leaves no more has a reason
-abbrev pub LeavesForReason : Input → NodeState → Outcome → Type 0
+abbrev pub LeavesForReason : Input → NodeState → TurnOutput → Type 0
 LeavesForReason input k o = (b : BranchId) (l : Live) → live_at k b ≡ Some l → l.parent ≢ None → live_at o.after b ≡ None → Reason input b l.parent o.wrote o.sent
 
 -- so does each turn of a node that is up

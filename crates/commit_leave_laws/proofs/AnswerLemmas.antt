@@ -3,10 +3,10 @@ use Rattle.std.proofs.Common.{◌≡◌, ◌≢◌, ℕ, ◌==◌, ◌&&◌, ◌
 use Rattle.std.specs.List.{AllByRecursion, list_any}
 use Rattle.std.proofs.lemmas.Bool.{eqb-true, eq-eqb}
 use Rattle.std.proofs.lemmas.List.{append_assoc}
-use Rattle.node_rules.specs.Data.{Answer, BranchId, Place, Standing}
-use Rattle.node_rules.specs.NodeState.{NodeState, Deed, live_id, standing_id}
+use Rattle.node_rules.specs.Data.{Answer, BranchId, Place, KeptRow}
+use Rattle.node_rules.specs.NodeState.{NodeState, TurnDraft, live_id, kept_row_id}
 use Rattle.node_rules.specs.Sessions.{commit_complete}
-use Rattle.node_rules.specs.Turn.{turn_of, deed_of}
+use Rattle.node_rules.specs.Turn.{turn_of, draft_of}
 use Rattle.node_rules.specs.Words.{same, is_item_of}
 use Rattle.run_rules.specs.Data.{Happening, Turn}
 use Rattle.run_rules.specs.Data.happenings
@@ -17,7 +17,7 @@ use Rattle.run_rules.proofs.AtNodeLemmas.{turn_here, turn_elsewhere}
 use Rattle.run_base_laws.proofs.EventsStandLemmas.{run_stands}
 use Rattle.run_base_laws.proofs.TurnEventLemmas.{cases_nat}
 use Rattle.tree_laws.proofs.PrefixLemmas.{so_far, f_at, one_on, facts_join}
-use Rattle.tree_site_laws.proofs.TimeLemmas.{Part, part_of, part_lawful, may_of}
+use Rattle.tree_laws.proofs.TimeLemmas.{Part, part_of, part_lawful, may_of}
 use Rattle.commit_laws.specs.StillLaws.{DroppedNone, AbortsNone}
 use Rattle.run_claims.specs.Undisturbed.{Commit, Undisturbed, IsDelivery, answers_in, answers_from}
 use Rattle.commit_laws.proofs.RootLemmas.{undisturbed_roots_leave}
@@ -48,20 +48,16 @@ any_some p (x ∷ xs) is none = by (p x) is none (any_some p xs)
     by true found nothing rest = absurd cc
     by false found nothing rest = rest found nothing
 
-row_there : (r : BranchId) (ks : List Standing) → has_row r ks ≡ true → list_any (is_item_of standing_id r) ks ≡ true
+row_there : (r : BranchId) (ks : List KeptRow) → has_row r ks ≡ true → list_any (is_item_of kept_row_id r) ks ≡ true
 row_there r [] is = absurd cc
 row_there r (s ∷ ks) is = by (same s.me r) s.forgot is (row_there r ks)
   where
-    by : (q w : Bool) → ((q && not w) || has_row r ks) ≡ true → (has_row r ks ≡ true → list_any (is_item_of standing_id r) ks ≡ true) → (q || list_any (is_item_of standing_id r) ks) ≡ true
+    by : (q w : Bool) → ((q && not w) || has_row r ks) ≡ true → (has_row r ks ≡ true → list_any (is_item_of kept_row_id r) ks ≡ true) → (q || list_any (is_item_of kept_row_id r) ks) ≡ true
     by true w found rest = refl
     by false w found rest = rest found
 
 module _ (t : History) (whole : IsLawfulRun t) (c : Commit t.places t.commands t.trace) (u : Undisturbed t.places t.commands t.trace c) (quiet : AbortsNone t c.root) where
-  abbrev m : ℕ
-  m = c.session
-
-  abbrev r : BranchId
-  r = c.root
+  open c use {session as m, root as r}
 
   abbrev f0 : Facts
   f0 = f_at t c.before
@@ -136,17 +132,17 @@ module _ (t : History) (whole : IsLawfulRun t) (c : Commit t.places t.commands t
         let took : Comes g j h.node h.input (Some (record { number = comes.1; again = false })) = subst (λ o. Comes g j h.node h.input o) comes.2 may_turn.1.comes in
         let message = delivered g j h.node h.input _ took in
         let next_state = state_next t whole c u quiet j h.input before h rest all_is mid refl may_turn.1 here (answered mid) state message.0 message.1 in
-        let o = deed_of (place_at t.places h.node) j h.input in
+        let o = draft_of (place_at t.places h.node) j h.input in
         record {
           kept = o.after;
           up = subst (λ (f : Facts). node_at f r.node ≡ Some o.after) (sym one_more) (subst (λ n. node_at (facts_after t.places t.commands g (happenings.Turn h)) n ≡ Some o.after) here (turned here));
           state = subst (State t whole c u quiet o.after) (sym (answers_later ∙ ap (λ xs. answered mid ++ xs) (answers_are here))) next_state;
         }
       where
-        turned : h.node ≡ r.node → node_at (facts_after t.places t.commands g (happenings.Turn h)) h.node ≡ Some (deed_of (place_at t.places h.node) j h.input).after
+        turned : h.node ≡ r.node → node_at (facts_after t.places t.commands g (happenings.Turn h)) h.node ≡ Some (draft_of (place_at t.places h.node) j h.input).after
         turned here = (turn_here t.places t.commands g even_so h j may_turn.1.up).0 ∙ ap (λ q. kept_after q (Some (turn_of (place_at t.places h.node) j h.input))) comes.0
 
-        answers_are : h.node ≡ r.node → answers_in t.places g c.call.node m (happenings.Turn h) ≡ answers_of m (deed_of (place_at t.places h.node) j h.input).ended
+        answers_are : h.node ≡ r.node → answers_in t.places g c.call.node m (happenings.Turn h) ≡ answers_of m (draft_of (place_at t.places h.node) j h.input).ended
         answers_are here =
             ap (λ q. if q then [] else (if h.node == c.call.node then answers_of m (ended_by (outcome_at t.places g h)) else [])) comes.0
             ∙ (ap (λ q. if q then answers_of m (ended_by (outcome_at t.places g h)) else []) (eq-eqb h.node c.call.node (here ∙ sym node))
@@ -174,7 +170,7 @@ module _ (t : History) (whole : IsLawfulRun t) (c : Commit t.places t.commands t
       | inr other ↦ elsewhere other
     ]
 
-  abbrev d0 : Deed
+  abbrev d0 : TurnDraft
   d0 = call.d0 t whole c
 
   -- ---- the turn of the call
@@ -184,7 +180,7 @@ module _ (t : History) (whole : IsLawfulRun t) (c : Commit t.places t.commands t
   status_first = record {
     kept = d0.after;
     up = subst (λ xs. node_at (f_at t xs) r.node ≡ Some d0.after) (sym (append-nil after)) there;
-    state = subst (State t whole c u quiet d0.after) (sym answers_are) (subst (λ (d : Deed). State t whole c u quiet d.after (answers_of m d.ended)) (sym (call.deed_is t whole c u.goes_on)) (state_first t whole c u quiet));
+    state = subst (State t whole c u quiet d0.after) (sym answers_are) (subst (λ (d : TurnDraft). State t whole c u quiet d.after (answers_of m d.ended)) (sym (call.draft_is t whole c u.goes_on)) (state_first t whole c u quiet));
   }
     where
       there : node_at (f_at t after) r.node ≡ Some d0.after
@@ -219,7 +215,7 @@ module _ (t : History) (whole : IsLawfulRun t) (c : Commit t.places t.commands t
 
     no_last : Lasts r last.kept → ⊥
     no_last (inl lives) = any_some (is_item_of live_id r) last.kept.lives lives (undisturbed_roots_leave t whole c u below last.kept up_end)
-    no_last (inr row) = any_some (is_item_of standing_id r) last.kept.stored.durable.kept (row_there r last.kept.stored.durable.kept row) (gone last.kept up_end)
+    no_last (inr row) = any_some (is_item_of kept_row_id r) last.kept.stored.durable.kept (row_there r last.kept.stored.durable.kept row) (gone last.kept up_end)
 
     one_answer : answered c.during ≡ commit_complete ∷ []
     one_answer = by last.state

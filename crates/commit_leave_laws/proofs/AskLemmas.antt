@@ -28,10 +28,10 @@ use Rattle.run_branch_laws.proofs.FreezeRunLemmas.{prepare_finds_rest}
 use Rattle.run_base_laws.proofs.OwnLemmas.{all_found}
 use Rattle.tree_laws.proofs.AskRunLemmas.{edges_asked}
 use Rattle.tree_laws.proofs.PrefixLemmas.{so_far, f_at, e_at, more_on}
-use Rattle.tree_site_laws.specs.LeaveLaws.{LeftSo}
-use Rattle.tree_site_laws.proofs.FateLemmas.{among_found, drops_alone}
-use Rattle.tree_site_laws.proofs.LeaveLemmas.{was_there}
-use Rattle.tree_site_laws.proofs.TimeLemmas.{Part, part_on, part_of, part_lawful, may_of, born_end, exit_end, sent_end, keep_on}
+use Rattle.tree_laws.specs.LeaveLaws.{LeftSo}
+use Rattle.tree_laws.proofs.FateLemmas.{among_found, drops_alone}
+use Rattle.tree_laws.proofs.LeaveLemmas.{was_there}
+use Rattle.tree_laws.proofs.TimeLemmas.{Part, part_lawful, may_of, born_end, exit_end, sent_end, keep_on}
 use Rattle.commit_laws.specs.DeliveryLaws.{IsBusy}
 use Rattle.commit_laws.specs.StillLaws.{DroppedNone}
 use Rattle.run_claims.specs.Undisturbed.{Commit, Undisturbed}
@@ -40,6 +40,7 @@ use Rattle.commit_laws.proofs.StillLemmas.{messages_come}
 use Rattle.commit_leave_laws.specs.StrayLaws.{count_opens}
 use Rattle.commit_leave_laws.proofs.OpenRunLemmas.{opened_low, adds_any, count_on}
 use Rattle.commit_leave_laws.proofs.ChildLemmas.{zero_or, at_most, same_born, parent_of_tree, opened, is_child}
+use Rattle.tree_laws.proofs.AtTurn.{at_happening}
 
 -- what is so of the receiver of each Prepare that was delivered is so of one that was asked
 pub asked_so : (P Q : BranchId → Type 0) (xs : List Packet) → AllByRecursion (λ x. P x.msg.from → x.fate ≡ fates.Delivered) xs → AllByRecursion (λ x. x.fate ≡ fates.Delivered → is_prepare x.msg.kind ≡ true → Q x.msg.to) xs
@@ -115,17 +116,7 @@ module _ (t : History) (whole : IsLawfulRun t) (c : Commit t.places t.commands t
     Known hs = (exit (e_at t hs) p ≡ None) ⊎ ((exit (e_at t hs) p ≡ Some Dropped) ⊎ ((was_asked (said_in (f_at t hs)) p x.me ≡ true) ⊎ ((exit (e_at t hs) p ≢ None) × (count_opens (said_in (f_at t hs)) p x.edge ≡ 0))))
 
     module _ (hs : List Happening) (h : Happening) (rest : List Happening) (is : hs ++ h ∷ rest ≡ t.trace) where
-      abbrev after : List Happening
-      after = hs ++ h ∷ []
-
-      part : Part t whole hs
-      part = part_of t whole hs h rest is
-
-      lawful : IsLawfulRun (so_far t hs)
-      lawful = part_lawful t whole hs part
-
-      lawful_z : IsLawfulRun (so_far t after)
-      lawful_z = part_lawful t whole after (part_on t whole hs h rest is)
+      open at_happening t whole hs h rest is use {after, part, lawful, lawful_after as lawful_z}
 
       in_after : Part (so_far t after) lawful_z hs
       in_after = record { rest = h ∷ []; is = refl }

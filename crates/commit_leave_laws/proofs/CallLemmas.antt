@@ -1,4 +1,4 @@
--- The root of a COMMIT as its call comes: it is working and waits for nothing, it has no parent, and so it stays. The deed of the
+-- The root of a COMMIT as its call comes: it is working and waits for nothing, it has no parent, and so it stays. The draft of the
 -- call is the root's first act.
 use Rattle.std.proofs.Common.{◌≡◌, ℕ, true, false, List, [], ◌∷◌, ◌++◌, unwrap_or, Some, None, sym, ap, subst, ◌∙◌}
 use Rattle.tran_ids.proofs.ListedLemmas.{item_is}
@@ -9,10 +9,10 @@ use Rattle.node_rules.specs.Data.stmts
 use Rattle.node_rules.specs.declared.session.PendingCall.TheVariants as pending
 use Rattle.node_rules.specs.declared.session.Session.{Session}
 use Rattle.node_rules.specs.Client.{root_by, root_at, commit_by}
-use Rattle.node_rules.specs.NodeState.{NodeState, Deed, live_id, live_at, work_at, with_work}
+use Rattle.node_rules.specs.NodeState.{NodeState, TurnDraft, live_id, live_at, work_at, with_work}
 use Rattle.node_rules.specs.Prepare.{act_turn, collecting, first_act, with_comment, without_read_keys}
 use Rattle.node_rules.specs.Sessions.{session_at, with_call}
-use Rattle.node_rules.specs.Turn.{turn_of, deed_of}
+use Rattle.node_rules.specs.Turn.{turn_of, draft_of}
 use Rattle.node_rules.proofs.StandLemmas.{call_set}
 use Rattle.run_rules.specs.Births.{Born, births_of, born_id, born_at}
 use Rattle.run_base_laws.specs.BirthLaws.{Began, IsChild, LiveIs, StandsBelow}
@@ -29,7 +29,7 @@ use Rattle.run_base_laws.proofs.OwnLemmas.{all_found}
 use Rattle.run_base_laws.proofs.RestRunLemmas.{calls_come_at_rest}
 use Rattle.run_base_laws.proofs.RootLemmas.{roots_are_of_sessions}
 use Rattle.tree_laws.proofs.PrefixLemmas.{so_far, f_at, one_on}
-use Rattle.tree_site_laws.proofs.TimeLemmas.{Part, part_of, part_lawful, fact_at, born_end}
+use Rattle.tree_laws.proofs.TimeLemmas.{Part, part_of, part_lawful, fact_at, born_end}
 use Rattle.run_claims.specs.Undisturbed.{Commit}
 
 module _ (t : History) (whole : IsLawfulRun t) (c : Commit t.places t.commands t.trace) where
@@ -148,18 +148,18 @@ module _ (t : History) (whole : IsLawfulRun t) (c : Commit t.places t.commands t
       = fact_at t.places t.commands (ComesAtRest t.places) (first_facts t.places) c.before first c.during (subst (EachFactFrom (ComesAtRest t.places) t.places t.commands (first_facts t.places)) (sym c.is) (calls_come_at_rest t whole)) in
       law k c.up m (Some (stmts.Commit c.comment)) c.asks (record { live = c.live; work = work_at k c.live.me }) (subst (λ b. (session_at k.sessions m).root ≡ Some b) (sym me) c.of) (ap (with_work k) found)
 
-  abbrev pub done : Deed
+  abbrev pub done : TurnDraft
   done = act_turn kp l true (first_act l true)
 
-  abbrev pub d0 : Deed
-  d0 = deed_of (place_at t.places c.call.node) k c.call.input
+  abbrev pub d0 : TurnDraft
+  d0 = draft_of (place_at t.places c.call.node) k c.call.input
 
   pub root_found : root_at k m ≡ Some (record { live = c.live; work = work_at k c.live.me })
   root_found = ap (root_by k) c.of ∙ ap (with_work k) c.there
 
-  pub deed_is : (session_at k.sessions m).code ≡ None → d0 ≡ done
-  deed_is goes_on =
-      ap (deed_of (place_at t.places c.call.node) k) c.asks
+  pub draft_is : (session_at k.sessions m).code ≡ None → d0 ≡ done
+  draft_is goes_on =
+      ap (draft_of (place_at t.places c.call.node) k) c.asks
       ∙ (ap (λ o. commit_by k m comment o (root_at k m)) goes_on ∙ ap (λ o. commit_by k m comment None o) root_found)
 
   -- what the root's node keeps after it

@@ -1,14 +1,14 @@
 -- The turn of an undisturbed COMMIT's call: it is pending from then on, or is answered at once.
 use Rattle.std.proofs.Common.{◌≡◌, ◌≢◌, ℕ, true, false, List, [], ◌∷◌, is_none, Some, None, inl, inr, refl, sym, ap, subst, ◌∙◌}
 use Rattle.std.proofs.lemmas.Bool.{cond_both}
-use Rattle.node_rules.specs.Data.{Act, BranchId, Edge, Input, Live}
+use Rattle.node_rules.specs.Data.{Act, Edge, Input, Live}
 use Rattle.node_rules.specs.Data.acts
 use Rattle.node_rules.specs.Data.inputs
 use Rattle.node_rules.specs.Data.phases
 use Rattle.node_rules.specs.Data.stmts
 use Rattle.node_rules.specs.declared.session.PendingCall.TheVariants as pending
 use Rattle.node_rules.specs.declared.session.Session.{Session}
-use Rattle.node_rules.specs.NodeState.{NodeState, Branch, Deed, live_id, live_at, branch_at, work_at, with_work}
+use Rattle.node_rules.specs.NodeState.{NodeState, Branch, TurnDraft, live_id, live_at, branch_at, work_at, with_work}
 use Rattle.node_rules.specs.Prepare.{act_turn, first_act_by, root_act}
 use Rattle.node_rules.specs.Sessions.{session_at, with_call}
 use Rattle.node_rules.specs.Words.{is_item_of}
@@ -26,7 +26,7 @@ use Rattle.run_base_laws.proofs.RestRunLemmas.{calls_come_at_rest, roots_wait}
 use Rattle.run_base_laws.proofs.RootLemmas.{session_or_before}
 use Rattle.tree_laws.specs.AskLaws.{way_of}
 use Rattle.tree_laws.proofs.PrefixLemmas.{so_far, f_at}
-use Rattle.tree_site_laws.proofs.TimeLemmas.{fact_at}
+use Rattle.tree_laws.proofs.TimeLemmas.{fact_at}
 use Rattle.commit_laws.specs.StillLaws.{AbortsNone}
 use Rattle.run_claims.specs.Undisturbed.{Commit, Undisturbed}
 use Rattle.commit_leave_laws.proofs.RootActLemmas.{Known, Effect, decides_so, finishes_so, seals_so, still, lasts_put}
@@ -43,11 +43,7 @@ same_roots ss m n = elim (session_or_before ss m n (record (session_at ss m) { c
 ]
 
 module _ (t : History) (whole : IsLawfulRun t) (c : Commit t.places t.commands t.trace) (u : Undisturbed t.places t.commands t.trace c) (quiet : AbortsNone t c.root) where
-  abbrev m : ℕ
-  m = c.session
-
-  abbrev r : BranchId
-  r = c.root
+  open c use {session as m, root as r, kept as k}
 
   abbrev f0 : Facts
   f0 = f_at t c.before
@@ -66,9 +62,6 @@ module _ (t : History) (whole : IsLawfulRun t) (c : Commit t.places t.commands t
 
   abbrev own : r.session ≡ m
   own = call.own t whole c
-
-  abbrev k : NodeState
-  k = c.kept
 
   abbrev input : Input
   input = inputs.Call m (Some (stmts.Commit c.comment))
@@ -142,7 +135,7 @@ module _ (t : History) (whole : IsLawfulRun t) (c : Commit t.places t.commands t
       (λ below. (let top_none : is_none l.parent ≡ true = ap is_none (fits.1 c.live c.there) in absurd (cc (below, top_none))))
   by_edges (e ∷ es) = still m r own input kp known_call (act_turn kp l true acts.AskDown) refl refl (lasts_put m r own input kp known_call l c.live found)
 
-  abbrev done : Deed
+  abbrev done : TurnDraft
   done = call.done t whole c
 
   acts_so : Effect m r own input kp done

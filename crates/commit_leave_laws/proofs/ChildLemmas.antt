@@ -15,8 +15,8 @@ use Rattle.run_base_laws.proofs.BirthRunLemmas.{births_are_trees, nodes_name_the
 use Rattle.run_base_laws.proofs.KidLemmas.{child_of, kids_of}
 use Rattle.run_base_laws.proofs.OwnLemmas.{all_found}
 use Rattle.tree_laws.proofs.PrefixLemmas.{so_far, f_at}
-use Rattle.tree_site_laws.proofs.MemberLemmas.{BornBelow, born_below}
-use Rattle.tree_site_laws.proofs.TimeLemmas.{Part, part_lawful, born_end}
+use Rattle.tree_laws.proofs.MemberLemmas.{BornBelow, born_below}
+use Rattle.tree_laws.proofs.TimeLemmas.{Part, part_lawful, born_end}
 use Rattle.run_claims.specs.Undisturbed.{Commit, Undisturbed, HasNotStopped}
 use Rattle.commit_laws.proofs.StillLemmas.{stays_up}
 use Rattle.answer_origin_laws.proofs.OpenSentLemmas.{IsOpenTo, WasOpened, opened_at}

@@ -3,14 +3,14 @@
 use Rattle.std.proofs.Common.{◌≡◌, ◌≢◌, ℕ, Bool, List, [], Option, Some, None, inl, inr, refl, sym, ap, subst, ◌∙◌}
 use Rattle.commit_forget.specs.declared.next.Next.{Next}
 use Rattle.commit_forget.specs.declared.next.Next.TheVariants as nexts
-use Rattle.node_rules.specs.Data.{BranchId, Decision, Input, Live, Place, Standing}
+use Rattle.node_rules.specs.Data.{BranchId, Decision, Input, Live, Place, KeptRow}
 use Rattle.node_rules.specs.Data.decisions
 use Rattle.node_rules.specs.Data.kinds
 use Rattle.node_rules.specs.Data.records
 use Rattle.node_rules.specs.declared.session.Session.{Session}
 use Rattle.node_rules.specs.Calls.{open_by, heard_answer, heard_sessions, hears_reply, with_edge}
 use Rattle.node_rules.specs.Inputs.{Came, Brings, Rollback_came, Rolled_back_came}
-use Rattle.node_rules.specs.NodeState.{NodeState, Branch, Deed, nothing, saying, post, live_id, with_standing}
+use Rattle.node_rules.specs.NodeState.{NodeState, Branch, TurnDraft, nothing, saying, post, live_id, with_kept_row}
 use Rattle.node_rules.specs.Commit.{acked_by, next_turn}
 use Rattle.node_rules.specs.Prepare.{drops}
 use Rattle.node_rules.specs.Sessions.{session_at, commit_complete, commit_ended, commit_answer}
@@ -18,7 +18,7 @@ use Rattle.node_rules.specs.Statement.{ran, after_run}
 use Rattle.session_tree.specs.Live.{new_edge}
 use Rattle.node_rules.proofs.StandLemmas.{live_so}
 use Rattle.node_rules.proofs.Steps as steps
-use Rattle.node_rules.proofs.Steps.{Acting, Asked, Collects, Collected, Pointed, Answers, Doing, Drops, IsKept, Step}
+use Rattle.node_rules.proofs.Steps.{Doing, Drops, IsKept, Step}
 use Rattle.run_rules.proofs.ListLemmas.{any_more}
 use Rattle.run_base_laws.proofs.RestStepLemmas.{going_of}
 use Rattle.commit_leave_laws.proofs.RootActLemmas.{Known, Effect, IsNoCall, same_or, still, not_mine, completes, asked_live, asked_below, waits_elsewhere, lasts_put, lasts_drop, lasts_write, acts_so}
@@ -36,13 +36,13 @@ module _ (m : ℕ) (r : BranchId) (own : r.session ≡ m) (input : Input) where
     undone b from (Rollback_came came) me = (let calm = now.calm from kinds.Rollback (subst (λ c. Came input from c kinds.Rollback) me came) in cc calm)
     undone b from (Rolled_back_came came) me = (let calm = now.calm from kinds.RolledBack (subst (λ c. Came input from c kinds.RolledBack) me came) in cc calm)
 
-    ends_so : {s : Standing} {from : BranchId} {d : Decision} → Doing k.clock input s from (nexts.End d) → Brings input from s.me d
+    ends_so : {s : KeptRow} {from : BranchId} {d : Decision} → Doing k.clock input s from (nexts.End d) → Brings input from s.me d
     ends_so (steps.Ends_so d brings toward none sealed met) = brings
 
-    meets_so : {s : Standing} {from : BranchId} {d : Decision} {mixed : Bool} → Doing k.clock input s from (nexts.Meet d mixed) → Brings input from s.me d
+    meets_so : {s : KeptRow} {from : BranchId} {d : Decision} {mixed : Bool} → Doing k.clock input s from (nexts.Meet d mixed) → Brings input from s.me d
     meets_so (steps.Meets_so d brings toward none unsealed uncommitted met) = brings
 
-    does_so : (s : Standing) (from : BranchId) (n : Next) → IsKept k s → Doing k.clock input s from n → Effect m r own input k (next_turn k s from n)
+    does_so : (s : KeptRow) (from : BranchId) (n : Next) → IsKept k s → Doing k.clock input s from n → Effect m r own input k (next_turn k s from n)
     does_so s from (nexts.End (decisions.Commit n)) kept why = still m r own input k now (next_turn k s from (nexts.End (decisions.Commit n))) refl refl (lasts_write m r own input k now (records.Ended s.me (decisions.Commit n)) tt)
     does_so s from (nexts.End decisions.Rollback) kept why =
         let other : s.me ≢ r = undone s.me from (ends_so why) in
@@ -74,11 +74,11 @@ module _ (m : ℕ) (r : BranchId) (own : r.session ≡ m) (input : Input) where
   -- ---- steps
 
   -- an Ack that counts leaves what is known
-  acked_lasts : (k : NodeState) (s : Standing) (from : BranchId) → IsKept k s → Lasts r k → Lasts r (with_standing k (acked_by s from))
+  acked_lasts : (k : NodeState) (s : KeptRow) (from : BranchId) → IsKept k s → Lasts r k → Lasts r (with_kept_row k (acked_by s from))
   acked_lasts k s from kept (inl living) = inl living
   acked_lasts k s from kept (inr row) = inr (acked_row r k (acked_by s from) s kept refl refl row)
 
-  pub effect_on : (p : Place) → IsNoCall input → {k : NodeState} {d : Deed} → Step p input k d → K k → Effect m r own input k d
+  pub effect_on : (p : Place) → IsNoCall input → {k : NodeState} {d : TurnDraft} → Step p input k d → K k → Effect m r own input k d
   effect_on p quiet (steps.Begins n s call rows range none step) now = absurd (quiet.calls n (Some s) call)
   effect_on p quiet (steps.Pends n l given call has live code step) now = absurd (quiet.calls n _ call)
   effect_on p quiet (steps.Lets_reads_go {k = k} l comment site_below live begins step) now =

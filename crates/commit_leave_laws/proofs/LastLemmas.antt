@@ -3,11 +3,11 @@ use Rattle.std.proofs.Common.{◌≡◌, ◌≢◌, ◌&&◌, ◌||◌, ◌⊎�
 use Rattle.std.specs.List.{list_any}
 use Rattle.std.proofs.lemmas.Bool.{cond_both, or_right, and_parts}
 use Rattle.tran_ids.proofs.BranchLemmas.{equal_from_same, same_from_equal}
-use Rattle.node_rules.specs.Data.{BranchId, Decided, Live, RedoRecord, Sealed, Standing}
+use Rattle.node_rules.specs.Data.{BranchId, Decided, Live, RedoRecord, Sealed, KeptRow}
 use Rattle.node_rules.specs.Data.decisions
 use Rattle.node_rules.specs.Data.params
 use Rattle.node_rules.specs.Data.records
-use Rattle.node_rules.specs.NodeState.{NodeState, Stored, live_id, standing_id, stands_at}
+use Rattle.node_rules.specs.NodeState.{NodeState, Stored, live_id, kept_row_id, stands_at}
 use Rattle.node_rules.specs.Records.{applied}
 use Rattle.node_rules.specs.Words.{same, is_item_of, item_at, put_item, drop_item, put_by_branch, change_where, drop_where, branch_below}
 use Rattle.redo_record.specs.Durable.{durable_after}
@@ -18,10 +18,10 @@ use Rattle.run_rules.proofs.ListLemmas.{any_dropped, any_put}
 -- ---- what lasts
 
 -- a row of a branch that has not forgotten
-abbrev pub is_unforgotten : BranchId → Standing → Bool
+abbrev pub is_unforgotten : BranchId → KeptRow → Bool
 is_unforgotten r s = same s.me r && not s.forgot
 
-abbrev pub has_row : BranchId → List Standing → Bool
+abbrev pub has_row : BranchId → List KeptRow → Bool
 has_row r ks = list_any (is_unforgotten r) ks
 
 abbrev pub is_living : BranchId → List Live → Bool
@@ -94,18 +94,18 @@ Spares r (records.Forgot b) = b ≢ r
 Spares r _ = Unit {0}
 
 module _ (r : BranchId) where
-  other_row : (b : BranchId) → b ≢ r → (s : Standing) → is_unforgotten r s ≡ true → stands_at b s ≡ false
+  other_row : (b : BranchId) → b ≢ r → (s : KeptRow) → is_unforgotten r s ≡ true → stands_at b s ≡ false
   other_row b other s is = by (stands_at b s) refl
     where
       by : (q : Bool) → stands_at b s ≡ q → stands_at b s ≡ false
       by false at = at
       by true at = absurd (other (sym (equal_from_same s.me b at) ∙ equal_from_same s.me r (and_parts (same s.me r) (not s.forgot) is).0))
 
-  other_done : (b : BranchId) → b ≢ r → (s : Standing) → is_unforgotten r s ≡ true → is_done b s ≡ false
+  other_done : (b : BranchId) → b ≢ r → (s : KeptRow) → is_unforgotten r s ≡ true → is_done b s ≡ false
   other_done b other s is = ap (λ q. q && not s.mixed) (other_row b other s is)
 
   -- a row that forgets is of another branch
-  forgot_other : (b : BranchId) → b ≢ r → (ks : List Standing) → has_row r ks ≡ true → has_row r (change_where (stands_at b) forgot_as ks) ≡ true
+  forgot_other : (b : BranchId) → b ≢ r → (ks : List KeptRow) → has_row r ks ≡ true → has_row r (change_where (stands_at b) forgot_as ks) ≡ true
   forgot_other b other [] is = absurd cc
   forgot_other b other (s ∷ ks) is = by (is_unforgotten r s) refl is (forgot_other b other ks)
     where
@@ -115,7 +115,7 @@ module _ (r : BranchId) where
           ap (λ q. is_unforgotten r (if q then forgot_as s else s) || has_row r (change_where (stands_at b) forgot_as ks)) still ∙ ap (λ q. q || has_row r (change_where (stands_at b) forgot_as ks)) here
       by false here found rest = or_right (is_unforgotten r (if stands_at b s then forgot_as s else s)) (has_row r (change_where (stands_at b) forgot_as ks)) (rest found)
 
-  pub row_kept : (ks : List Standing) (x : RedoRecord) → Spares r x → has_row r ks ≡ true → has_row r (kept_after ks x) ≡ true
+  pub row_kept : (ks : List KeptRow) (x : RedoRecord) → Spares r x → has_row r ks ≡ true → has_row r (kept_after ks x) ≡ true
   unfolding kept_after
   row_kept ks (records.Sealed x) spares is = any_put_in (is_unforgotten r) (λ y. y.me) ks (sealed_as x) is
   row_kept ks (records.Decided x) spares is = cond_both (has_neighbors (decided_as x)) _ _ (λ zs. has_row r zs ≡ true) (λ kept. any_put_in (is_unforgotten r) (λ y. y.me) ks (decided_as x) is) (λ alone. is)
@@ -164,7 +164,7 @@ module _ (r : BranchId) where
         apart false at = at
         apart true at = absurd (other (sym (equal_from_same r b at)))
 
-    pub acked_row : (s y : Standing) → item_at standing_id k.stored.durable.kept s.me ≡ Some y → s.forgot ≡ y.forgot → s.me ≡ y.me → has_row r k.stored.durable.kept ≡ true
-        → has_row r (put_item standing_id k.stored.durable.kept s) ≡ true
+    pub acked_row : (s y : KeptRow) → item_at kept_row_id k.stored.durable.kept s.me ≡ Some y → s.forgot ≡ y.forgot → s.me ≡ y.me → has_row r k.stored.durable.kept ≡ true
+        → has_row r (put_item kept_row_id k.stored.durable.kept s) ≡ true
     acked_row s y found forgot me is =
-        any_same (is_unforgotten r) standing_id k.stored.durable.kept s y found (ap (λ b. same b r && not s.forgot) me ∙ ap (λ q. same y.me r && not q) forgot) ∙ is
+        any_same (is_unforgotten r) kept_row_id k.stored.durable.kept s y found (ap (λ b. same b r && not s.forgot) me ∙ ap (λ q. same y.me r && not q) forgot) ∙ is

@@ -3,21 +3,21 @@ use Rattle.std.proofs.Common.{◌≡◌, ◌≢◌, ℕ, ◌+◌, ◌<◌, ◌�
 use Rattle.std.specs.List.{AllByRecursion}
 use Rattle.agreement.specs.Events.{exit}
 use Rattle.tran_ids.proofs.ListedLemmas.{item_is}
-use Rattle.node_rules.specs.Data.{Advice, BranchId, Kind, Live, Place, Post, Stmt, Input}
+use Rattle.node_rules.specs.Data.{Advice, BranchId, Kind, Live, Post, Stmt, Input}
 use Rattle.node_rules.specs.Data.admits
 use Rattle.node_rules.specs.Data.inputs
 use Rattle.node_rules.specs.Data.kinds
 use Rattle.node_rules.specs.Calls.{admit}
 use Rattle.node_rules.specs.Client.{new_root}
 use Rattle.node_rules.specs.Inputs.{Came, IsCall}
-use Rattle.node_rules.specs.NodeState.{NodeState, Branch, Deed, live_id, live_at, branch_at, work_at, with_work}
+use Rattle.node_rules.specs.NodeState.{NodeState, Branch, TurnDraft, live_id, live_at, branch_at, work_at, with_work}
 use Rattle.node_rules.specs.declared.work.Work.{Work}
 use Rattle.node_rules.specs.Sessions.{session_at}
-use Rattle.node_rules.specs.Turn.{turn_of, deed_of, heard}
+use Rattle.node_rules.specs.Turn.{turn_of, draft_of, heard}
 use Rattle.node_rules.proofs.StandLemmas.{live_so}
 use Rattle.node_rules.proofs.Steps as steps
 use Rattle.node_rules.proofs.Steps.{HasRoot, IsOfRows}
-use Rattle.run_rules.specs.Births.{Born, births_of, born_at}
+use Rattle.run_rules.specs.Births.{born_at}
 use Rattle.run_base_laws.specs.BirthLaws.{Began, GoesSo, IsChild}
 use Rattle.run_base_laws.specs.CallLaws.{ComesAtRest}
 use Rattle.run_rules.specs.Data.{Turn, Happening}
@@ -41,13 +41,15 @@ use Rattle.run_base_laws.proofs.RootLemmas.{roots_are_of_sessions}
 use Rattle.run_base_laws.proofs.SaidPostLemmas.{execs_are_low, posts_back, posts_of, said_after}
 use Rattle.run_base_laws.proofs.TurnEventLemmas.{number_is}
 use Rattle.tree_laws.proofs.PrefixLemmas.{so_far, f_at, e_at, one_on}
-use Rattle.tree_site_laws.proofs.TimeLemmas.{Part, part_on, part_of, part_lawful, may_of, fact_at, keep_on}
+use Rattle.tree_laws.proofs.TimeLemmas.{Part, part_on, part_lawful, may_of, fact_at, keep_on}
 use Rattle.answer_origin_laws.proofs.CatalogLemmas.{catalog}
 use Rattle.answer_origin_laws.proofs.LineLemmas.{more}
 use Rattle.answer_origin_laws.proofs.LineRunLemmas.{GivenBy, CalledAt, stand_at}
 use Rattle.commit_leave_laws.specs.StrayLaws.{count_opens, OpensAreSentOnce}
 use Rattle.commit_leave_laws.proofs.OpenLemmas.{IsNoOpen, count_more, plain_none, low_none, silent_none, one_counts, one_other}
 use Rattle.commit_leave_laws.proofs.OpenStepLemmas.{FindsNext, BeginsNext, OpensNext, OpensOne, opens_on}
+use Rattle.tree_laws.proofs.AtTurn.{at_turn}
+use Rattle.tree_laws.proofs.AtPart.{at_part}
 
 -- a call that is run is above the last
 runs_above : (w : _) (call : ℕ) → admit w call ≡ admits.Run → w.last_call < call
@@ -60,11 +62,7 @@ IsRowsCall input = (n : ℕ) × (st : Stmt) × IsCall input n st × IsOfRows st
 
 module _ (t : History) (whole : IsLawfulRun t) where
   module _ (hs : List Happening) (part : Part t whole hs) where
-    abbrev f : Facts
-    f = f_at t hs
-
-    abbrev s : History
-    s = so_far t hs
+    open at_part t hs use {f, s}
 
     lawful : IsLawfulRun s
     lawful = part_lawful t whole hs part
@@ -79,29 +77,10 @@ module _ (t : History) (whole : IsLawfulRun t) where
   -- ---- a turn
 
   module _ (hs : List Happening) (u : Turn) (rest : List Happening) (is : hs ++ happenings.Turn u ∷ rest ≡ t.trace) (k : NodeState) (may : MayTurn t.places (f_at t hs) u k) where
-    abbrev f0 : Facts
-    f0 = f_at t hs
+    open at_turn t whole hs u rest is use {f as f0, s as s0, part as part0, lawful as lawful0, said, bs, p}
 
-    abbrev s0 : History
-    s0 = so_far t hs
-
-    part0 : Part t whole hs
-    part0 = part_of t whole hs (happenings.Turn u) rest is
-
-    lawful0 : IsLawfulRun s0
-    lawful0 = part_lawful t whole hs part0
-
-    abbrev said : List Post
-    said = said_in f0
-
-    abbrev bs : List Born
-    bs = births_of s0
-
-    abbrev p : Place
-    p = place_at t.places u.node
-
-    abbrev d : Deed
-    d = deed_of p k u.input
+    abbrev d : TurnDraft
+    d = draft_of p k u.input
 
     -- a client's statement came, or the branch is a child
     abbrev pub Why : BranchId → Type 0

@@ -16,7 +16,7 @@ use Rattle.node_rules.specs.Calls.{answer_says, exec_to, nobody_at, with_edge, h
 use Rattle.node_rules.specs.Client.{begun_by, new_root}
 use Rattle.node_rules.specs.Commit.{acked_by, beyond}
 use Rattle.node_rules.specs.Inputs.{IsCall}
-use Rattle.node_rules.specs.NodeState.{NodeState, Branch, Deed, live_id, live_at, post, to_one, to_each, with_standing}
+use Rattle.node_rules.specs.NodeState.{NodeState, Branch, TurnDraft, live_id, live_at, post, to_one, to_each, with_kept_row}
 use Rattle.node_rules.specs.Prepare.{path_of, site_neighbors, without_read_keys}
 use Rattle.node_rules.specs.Recovery.{kept_told}
 use Rattle.node_rules.specs.Sessions.{session_at, with_call}
@@ -67,7 +67,7 @@ module _ (Q : BranchId → ℕ → Type 0) (p : Place) (input : Input) where
   BeginsNext k = (n : ℕ) (s : Stmt) → IsCall input n s → IsOfRows s → (session_at k.sessions n).root ≡ None → (i : ℕ) → Q (new_root p k n) (i + 1)
 
   -- One Open is said, of such an edge, and its sender is live.
-  pub record OpensOne (d : Deed) : Type 0 where
+  pub record OpensOne (d : TurnDraft) : Type 0 where
     pub me : BranchId
     pub number : ℕ
     pub to : BranchId
@@ -78,7 +78,7 @@ module _ (Q : BranchId → ℕ → Type 0) (p : Place) (input : Input) where
     pub live : Live
     pub found : live_at d.after me ≡ Some live
 
-  abbrev pub OpensNext : Deed → Type 0
+  abbrev pub OpensNext : TurnDraft → Type 0
   OpensNext d = AllSay IsNoOpen d.says ⊎ OpensOne d
 
   one_call : (n m : ℕ) (s t : Stmt) → IsCall input n s → IsCall input m t → (n ≡ m) × (s ≡ t)
@@ -111,7 +111,7 @@ module _ (Q : BranchId → ℕ → Type 0) (p : Place) (input : Input) where
   reads_back k b x s given (steps.By_call n y st call rows has code live) = steps.By_call n y st call rows has code live
   reads_back k b x s given (steps.By_exec y from number room advice st came live runs) = steps.By_exec y from number room advice st came live runs
 
-  acked_back : (k : NodeState) (r : _) (x : Branch) (s : Stmt) (given : ℕ) → Asked (with_standing k r) input x s given → Asked k input x s given
+  acked_back : (k : NodeState) (r : _) (x : Branch) (s : Stmt) (given : ℕ) → Asked (with_kept_row k r) input x s given → Asked k input x s given
   acked_back k r x s given (steps.By_call n y st call rows has code live) = steps.By_call n y st call rows has code live
   acked_back k r x s given (steps.By_exec y from number room advice st came live runs) = steps.By_exec y from number room advice st came live runs
 
@@ -123,7 +123,7 @@ module _ (Q : BranchId → ℕ → Type 0) (p : Place) (input : Input) where
   commit_begins : (k : NodeState) (n : ℕ) (given : Option (List ℕ)) → IsCall input n (stmts.Commit given) → BeginsNext k
   commit_begins k n given call m s called rows none i = absurd (let it : s ≡ stmts.Commit given = (one_call m n s (stmts.Commit given) called call).1 in subst IsOfRows it rows)
 
-  pub opens_on : {k : NodeState} {d : Deed} → Step p input k d → FindsNext k → BeginsNext k → OpensNext d
+  pub opens_on : {k : NodeState} {d : TurnDraft} → Step p input k d → FindsNext k → BeginsNext k → OpensNext d
   opens_on (steps.Begins {k = k} n s call rows range none step) finds begins = opens_on step (begun_finds k n s call rows none begins) (begun_begins k n s call rows none begins)
   opens_on (steps.Pends {k = k} n l given call has live code step) finds begins =
       let j : NodeState = record k { sessions = with_call k.sessions n pending.Commit } in opens_on step (commit_finds j n given call) (commit_begins j n given call)

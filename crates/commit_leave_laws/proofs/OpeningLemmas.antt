@@ -12,8 +12,8 @@ use Rattle.node_rules.specs.Data.inputs
 use Rattle.node_rules.specs.Data.kinds
 use Rattle.node_rules.specs.Calls.{is_opening, next_child, new_opening, open_by}
 use Rattle.node_rules.specs.Inputs.{Came}
-use Rattle.node_rules.specs.NodeState.{NodeState, Deed}
-use Rattle.node_rules.specs.Turn.{turn_of, deed_of, heard}
+use Rattle.node_rules.specs.NodeState.{NodeState, TurnDraft}
+use Rattle.node_rules.specs.Turn.{turn_of, draft_of, heard}
 use Rattle.node_rules.specs.Words.{is_item_of, item_at}
 use Rattle.link_session.specs.Opens.{opening_of}
 use Rattle.node_rules.proofs.Steps as steps
@@ -23,8 +23,8 @@ use Rattle.run_base_laws.specs.BirthLaws.{Began}
 use Rattle.run_rules.specs.Branches.{is_among}
 use Rattle.run_rules.specs.Data.{Turn, Happening}
 use Rattle.run_rules.specs.Data.happenings
-use Rattle.run_rules.specs.Facts.{Facts, place_at, node_at, records_at, kept_after, with_boot, facts_after}
-use Rattle.run_rules.specs.Lawful.{History, IsLawfulRun, MayHappen, boots}
+use Rattle.run_rules.specs.Facts.{Facts, node_at, records_at, kept_after, with_boot, facts_after}
+use Rattle.run_rules.specs.Lawful.{History, IsLawfulRun, boots}
 use Rattle.run_base_laws.specs.RunEvents.{lives_at}
 use Rattle.run_rules.proofs.AtNodeLemmas.{turn_here, turn_elsewhere, stop_here, stop_elsewhere, start_here, start_elsewhere}
 use Rattle.run_base_laws.proofs.BirthLemmas.{Begins, Child_begins, None_begins, Root_begins, begins_so}
@@ -35,16 +35,17 @@ use Rattle.run_base_laws.proofs.LawfulLemmas.{serves, of_wrote}
 use Rattle.run_base_laws.proofs.OwnLemmas.{all_found}
 use Rattle.run_base_laws.proofs.TurnEventLemmas.{cases_nat, number_is}
 use Rattle.tree_laws.proofs.PrefixLemmas.{so_far, f_at, one_on, births_join}
-use Rattle.tree_site_laws.proofs.TimeLemmas.{part_of, part_lawful, may_of, keep_on}
+use Rattle.tree_laws.proofs.TimeLemmas.{may_of, keep_on}
 use Rattle.commit_leave_laws.proofs.FindLemmas.{find_kept, find_either, find_last}
+use Rattle.tree_laws.proofs.AtTurn.{at_happening, at_turn}
 
 -- ---- a step
 
 -- what a node opened stays
-abbrev Grows : NodeState → Deed → Type 0
+abbrev Grows : NodeState → TurnDraft → Type 0
 Grows k d = (b : BranchId) (i : ℕ) (o : Opening) → opening_of k.opens b i ≡ Some o → opening_of d.after.opens b i ≡ Some o
 
-opens_grow : (p : Place) (input : Input) {k : NodeState} {d : Deed} → Step p input k d → Grows k d
+opens_grow : (p : Place) (input : Input) {k : NodeState} {d : TurnDraft} → Step p input k d → Grows k d
 opens_grow p input (steps.Begins n s call rows range none step) = opens_grow p input step
 opens_grow p input (steps.Pends n l given call has live code step) = opens_grow p input step
 opens_grow p input (steps.Lets_reads_go l comment site_below live begins step) = opens_grow p input step
@@ -91,20 +92,7 @@ module _ (t : History) (whole : IsLawfulRun t) where
   births_on hs h = births_join t.places t.commands _ hs (h ∷ []) []
 
   module _ (hs : List Happening) (h : Happening) (rest : List Happening) (is : hs ++ h ∷ rest ≡ t.trace) (now : Answered hs) where
-    abbrev f : Facts
-    f = f_at t hs
-
-    abbrev s : History
-    s = so_far t hs
-
-    abbrev bs : List Born
-    bs = births_of s
-
-    abbrev g : Facts
-    g = facts_after t.places t.commands f h
-
-    lawful : IsLawfulRun s
-    lawful = part_lawful t whole hs (part_of t whole hs h rest is)
+    open at_happening t whole hs h rest is use {f, s, bs, g, lawful}
 
     even : length f.nodes ≡ length f.records
     even = (run_stands s lawful).0.even
@@ -130,35 +118,10 @@ module _ (t : History) (whole : IsLawfulRun t) where
     ]
 
   module _ (hs : List Happening) (u : Turn) (rest : List Happening) (is : hs ++ happenings.Turn u ∷ rest ≡ t.trace) (now : Answered hs) where
-    abbrev f1 : Facts
-    f1 = f_at t hs
-
-    abbrev g1 : Facts
-    g1 = facts_after t.places t.commands f1 (happenings.Turn u)
-
-    abbrev s1 : History
-    s1 = so_far t hs
-
-    abbrev bs1 : List Born
-    bs1 = births_of s1
-
-    lawful1 : IsLawfulRun s1
-    lawful1 = part_lawful t whole hs (part_of t whole hs (happenings.Turn u) rest is)
+    open at_turn t whole hs u rest is use {f as f1, g as g1, s as s1, bs as bs1, lawful as lawful1, may, k, p, d}
 
     even1 : length f1.nodes ≡ length f1.records
     even1 = (run_stands s1 lawful1).0.even
-
-    may : MayHappen t.places t.commands f1 (happenings.Turn u)
-    may = may_of t whole hs (happenings.Turn u) rest is
-
-    abbrev k : NodeState
-    k = may.0
-
-    abbrev p : Place
-    p = place_at t.places u.node
-
-    abbrev d : Deed
-    d = deed_of p k u.input
 
     number : p.number ≡ u.node
     number = number_is t.places t.commands t.of_a_script.each f1 u.node k (run_stands s1 lawful1).1.many may.1.up
@@ -181,7 +144,7 @@ module _ (t : History) (whole : IsLawfulRun t) where
     -- so is one that begins
     child_so : (to parent : BranchId) (edge : ℕ) (root : BranchId) (depth : ℕ) → Came u.input parent to (kinds.Open edge root depth) → find (is_opening parent edge) k.opens ≡ None
         → (o : Opening) × (opening_of d.after.opens parent edge ≡ Some o) × (o.child ≡ next_child p k)
-    child_so to parent edge root depth came none = subst (λ i. (o : Opening) × (opening_of (deed_of p k i).after.opens parent edge ≡ Some o) × (o.child ≡ next_child p k)) (sym came.is) (made, opened, refl)
+    child_so to parent edge root depth came none = subst (λ i. (o : Opening) × (opening_of (draft_of p k i).after.opens parent edge ≡ Some o) × (o.child ≡ next_child p k)) (sym came.is) (made, opened, refl)
       where
         j : NodeState
         j = heard k (inputs.Message (record { from = parent; to = to; scn = came.scn; kind = kinds.Open edge root depth }))
@@ -189,7 +152,7 @@ module _ (t : History) (whole : IsLawfulRun t) where
         made : Opening
         made = new_opening p k parent edge
 
-        opened : opening_of (deed_of p k (inputs.Message (record { from = parent; to = to; scn = came.scn; kind = kinds.Open edge root depth }))).after.opens parent edge ≡ Some made
+        opened : opening_of (draft_of p k (inputs.Message (record { from = parent; to = to; scn = came.scn; kind = kinds.Open edge root depth }))).after.opens parent edge ≡ Some made
         opened =
             ap (λ o. opening_of (open_by p j parent edge root depth o).after.opens parent edge) none
             ∙ find_last (is_opening parent edge) k.opens made none (ap (λ q. q && (edge == edge)) (same_from_equal parent parent refl) ∙ eq-eqb edge edge refl)
@@ -218,9 +181,9 @@ module _ (t : History) (whole : IsLawfulRun t) where
     either : (x : Born) → Began (bs1 ++ births_by p k u.input) x → (Began bs1 x) ⊎ (item_at born_id (births_by p k u.input) x.me ≡ Some x)
     either x began = find_either (is_item_of born_id x.me) bs1 (births_by p k u.input) x began
 
-    at_turn : (cut : Bool) → u.cut ≡ cut → (n : ℕ) (j : NodeState) → node_at g1 n ≡ Some j → (x : Born) → Began (if cut then bs1 else bs1 ++ births_by p k u.input) x → IsAnswerTo n (boots (records_at g1 n)) j x
+    after_turn : (cut : Bool) → u.cut ≡ cut → (n : ℕ) (j : NodeState) → node_at g1 n ≡ Some j → (x : Born) → Began (if cut then bs1 else bs1 ++ births_by p k u.input) x → IsAnswerTo n (boots (records_at g1 n)) j x
     unfolding turn_of
-    at_turn cut is_cut n j up x began = elim (cases_nat u.node n) [
+    after_turn cut is_cut n j up x began = elim (cases_nat u.node n) [
       | inl mine ↦ subst (λ m. IsAnswerTo m (boots (records_at g1 m)) j x) mine (own cut (sym here.0 ∙ subst (λ m. node_at g1 m ≡ Some j) (sym mine) up) is_cut began)
       | inr other ↦ (let same_there = turn_elsewhere t.places t.commands f1 even1 u n other in
           away cut began (λ old. subst (λ (rs : List RedoRecord). IsAnswerTo n (boots rs) j x) (sym same_there.1) (now n j (sym same_there.0 ∙ up) x old)) other)
@@ -246,7 +209,7 @@ module _ (t : History) (whole : IsLawfulRun t) where
     turn_answered : Answered (hs ++ happenings.Turn u ∷ [])
     turn_answered n j up x began =
         subst (λ (y : Facts). IsAnswerTo n (boots (records_at y n)) j x) (sym (one_on t hs (happenings.Turn u)))
-        (at_turn u.cut refl n j (subst (λ (y : Facts). node_at y n ≡ Some j) (one_on t hs (happenings.Turn u)) up) x (subst (λ xs. Began xs x) (births_now u.cut refl) began))
+        (after_turn u.cut refl n j (subst (λ (y : Facts). node_at y n ≡ Some j) (one_on t hs (happenings.Turn u)) up) x (subst (λ xs. Began xs x) (births_now u.cut refl) began))
 
   answered_on : (hs : List Happening) (h : Happening) (rest : List Happening) → hs ++ h ∷ rest ≡ t.trace → Answered hs → Answered (hs ++ h ∷ [])
   unfolding facts_after

@@ -12,9 +12,9 @@ use Rattle.node_rules.specs.Data.kinds
 use Rattle.node_rules.specs.declared.session.PendingCall.TheVariants as pending
 use Rattle.node_rules.specs.declared.session.Session.{Session}
 use Rattle.node_rules.specs.Inputs.{Came}
-use Rattle.node_rules.specs.NodeState.{NodeState, Branch, Deed, live_id, live_at, branch_at, work_at, with_work}
+use Rattle.node_rules.specs.NodeState.{NodeState, Branch, TurnDraft, live_id, live_at, branch_at, work_at, with_work}
 use Rattle.node_rules.specs.Sessions.{session_at, commit_complete}
-use Rattle.node_rules.specs.Turn.{deed_of, heard}
+use Rattle.node_rules.specs.Turn.{draft_of, heard}
 use Rattle.node_rules.specs.Words.{same}
 use Rattle.node_rules.proofs.HeardLemmas.{sessions_heard}
 use Rattle.run_rules.specs.Births.{Born, births_of, born_id, born_at}
@@ -34,8 +34,8 @@ use Rattle.run_base_laws.proofs.OwnLemmas.{all_found}
 use Rattle.run_base_laws.proofs.RestRunLemmas.{asked_parent, roots_wait}
 use Rattle.tree_laws.specs.AskLaws.{way_of}
 use Rattle.tree_laws.proofs.AskRunLemmas.{live_told, sent_from}
-use Rattle.tree_laws.proofs.PrefixLemmas.{so_far, f_at}
-use Rattle.tree_site_laws.proofs.TimeLemmas.{Part, part_of, part_lawful, born_end, sent_end}
+use Rattle.tree_laws.proofs.PrefixLemmas.{f_at}
+use Rattle.tree_laws.proofs.TimeLemmas.{Part, born_end, sent_end}
 use Rattle.commit_laws.specs.StillLaws.{AbortsNone}
 use Rattle.run_claims.specs.Undisturbed.{Commit, Undisturbed, IsCalm, branches_in, disturbs, is_disturbed}
 use Rattle.commit_laws.proofs.AmongLemmas.{is_in}
@@ -45,6 +45,7 @@ use Rattle.commit_leave_laws.proofs.RootActLemmas.{Known, Effect, upsets}
 use Rattle.commit_leave_laws.proofs.LastLemmas.{Lasts}
 use Rattle.commit_leave_laws.proofs.SessionLemmas.{answers_of}
 use Rattle.commit_leave_laws.proofs.CallLemmas as call
+use Rattle.tree_laws.proofs.AtTurn.{at_turn}
 
 -- ---- messages
 
@@ -76,11 +77,7 @@ delivered f k node (inputs.GiveUp n) took comes = absurd comes
 delivered f k node inputs.Reco took comes = absurd comes
 
 module _ (t : History) (whole : IsLawfulRun t) (c : Commit t.places t.commands t.trace) (u : Undisturbed t.places t.commands t.trace c) (quiet : AbortsNone t c.root) where
-  abbrev m : ℕ
-  m = c.session
-
-  abbrev r : BranchId
-  r = c.root
+  open c use {session as m, root as r}
 
   abbrev first : Happening
   first = happenings.Turn c.call
@@ -104,14 +101,7 @@ module _ (t : History) (whole : IsLawfulRun t) (c : Commit t.places t.commands t
   -- what is known of the root's node as a message comes
   module _ (k : NodeState) (input : Input) (zs : List Happening) (h : Turn) (rest : List Happening) (is : zs ++ happenings.Turn h ∷ rest ≡ t.trace) (mid : List Happening) (at : after ++ mid ≡ zs) (may : MayTurn t.places (f_at t zs) h k) (here : h.node ≡ r.node)
       (told : List Answer) (state : State k told) where
-    abbrev z : History
-    z = so_far t zs
-
-    abbrev part : Part t whole zs
-    part = part_of t whole zs (happenings.Turn h) rest is
-
-    abbrev lawful_z : IsLawfulRun z
-    lawful_z = part_lawful t whole zs part
+    open at_turn t whole zs h rest is use {s as z, part, lawful as lawful_z}
 
     since : Part z lawful_z c.before
     since = record { rest = first ∷ mid; is = sym (append_assoc c.before (first ∷ []) mid) ∙ at }
@@ -212,8 +202,8 @@ module _ (t : History) (whole : IsLawfulRun t) (c : Commit t.places t.commands t
 
     -- ---- its turn
 
-    abbrev d : Deed
-    d = deed_of (place_at t.places h.node) k h.input
+    abbrev d : TurnDraft
+    d = draft_of (place_at t.places h.node) k h.input
 
     abbrev k1 : NodeState
     k1 = heard k h.input

@@ -11,7 +11,7 @@ use Rattle.node_rules.specs.Data.records
 use Rattle.node_rules.specs.declared.session.PendingCall.TheVariants as pending
 use Rattle.node_rules.specs.declared.work.Going.{Going}
 use Rattle.node_rules.specs.Inputs.{Came}
-use Rattle.node_rules.specs.NodeState.{NodeState, Branch, Deed, live_id, live_at, branch_at}
+use Rattle.node_rules.specs.NodeState.{NodeState, Branch, TurnDraft, live_id, live_at, branch_at}
 use Rattle.node_rules.specs.Records.{applied}
 use Rattle.node_rules.specs.Prepare.{act_turn, is_alone, sealed_of, decided_of, own_changes, ready}
 use Rattle.node_rules.specs.Sessions.{session_at, commit_complete, commit_ended, commit_answer}
@@ -19,7 +19,7 @@ use Rattle.node_rules.specs.Words.{same, put_item, drop_item}
 use Rattle.tree_laws.specs.AskLaws.{way_of}
 use Rattle.node_rules.proofs.StandLemmas.{live_so}
 use Rattle.node_rules.proofs.Steps as steps
-use Rattle.node_rules.proofs.Steps.{Acting, Asked, Collects, Collected, Pointed, Answers, Doing, Drops, IsKept, Step}
+use Rattle.node_rules.proofs.Steps.{Acting, Asked, Collects, Collected, Pointed}
 use Rattle.commit_leave_laws.proofs.AloneLemmas.{alone_or_kept}
 use Rattle.commit_leave_laws.proofs.LastLemmas.{Lasts, Spares, has_row, is_living, row_applied, sealed_row, decided_row, lives_put, lives_drop}
 use Rattle.commit_leave_laws.proofs.SessionLemmas.{Keeps, answers_of, same_keeps, commit_keeps, alone_keeps, abandon_keeps, own_ends, own_free}
@@ -80,13 +80,13 @@ module _ (m : ℕ) (r : BranchId) (own : r.session ≡ m) (input : Input) where
     pub calm : (from : BranchId) (kind : Kind) → Came input from r kind → upsets kind ≡ false
 
   -- what a step leaves of the session
-  abbrev pub Effect : NodeState → Deed → Type 0
+  abbrev pub Effect : NodeState → TurnDraft → Type 0
   Effect k d = (Keeps m k.sessions d.after.sessions d.ended × ((session_at k.sessions m).root ≡ Some r → Lasts r k → Lasts r d.after))
       ⊎ (((session_at k.sessions m).root ≡ Some r) × (answers_of m d.ended ≡ commit_complete ∷ []) × ((session_at d.after.sessions m).root ≡ None))
 
   module _ (k : NodeState) (now : Known k) where
     -- nothing of the sessions changes
-    pub still : (d : Deed) → d.after.sessions ≡ k.sessions → d.ended ≡ [] → (Lasts r k → Lasts r d.after) → Effect k d
+    pub still : (d : TurnDraft) → d.after.sessions ≡ k.sessions → d.ended ≡ [] → (Lasts r k → Lasts r d.after) → Effect k d
     still d sessions ended lasts = inl (subst (λ ss. Keeps m k.sessions ss d.ended) (sym sessions) (subst (Keeps m k.sessions k.sessions) (sym ended) (same_keeps m k.sessions)), (λ root. lasts))
 
     -- a branch that is not this root is not the session's transaction
@@ -101,7 +101,7 @@ module _ (m : ℕ) (r : BranchId) (own : r.session ≡ m) (input : Input) where
         subst (λ n. (session_at k.sessions n).root ≡ Some r) own (subst (λ b. (session_at k.sessions b.session).root ≡ Some b) me at)
 
     -- the COMMIT of the root is complete
-    pub completes : (d : Deed) → d.after.sessions ≡ commit_ended k.sessions r → d.ended ≡ commit_answer k.sessions r commit_complete → (session_at k.sessions m).root ≡ Some r → Effect k d
+    pub completes : (d : TurnDraft) → d.after.sessions ≡ commit_ended k.sessions r → d.ended ≡ commit_answer k.sessions r commit_complete → (session_at k.sessions m).root ≡ Some r → Effect k d
     completes d sessions ended root = inr (
       root,
       ap (answers_of m) ended ∙ own_ends m k.sessions r own root (now.commits root) commit_complete,

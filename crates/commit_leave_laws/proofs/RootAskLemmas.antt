@@ -9,7 +9,7 @@ use Rattle.node_rules.specs.Data.acts
 use Rattle.node_rules.specs.Data.inputs
 use Rattle.node_rules.specs.Data.phases
 use Rattle.node_rules.specs.Data.stmts
-use Rattle.node_rules.specs.NodeState.{NodeState, Deed, live_id, live_at}
+use Rattle.node_rules.specs.NodeState.{NodeState, TurnDraft, live_id, live_at}
 use Rattle.node_rules.specs.Prepare.{act_turn, first_act_by, with_prepare_sent}
 use Rattle.node_rules.specs.Sessions.{session_at}
 use Rattle.node_rules.specs.Words.{numbered}
@@ -30,7 +30,7 @@ use Rattle.run_base_laws.proofs.EventsStandLemmas.{ids_name_their_node}
 use Rattle.run_base_laws.proofs.OwnLemmas.{all_found}
 use Rattle.tree_laws.proofs.AskRunLemmas.{edges_asked}
 use Rattle.tree_laws.proofs.PrefixLemmas.{so_far, f_at}
-use Rattle.tree_site_laws.proofs.TimeLemmas.{Part, part_on, part_of, part_lawful, may_of, sent_end}
+use Rattle.tree_laws.proofs.TimeLemmas.{Part, part_on, part_of, part_lawful, may_of, sent_end}
 use Rattle.commit_laws.specs.DeliveryLaws.{IsBusy}
 use Rattle.commit_laws.specs.StillLaws.{DroppedNone}
 use Rattle.run_claims.specs.Undisturbed.{Commit, Undisturbed, IsDelivery}
@@ -148,8 +148,8 @@ module _ (t : History) (whole : IsLawfulRun t) (c : Commit t.places t.commands t
     collects : live_at (call.d0 t whole c).after r ≡ Some l
     collects =
         let act : first_act_by l true (map with_prepare_sent c.live.edges) ≡ acts.AskDown = asks_down l c.live.edges some in
-        let deed : (call.d0 t whole c) ≡ act_turn (call.kp t whole c) l true acts.AskDown = call.deed_is t whole c u.goes_on ∙ ap (act_turn (call.kp t whole c) l true) act in
-        subst (λ (d : Deed). live_at d.after r ≡ Some l) (sym deed) (subst (λ b. live_at (act_turn (call.kp t whole c) l true acts.AskDown).after b ≡ Some l) me (put_found live_id (call.kp t whole c).lives l))
+        let draft : (call.d0 t whole c) ≡ act_turn (call.kp t whole c) l true acts.AskDown = call.draft_is t whole c u.goes_on ∙ ap (act_turn (call.kp t whole c) l true) act in
+        subst (λ (d : TurnDraft). live_at d.after r ≡ Some l) (sym draft) (subst (λ b. live_at (act_turn (call.kp t whole c) l true acts.AskDown).after b ≡ Some l) me (put_found live_id (call.kp t whole c).lives l))
 
     part_after : Part t whole after
     part_after = part_on t whole c.before first c.during c.is

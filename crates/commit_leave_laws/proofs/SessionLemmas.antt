@@ -2,7 +2,7 @@
 -- COMMIT of its own transaction ends once, with its answer.
 use Rattle.std.proofs.Common.{◌≡◌, ◌≢◌, ℕ, ◌==◌, ◌&&◌, Bool, true, false, if◌then◌else◌, List, [], ◌∷◌, map, filter, is_none, unwrap_or, Option, Some, None, inl, inr, refl, sym, ap, subst, ◌∙◌}
 use Rattle.std.proofs.lemmas.Bool.{cond_both, and_parts, eqb-true, eq-eqb}
-use Rattle.tran_ids.proofs.BranchLemmas.{equal_from_same, same_from_equal}
+use Rattle.tran_ids.proofs.BranchLemmas.{same_from_equal}
 use Rattle.node_rules.specs.Data.{Answer, BranchId, Decision, Live}
 use Rattle.node_rules.specs.Data.decisions
 use Rattle.node_rules.specs.declared.session.PendingCall.TheVariants as pending
@@ -17,6 +17,7 @@ use Rattle.node_rules.specs.Words.{numbered, set_numbered}
 use Rattle.session_tree.specs.Live.{is_branch}
 use Rattle.node_rules.proofs.StandLemmas.{session_set}
 use Rattle.run_base_laws.proofs.RootLemmas.{session_or_before}
+use Rattle.node_rules.proofs.StepLemmas.{branch_found as branch_here}
 
 -- the answers of a session among the calls that end
 abbrev pub answers_of : ℕ → List Finished → List Answer
@@ -45,11 +46,6 @@ other_answer m n a other = ap (λ q. map (λ (x : Finished). x.answer) (if q the
 -- an answer of this one
 own_answer : (m n : ℕ) (a : Answer) → n ≡ m → answers_of m ((record { session = n; answer = a }) ∷ []) ≡ a ∷ []
 own_answer m n a own = ap (λ q. map (λ (x : Finished). x.answer) (if q then (record { session = n; answer = a }) ∷ [] else [])) (eq-eqb n m own)
-
--- a branch is the one that is there
-branch_here : (b : BranchId) (o : Option BranchId) → is_branch b o ≡ true → o ≡ Some b
-branch_here b None is = absurd cc
-branch_here b (Some c) is = ap Some (equal_from_same c b is)
 
 module _ (m : ℕ) (ss : List Session) where
   pub same_keeps : Keeps m ss ss []

@@ -1,24 +1,10 @@
 -- The tried runs, by computation.
 use Rattle.std.proofs.Common.{refl}
-use Rattle.std.specs.Fmt.{digits}
-use Rattle.tran_ids.specs.Numbers.{decimal, hex8}
-use Rattle.redo_record.specs.Kept.{kept_after}
-use Rattle.redo_record.specs.Durable.{durable_after}
-use Rattle.node_rules.specs.Meaning.{checked, examined, written, meant_over}
-use Rattle.node_rules.specs.Records.{applied, stored_by}
-use Rattle.session_tree.specs.Tree.{weight, step}
-use Rattle.stmt_run.specs.Run.{ran_over}
-use Rattle.node_rules.specs.Statement.{ran}
-use Rattle.node_rules.specs.Names.{way_of}
-use Rattle.node_rules.specs.Calls.{admit, reply_of}
-use Rattle.node_rules.specs.Commit.{beyond, next_on_decision, next_on_ack, next_on_forgotten}
-use Rattle.node_rules.specs.Turn.{turn_of, start_of, stand_of}
-use Rattle.net_bag.specs.Net.{sent_on, delivered, stopped, started}
-use Rattle.run_rules.specs.Facts.{facts_after, facts_of}
+use Rattle.net_bag.specs.Net.{stopped, started}
 use Rattle.run_rules.specs.Births.{births_from}
 use Rattle.commit_leave_laws.specs.TriedStray.{TheTriedStray}
+use Rattle.tree_laws.proofs.Trying.{trying}
 
 pub the_tried_stray : TheTriedStray
-unfolding digits decimal hex8 kept_after durable_after checked examined written meant_over applied stored_by weight step ran_over ran way_of admit reply_of beyond next_on_decision next_on_ack next_on_forgotten turn_of start_of stand_of sent_on delivered stopped started facts_after
-    facts_of births_from
+unfolding trying stopped started births_from
 the_tried_stray = record { once = refl; no_other = refl; asked = refl; waits = refl; live = refl; still_waits = refl; kept = refl; ends = refl; gone = refl; two = refl; one_open = refl }

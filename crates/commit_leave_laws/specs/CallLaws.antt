@@ -2,7 +2,7 @@
 -- Language Reference: COMMIT; Database Administrator's Guide, "Distributed Transactions Concepts": commit and forget phases.)
 use Rattle.std.specs.Prelude.{◌≡◌, [], ◌∷◌, None, Some}
 use Rattle.node_rules.specs.Data.{BranchId}
-use Rattle.node_rules.specs.NodeState.{NodeState, standing_at}
+use Rattle.node_rules.specs.NodeState.{NodeState, kept_row_at}
 use Rattle.node_rules.specs.Sessions.{commit_complete}
 use Rattle.run_rules.specs.Data.happenings
 use Rattle.run_rules.specs.Facts.{node_at}
@@ -12,7 +12,7 @@ use Rattle.run_claims.specs.Undisturbed.{Commit, Undisturbed, facts_by, answers_
 
 -- a branch has no row at its node, where that is up
 abbrev pub HasNoRow : History → BranchId → Type 0
-HasNoRow t b = (k : NodeState) → node_at (facts_at t) b.node ≡ Some k → standing_at k b ≡ None
+HasNoRow t b = (k : NodeState) → node_at (facts_at t) b.node ≡ Some k → kept_row_at k b ≡ None
 
 -- In every lawful run an undisturbed COMMIT has one answer, Commit complete, once no row of its root is left, where no branch
 -- below the root was dropped and none said Abort.

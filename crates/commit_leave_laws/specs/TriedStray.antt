@@ -6,7 +6,7 @@ use Rattle.node_rules.specs.Data.{BranchId, Post}
 use Rattle.node_rules.specs.Data.inputs
 use Rattle.node_rules.specs.declared.session.PendingCall.{PendingCall}
 use Rattle.node_rules.specs.declared.session.PendingCall.TheVariants as pending
-use Rattle.node_rules.specs.NodeState.{NodeState, standing_at}
+use Rattle.node_rules.specs.NodeState.{NodeState, kept_row_at}
 use Rattle.node_rules.specs.Sessions.{session_at}
 use Rattle.net_bag.specs.Net.{packet_at}
 use Rattle.run_rules.specs.Births.{root_born, child_born, births_from}
@@ -35,7 +35,7 @@ call_at f n = option_map (λ k. (session_at k.sessions 1).call) (node_at f n)
 -- whether the row of a branch has forgotten, where there is one
 abbrev pub has_forgot : Option NodeState → BranchId → Option Bool
 has_forgot None b = None
-has_forgot (Some k) b = option_map (λ s. s.forgot) (standing_at k b)
+has_forgot (Some k) b = option_map (λ s. s.forgot) (kept_row_at k b)
 
 -- ---- a stray
 

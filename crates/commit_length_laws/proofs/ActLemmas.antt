@@ -15,7 +15,7 @@ use Rattle.node_rules.specs.Data.phases
 use Rattle.node_rules.specs.Data.records
 use Rattle.node_rules.specs.Data.walks
 use Rattle.node_rules.specs.Records.{applied, with_record}
-use Rattle.node_rules.specs.NodeState.{NodeState, live_id, live_at, standing_id, to_each, to_one, with_live, without_branch}
+use Rattle.node_rules.specs.NodeState.{NodeState, live_id, live_at, kept_row_id, to_each, to_one, with_live, without_branch}
 use Rattle.node_rules.specs.Prepare.{act_turn, path_of, named_children, is_prepared, ready, site_neighbors, sealed_of, decided_of, own_changes, collected_act, root_act, commit_point_act}
 use Rattle.commit_length_laws.proofs.TotalLemmas.{total, total_append, drop_total, put_total, insert_total}
 use Rattle.commit_length_laws.proofs.WorthLemmas.{one_of, phase_worth, post_worth, says_worth, live_worth, row_worth, node_worth, live_low, row_low, each_worth, one_worth, asked_worth, asks_worth, map_length, append_length, filter_low}
@@ -93,7 +93,7 @@ module _ (g : BranchId) (ask far : BranchId → ℕ) where
     seals_low b path ms n few =
         let gone = left in
         let row = sealed_low k.clock path in
-        let more = insert_total (row_worth g ask far) standing_id k.stored.durable.kept (sealed_as (sealed_of k.clock l (own_changes k l.me) path)) in
+        let more = insert_total (row_worth g ask far) kept_row_id k.stored.durable.kept (sealed_as (sealed_of k.clock l (own_changes k l.me) path)) in
         omega (arith, few, gone, row, more)
 
     decides_low : says (act_turn k l true acts.Decide).says + held (act_turn k l true acts.Decide).after + live_worth g ask far x ≤ 21 * (one_of l.parent + length l.edges) + held k
@@ -106,7 +106,7 @@ module _ (g : BranchId) (ask far : BranchId → ℕ) where
         let more : total (row_worth g ask far) (keep_decided k.stored.durable.kept (decided_as (decided_of (k.clock + 1) l (own_changes k l.me)))) ≤ total (row_worth g ask far) k.stored.durable.kept + row_worth g ask far (decided_as (decided_of (k.clock + 1) l (own_changes k l.me)))
         = cond_both (has_neighbors (decided_as (decided_of (k.clock + 1) l (own_changes k l.me)))) (add_kept k.stored.durable.kept (decided_as (decided_of (k.clock + 1) l (own_changes k l.me)))) k.stored.durable.kept
         (λ ks. total (row_worth g ask far) ks ≤ total (row_worth g ask far) k.stored.durable.kept + row_worth g ask far (decided_as (decided_of (k.clock + 1) l (own_changes k l.me))))
-        (λ some. (let is = insert_total (row_worth g ask far) standing_id k.stored.durable.kept (decided_as (decided_of (k.clock + 1) l (own_changes k l.me))) in omega (arith, is))) (λ none. omega arith) in
+        (λ some. (let is = insert_total (row_worth g ask far) kept_row_id k.stored.durable.kept (decided_as (decided_of (k.clock + 1) l (own_changes k l.me))) in omega (arith, is))) (λ none. omega arith) in
         omega (arith, gone, row, told, few, more)
 
     -- so an act sends and keeps no more

@@ -1,26 +1,25 @@
 -- Nothing of the transaction of a COMMIT that flows is on the way when it is called: nothing is in flight, its branches work, and
 -- no row is kept of it.
-use Rattle.std.proofs.Common.{◌≡◌, ◌≢◌, ℕ, zero, suc, ◌+◌, ◌<◌, ◌||◌, Bool, true, false, if◌then◌else◌, List, [], ◌∷◌, length, position, option_map, Option, Some, None, inl, inr, refl, sym, ap, subst, ◌∙◌, arith}
-use Rattle.std.specs.List.{AllByRecursion, list_any, position_or_len}
+use Rattle.std.proofs.Common.{◌≡◌, ◌≢◌, ℕ, zero, suc, ◌||◌, Bool, true, false, if◌then◌else◌, List, [], ◌∷◌, length, Option, Some, None, inl, inr, refl, sym, ap, subst, ◌∙◌, arith}
+use Rattle.std.specs.List.{AllByRecursion, list_any}
 use Rattle.tran_ids.proofs.BranchLemmas.{equal_from_same}
 use Rattle.tran_ids.proofs.ListedLemmas.{item_is}
 use Rattle.agreement.specs.Events.{Exit, Sealed, Decided, Dropped, exit, learned}
-use Rattle.node_rules.specs.Data.{BranchId, Decision, Live, Phase, Post, Standing}
+use Rattle.node_rules.specs.Data.{BranchId, Decision, Live, Phase, KeptRow}
 use Rattle.node_rules.specs.Data.decisions
 use Rattle.node_rules.specs.Data.phases
 use Rattle.node_rules.specs.Data.stmts
 use Rattle.node_rules.specs.Words.{same, numbered, item_at}
 use Rattle.node_rules.specs.NodeState.{NodeState, Branch, live_id, live_at, branch_at, work_at, with_work}
 use Rattle.net_bag.specs.Net.{flies}
-use Rattle.run_rules.specs.Births.{Born, births_of}
+use Rattle.run_rules.specs.Births.{Born}
 use Rattle.run_base_laws.specs.BirthLaws.{Began, LiveIs, KeptIs}
 use Rattle.run_base_laws.specs.CallLaws.{ComesAtRest}
-use Rattle.run_rules.specs.Data.{Packet, Turn, Happening}
+use Rattle.run_rules.specs.Data.{Packet, Turn}
 use Rattle.run_rules.specs.Data.happenings
 use Rattle.run_base_laws.specs.EventRows.{RowIs, IsKnown}
-use Rattle.run_rules.specs.Facts.{Facts, first_facts, flat, node_at}
+use Rattle.run_rules.specs.Facts.{first_facts, flat, node_at}
 use Rattle.run_base_laws.specs.FreezeLaws.{was_asked}
-use Rattle.run_base_laws.specs.InTurnLaws.{said_in}
 use Rattle.run_rules.specs.Lawful.{History, IsLawfulRun}
 use Rattle.run_base_laws.specs.NodeLaws.{EachFactFrom}
 use Rattle.run_rules.specs.Trail.{is_prepare}
@@ -35,17 +34,19 @@ use Rattle.tree_laws.specs.AskLaws.{HeardAbove}
 use Rattle.tree_laws.proofs.FoundLemmas.{lives_found}
 use Rattle.tree_laws.proofs.ForestLemmas as trees
 use Rattle.tree_laws.proofs.ForestRunLemmas.{run_known}
-use Rattle.tree_laws.proofs.PrefixLemmas.{so_far, f_at, e_at}
-use Rattle.tree_site_laws.proofs.HeardLemmas.{left_were_asked}
-use Rattle.tree_site_laws.proofs.TimeLemmas.{Part, part_of, part_lawful, born_end, fact_at}
+use Rattle.tree_laws.proofs.PrefixLemmas.{e_at}
+use Rattle.tree_laws.proofs.HeardLemmas.{left_were_asked}
+use Rattle.tree_laws.proofs.TimeLemmas.{Part, part_of, part_lawful, born_end, fact_at}
 use Rattle.run_claims.specs.Undisturbed.{Commit}
-use Rattle.commit_stay_laws.proofs.FirstLemmas.{commits_come_first}
-use Rattle.commit_spread_laws.proofs.MoreLemmas.{inv_at}
+use Rattle.commit_spread_laws.proofs.FirstLemmas.{commits_come_first}
+use Rattle.tree_laws.proofs.MoreLemmas.{inv_at}
 use Rattle.commit_length_laws.specs.FewLaws.{Flows}
 use Rattle.commit_length_laws.proofs.TotalLemmas.{total}
 use Rattle.commit_length_laws.proofs.WorthLemmas.{phase_worth, known_worth, neighbors, worth, live_worth, row_worth, node_worth}
 use Rattle.commit_length_laws.proofs.FlightLemmas.{flight, net_worth, kept_worth, AllFly}
 use Rattle.commit_length_laws.proofs.TreeLemmas.{far, Course}
+use Rattle.tree_laws.proofs.AtPart.{at_part}
+use Rattle.commit_laws.proofs.StillLemmas.{none_placed}
 
 -- ---- sums of nothing
 
@@ -65,17 +66,6 @@ if_none : (q : Bool) (n : ℕ) → (q ≡ true → n ≡ 0) → (if q then n els
 if_none true n none = none refl
 if_none false n none = refl
 
-any_placed : {A : Type 0} (p : A → Bool) (xs : List A) → list_any p xs ≡ true → position_or_len p xs < length xs
-any_placed p [] is = absurd cc
-any_placed p (x ∷ xs) is = grind (arith, any_placed p xs)
-
-none_placed : {A : Type 0} (p : A → Bool) (xs : List A) → option_map (λ i. i + 1) (position p xs) ≡ None → list_any p xs ≡ false
-none_placed p xs none = by (list_any p xs) refl
-  where
-    by : (q : Bool) → list_any p xs ≡ q → list_any p xs ≡ false
-    by false is = is
-    by true is = (let low : position_or_len p xs < length xs = any_placed p xs is in absurd (grind (arith, low, none)))
-
 none_all : {A : Type 0} (p : A → Bool) (xs : List A) → list_any p xs ≡ false → AllByRecursion (λ x. p x ≡ false) xs
 none_all p [] is = tt
 none_all p (x ∷ xs) is = by (p x) refl is (none_all p xs)
@@ -85,26 +75,8 @@ none_all p (x ∷ xs) is = by (p x) refl is (none_all p xs)
     by false other none rest = (other, rest none)
 
 module _ (t : History) (whole : IsLawfulRun t) (c : Commit t.places t.commands t.trace) (flows : Flows t.places t.commands t.trace c) where
-  abbrev hs : List Happening
-  hs = c.before
-
-  abbrev s : History
-  s = so_far t hs
-
-  abbrev f : Facts
-  f = f_at t hs
-
-  abbrev said : List Post
-  said = said_in f
-
-  abbrev bs : List Born
-  bs = births_of s
-
-  abbrev k : NodeState
-  k = c.kept
-
-  abbrev v : Turn
-  v = c.call
+  open c use {before as hs, kept as k, call as v}
+  open at_part t hs use {s, f, said, bs}
 
   abbrev distance : BranchId → ℕ
   distance b = far t whole c b
@@ -203,7 +175,7 @@ module _ (t : History) (whole : IsLawfulRun t) (c : Commit t.places t.commands t
         by_phase of (phases.Collecting b) is = absurd (busy of (λ working. (let both : phases.Collecting b ≡ phases.Working = sym is ∙ working in absurd cc)) l.parent refl)
         by_phase of phases.Ready is = absurd (busy of (λ working. (let both : phases.Ready ≡ phases.Working = sym is ∙ working in absurd cc)) l.parent refl)
 
-    row_none : (r : Standing) → RowIs (e_at t hs) r → KeptIs (Began bs) r → row_worth c.root (λ b. 0) distance r ≡ 0
+    row_none : (r : KeptRow) → RowIs (e_at t hs) r → KeptIs (Began bs) r → row_worth c.root (λ b. 0) distance r ≡ 0
     row_none r row placed = if_none (same r.root c.root) (known_worth r.forgot r.decision (neighbors r)) (λ of. absurd (by (equal_from_same r.root c.root of) r.decision row.known))
       where
         left_so : r.root ≡ c.root → (w : Exit) → w ≢ Dropped → exit (e_at t hs) r.me ≡ Some w → ⊥
@@ -226,7 +198,7 @@ module _ (t : History) (whole : IsLawfulRun t) (c : Commit t.places t.commands t
         (all_weaker (λ (l : Live). (item_at live_id j.lives l.me ≡ Some l) × LiveIs (Began bs) l) (λ l. live_worth c.root (λ b. 0) distance l ≡ 0) (λ l so. live_none l so.0 so.1) j.lives
         (all_both (λ (l : Live). item_at live_id j.lives l.me ≡ Some l) (LiveIs (Began bs)) j.lives (lives_found s lawful n j upj) names.0)) in
         let rows : total (row_worth c.root (λ b. 0) distance) j.stored.durable.kept ≡ 0 = total_none (row_worth c.root (λ b. 0) distance) j.stored.durable.kept
-        (all_weaker (λ (r : Standing). RowIs (e_at t hs) r × KeptIs (Began bs) r) (λ r. row_worth c.root (λ b. 0) distance r ≡ 0) (λ r so. row_none r so.0 so.1) j.stored.durable.kept
+        (all_weaker (λ (r : KeptRow). RowIs (e_at t hs) r × KeptIs (Began bs) r) (λ r. row_worth c.root (λ b. 0) distance r ≡ 0) (λ r so. row_none r so.0 so.1) j.stored.durable.kept
         (all_both (RowIs (e_at t hs)) (KeptIs (Began bs)) j.stored.durable.kept events.1 names.1)) in
         omega (arith, lives, rows)
 

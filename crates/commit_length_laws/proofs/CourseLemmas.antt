@@ -7,8 +7,8 @@ use Rattle.tran_ids.proofs.ListedLemmas.{item_is}
 use Rattle.session_tree.specs.Tree.{count}
 use Rattle.node_rules.specs.Data.{BranchId, Input, Live, Msg, Place, Post}
 use Rattle.node_rules.specs.Data.phases
-use Rattle.node_rules.specs.NodeState.{NodeState, Branch, Deed, live_id, live_at, branch_at, work_at, with_work}
-use Rattle.node_rules.specs.Turn.{clock_raised_by, deed_of, stamped, turn_of}
+use Rattle.node_rules.specs.NodeState.{NodeState, Branch, TurnDraft, live_id, live_at, branch_at, work_at, with_work}
+use Rattle.node_rules.specs.Turn.{clock_raised_by, draft_of, stamped, turn_of}
 use Rattle.net_bag.specs.Net.{flies, is_flying}
 use Rattle.run_rules.specs.Births.{Born, births_of, born_at}
 use Rattle.run_base_laws.specs.BirthLaws.{Began, GoesSo}
@@ -24,8 +24,8 @@ use Rattle.run_base_laws.proofs.BirthRunLemmas.{messages_are_of_neighbors}
 use Rattle.run_base_laws.proofs.EventsStandLemmas.{run_stands}
 use Rattle.run_branch_laws.proofs.FreezeRunLemmas.{prepare_finds_rest}
 use Rattle.run_base_laws.proofs.SaidPostLemmas.{prepares_are_said}
-use Rattle.tree_laws.proofs.PrefixLemmas.{so_far, f_at, one_on}
-use Rattle.tree_site_laws.proofs.TimeLemmas.{part_of, part_lawful, may_of}
+use Rattle.tree_laws.proofs.PrefixLemmas.{f_at, one_on}
+use Rattle.tree_laws.proofs.TimeLemmas.{may_of}
 use Rattle.run_claims.specs.Undisturbed.{Commit, IsCalm, IsDelivery, branches_in, branches_by, disturbs, is_disturbed}
 use Rattle.commit_laws.proofs.NetLemmas.{numbered_all}
 use Rattle.commit_length_laws.proofs.WorthLemmas.{worth, says_worth, node_worth, asked_worth}
@@ -35,7 +35,9 @@ use Rattle.commit_length_laws.proofs.DepthLemmas.{far_low}
 use Rattle.commit_length_laws.proofs.FullLemmas.{full, full_by, live_in, ask_in, ask_two, asks_low}
 use Rattle.commit_length_laws.proofs.FlightLemmas.{all_worth, AllFly, turned_low, turned_nodes, turn_takes, turn_fly}
 use Rattle.commit_length_laws.proofs.TreeLemmas as tree
-use Rattle.commit_length_laws.proofs.TreeLemmas.{mid_all, second_false, is_in, Taken, take_it}
+use Rattle.commit_length_laws.proofs.TreeLemmas.{mid_all, second_false, Taken, take_it}
+use Rattle.commit_laws.proofs.AmongLemmas.{is_in}
+use Rattle.tree_laws.proofs.AtTurn.{at_happening}
 
 module _ (t : History) (whole : IsLawfulRun t) (c : Commit t.places t.commands t.trace) where
   abbrev bs : List Born
@@ -54,14 +56,7 @@ module _ (t : History) (whole : IsLawfulRun t) (c : Commit t.places t.commands t
   Course m = tree.Course t whole c m
 
   module _ (hs : List Happening) (h : Happening) (rest : List Happening) (is : hs ++ h ∷ rest ≡ t.trace) where
-    abbrev f : Facts
-    f = f_at t hs
-
-    abbrev s : History
-    s = so_far t hs
-
-    lawful : IsLawfulRun s
-    lawful = part_lawful t whole hs (part_of t whole hs h rest is)
+    open at_happening t whole hs h rest is use {f, s, lawful}
 
     -- ---- a delivery
 
@@ -130,11 +125,11 @@ module _ (t : History) (whole : IsLawfulRun t) (c : Commit t.places t.commands t
         rows = λ r found. (same_from_equal r.root c.root (tree.row_of t whole c hs h rest is v.node k may.up m.to mine r found), (λ q toward. tree.near_of t whole c hs h rest is v.node k may.up m.to r found q toward));
       }
 
-      abbrev d : Deed
-      d = deed_of p k v.input
+      abbrev d : TurnDraft
+      d = draft_of p k v.input
 
       fits : Fits g ask far (far_low t whole) k0 m.to (worth g ask far m.to m.kind) d
-      fits = subst (λ (i : Input). Fits g ask far (far_low t whole) k0 m.to (worth g ask far m.to m.kind) (deed_of p k i)) (sym takes.input_is) (turn_fits g ask far (far_low t whole) p k0 m.from m.to m.kind receiver course.0 is_calm)
+      fits = subst (λ (i : Input). Fits g ask far (far_low t whole) k0 m.to (worth g ask far m.to m.kind) (draft_of p k i)) (sym takes.input_is) (turn_fits g ask far (far_low t whole) p k0 m.from m.to m.kind receiver course.0 is_calm)
 
       even : length f.nodes ≡ length f.records
       even = (run_stands s lawful).0.even

@@ -1,11 +1,10 @@
 -- No branch of a lawful run stands deeper than a session tree may be, so none is farther from its site than 17.
-use Rattle.std.proofs.Common.{◌≡◌, ℕ, ◌+◌, ◌-◌, ◌≤◌, ◌==◌, ◌||◌, Bool, true, false, if◌then◌else◌, List, [], ◌∷◌, ◌++◌, map, length, Option, Some, None, refl, sym, subst, arith, append-nil}
+use Rattle.std.proofs.Common.{◌≡◌, ℕ, ◌+◌, ◌-◌, ◌≤◌, ◌||◌, Bool, true, false, if◌then◌else◌, List, [], ◌∷◌, ◌++◌, map, length, Option, Some, None, refl, sym, subst, arith, append-nil}
 use Rattle.std.specs.Prelude.{nat_le}
 use Rattle.std.specs.List.{AllByRecursion}
 use Rattle.std.proofs.lemmas.Bool.{cond_both}
 use Rattle.std.proofs.lemmas.Bool.Decides.{nat_tests}
-use Rattle.dtx_values.specs.Limits.{depth_limit}
-use Rattle.session_tree.specs.Live.{children_of, peer_of, edge_by_link, new_edge}
+use Rattle.session_tree.specs.Live.{children_of, peer_of, new_edge}
 use Rattle.session_tree.specs.Tree.{room}
 use Rattle.node_rules.specs.Data.{Answer, Act, BranchId, Durable, Input, Kind, Live, Msg, Place, Post, Refusal, Stmt, Opening}
 use Rattle.node_rules.specs.Data.acts
@@ -13,17 +12,16 @@ use Rattle.node_rules.specs.Data.inputs
 use Rattle.node_rules.specs.Data.kinds
 use Rattle.node_rules.specs.Data.nexts
 use Rattle.node_rules.specs.declared.session.Session.{Session}
-use Rattle.node_rules.specs.Refusals.{ora, dtx}
 use Rattle.node_rules.specs.Calls.{answer_says, exec_to, with_edge, hears_reply}
 use Rattle.node_rules.specs.Statement.{ran, after_run}
-use Rattle.node_rules.specs.NodeState.{NodeState, Branch, Deed, to_one, to_each}
-use Rattle.node_rules.specs.Names.{Named, Unknown, A_table, Behind, Nowhere_to, Through, named_by, ref_of, target_of, way_edge, way_target, way_named, way_of}
+use Rattle.node_rules.specs.NodeState.{NodeState, Branch, TurnDraft, to_one, to_each}
+use Rattle.node_rules.specs.Names.{Nowhere_to, Through, named_by, ref_of, way_of}
 use Rattle.node_rules.specs.Prepare.{act_turn, site_neighbors}
 use Rattle.node_rules.specs.Recovery.{kept_told}
 use Rattle.node_rules.specs.Turn.{stamped}
 use Rattle.node_rules.specs.Sessions.{session_at}
 use Rattle.node_rules.proofs.Steps as steps
-use Rattle.node_rules.proofs.Steps.{Step, Acting, Says}
+use Rattle.node_rules.proofs.Steps.{Step, Says}
 use Rattle.run_rules.specs.Births.{Born, births_of, births_after, births_at, births_by, births_by_kind, births_by_open, roots_by, births_from, born_id, born_at}
 use Rattle.run_rules.specs.Runs.{is_of_rows}
 use Rattle.run_rules.specs.Data.{Packet, Took, Turn, Happening}
@@ -37,8 +35,9 @@ use Rattle.run_base_laws.proofs.OwnLemmas.{all_found}
 use Rattle.run_base_laws.proofs.SaidLemmas.{sent_after}
 use Rattle.tree_laws.specs.Forests.{forest_of, depth_in, depth_at, far_by}
 use Rattle.tree_laws.proofs.PrefixLemmas.{so_far, f_at, one_on, births_join}
-use Rattle.tree_site_laws.proofs.TimeLemmas.{may_of, keep_on}
+use Rattle.tree_laws.proofs.TimeLemmas.{may_of, keep_on}
 use Rattle.commit_laws.proofs.NetLemmas.{numbered_all}
+use Rattle.tree_laws.proofs.ShallowLemmas.{named_low as named_deep}
 
 -- an Open goes no deeper than a tree may be
 abbrev IsLow : Kind → Type 0
@@ -51,19 +50,6 @@ deep_low : (deep wide full : Bool) (node : ℕ) (link table : List ℕ) (a b : R
 deep_low true wide full node link table a b n k t is = absurd cc
 deep_low false true full node link table a b n k t is = absurd cc
 deep_low false false full node link table a b n k t is = refl
-
-edge_deep : (p : Place) (l : Live) (given node : ℕ) (link table : List ℕ) (o : Option ℕ) (n : ℕ) (k t : List ℕ) → way_edge p l given node link table o ≡ Through n k t → nat_le depth_limit l.depth ≡ false
-edge_deep p l given node link table (Some i) n k t is = absurd cc
-edge_deep p l given node link table None n k t is = deep_low (nat_le depth_limit l.depth) (room l given == 0) (nat_le p.links (length l.edges)) node link table (dtx 2 []) (ora 2020 []) n k t is
-
-target_deep : (p : Place) (l : Live) (given : ℕ) (link table : List ℕ) (o : Option ℕ) (n : ℕ) (k t : List ℕ) → way_target p l given link table o ≡ Through n k t → nat_le depth_limit l.depth ≡ false
-target_deep p l given link table None n k t is = absurd cc
-target_deep p l given link table (Some node) n k t is = edge_deep p l given node link table (edge_by_link l link) n k t is
-
-named_deep : (p : Place) (d : Durable) (l : Live) (given : ℕ) (m : Named) (n : ℕ) (k t : List ℕ) → way_named p d l given m ≡ Through n k t → nat_le depth_limit l.depth ≡ false
-named_deep p d l given Unknown n k t is = absurd cc
-named_deep p d l given (A_table table) n k t is = absurd cc
-named_deep p d l given (Behind link table) n k t is = target_deep p l given link table (target_of p d link) n k t is
 
 low_more : (n : ℕ) → nat_le 8 n ≡ false → n + 1 ≤ 8
 low_more n is = grind (arith, nat_tests, is)
@@ -105,7 +91,7 @@ module _ (p : Place) (input : Input) where
   acts_low k l b acts.Finish = tt
   acts_low k l b acts.Abandon = all_append (λ x. IsLow x.kind) (to_one l.me kinds.Abort l.parent) _ (one_says IsLow l.me kinds.Abort l.parent tt) (rolled_low l)
 
-  lows_on : {k : NodeState} {d : Deed} → Step p input k d → AllSay IsLow d.says
+  lows_on : {k : NodeState} {d : TurnDraft} → Step p input k d → AllSay IsLow d.says
   lows_on (steps.Begins n s call rows range none step) = lows_on step
   lows_on (steps.Pends n l given call has live code step) = lows_on step
   lows_on (steps.Lets_reads_go l comment b live begins step) = lows_on step

@@ -8,17 +8,17 @@ use Rattle.node_rules.specs.Data.{BranchId, Live, Place, Post, Input}
 use Rattle.node_rules.specs.Data.inputs
 use Rattle.node_rules.specs.declared.session.PendingCall.TheVariants as pending
 use Rattle.node_rules.specs.Data.stmts
-use Rattle.node_rules.specs.NodeState.{NodeState, Branch, Deed, live_id, live_at, branch_at, work_at, with_work}
+use Rattle.node_rules.specs.NodeState.{NodeState, Branch, TurnDraft, live_id, live_at, branch_at, work_at, with_work}
 use Rattle.node_rules.specs.Prepare.{collecting, with_comment, without_read_keys, first_act, act_turn, collects, with_prepare_sent}
 use Rattle.node_rules.specs.Sessions.{session_at, with_call}
 use Rattle.node_rules.specs.Client.{commit_by, root_by, root_at}
-use Rattle.node_rules.specs.Turn.{deed_of, stamped, turn_of}
+use Rattle.node_rules.specs.Turn.{draft_of, stamped, turn_of}
 use Rattle.run_rules.specs.Births.{Born, births_of}
 use Rattle.run_base_laws.specs.BirthLaws.{Began, LiveIs}
-use Rattle.run_rules.specs.Data.{Took, Turn, Happening}
+use Rattle.run_rules.specs.Data.{Took, Turn}
 use Rattle.run_rules.specs.Data.happenings
 use Rattle.run_rules.specs.Facts.{Facts, place_at, taken, facts_after}
-use Rattle.run_base_laws.specs.InTurnLaws.{said_in, GoesOn}
+use Rattle.run_base_laws.specs.InTurnLaws.{GoesOn}
 use Rattle.run_rules.specs.Lawful.{Comes, IsOwed, MayTurn, History, IsLawfulRun}
 use Rattle.run_base_laws.proofs.BirthRunLemmas.{nodes_name_the_born}
 use Rattle.run_base_laws.proofs.EventsStandLemmas.{run_stands}
@@ -26,8 +26,8 @@ use Rattle.run_base_laws.proofs.OwnLemmas.{all_found}
 use Rattle.run_base_laws.proofs.RootLemmas.{roots_are_of_sessions}
 use Rattle.tree_laws.proofs.ForestLemmas as trees
 use Rattle.tree_laws.proofs.ForestRunLemmas.{run_known}
-use Rattle.tree_laws.proofs.PrefixLemmas.{so_far, f_at, one_on}
-use Rattle.tree_site_laws.proofs.TimeLemmas.{Part, part_of, part_lawful, may_of, born_end}
+use Rattle.tree_laws.proofs.PrefixLemmas.{f_at, one_on}
+use Rattle.tree_laws.proofs.TimeLemmas.{Part, part_of, part_lawful, may_of, born_end}
 use Rattle.run_claims.specs.Undisturbed.{Commit}
 use Rattle.commit_length_laws.specs.FewLaws.{Flows, DeliveriesAreFew, DeliveriesStayBelow}
 use Rattle.commit_length_laws.proofs.WorthLemmas.{says_worth, live_worth, node_worth, asked_worth, sent_worth, map_length}
@@ -40,28 +40,11 @@ use Rattle.commit_length_laws.proofs.FlightLemmas.{net_worth, all_worth, AllFly,
 use Rattle.commit_length_laws.proofs.TreeLemmas.{far, Course}
 use Rattle.commit_length_laws.proofs.CourseLemmas.{few_more}
 use Rattle.commit_length_laws.proofs.BeforeLemmas as before
+use Rattle.tree_laws.proofs.AtPart.{at_part}
 
 module _ (t : History) (whole : IsLawfulRun t) (c : Commit t.places t.commands t.trace) (flows : Flows t.places t.commands t.trace c) where
-  abbrev hs : List Happening
-  hs = c.before
-
-  abbrev s : History
-  s = so_far t hs
-
-  abbrev f : Facts
-  f = f_at t hs
-
-  abbrev said : List Post
-  said = said_in f
-
-  abbrev bs : List Born
-  bs = births_of s
-
-  abbrev k : NodeState
-  k = c.kept
-
-  abbrev v : Turn
-  v = c.call
+  open c use {before as hs, kept as k, call as v}
+  open at_part t hs use {s, f, said, bs}
 
   abbrev distance : BranchId → ℕ
   distance b = far t whole c b
@@ -96,7 +79,7 @@ module _ (t : History) (whole : IsLawfulRun t) (c : Commit t.places t.commands t
   ask b = ask_in f b
 
   -- What the call leaves.
-  record Called (d : Deed) : Type 0 where
+  record Called (d : TurnDraft) : Type 0 where
     pub low : says_worth c.root ask distance d.says + node_worth c.root (λ b. 0) distance d.after ≤ 2880 + node_worth c.root (λ b. 0) distance k
     pub said_so : AllByRecursion (SaidSo c.root) d.says
     pub works : WorksOn k d.after
@@ -131,9 +114,9 @@ module _ (t : History) (whole : IsLawfulRun t) (c : Commit t.places t.commands t
   rooted : root_at k c.session ≡ Some x
   rooted = ap (root_by k) c.of ∙ (ap (branch_at k) (sym me) ∙ there)
 
-  call_low : Called (deed_of p k v.input)
+  call_low : Called (draft_of p k v.input)
   call_low =
-      subst (λ (i : Input). Called (deed_of p k i)) (sym c.asks)
+      subst (λ (i : Input). Called (draft_of p k i)) (sym c.asks)
       (subst (λ o. Called (commit_by k c.session (unwrap_or c.comment []) (session_at k.sessions c.session).code o)) (sym rooted) (commit_low (unwrap_or c.comment []) (session_at k.sessions c.session).code refl))
 
   may : MayTurn t.places f v k
@@ -178,7 +161,7 @@ module _ (t : History) (whole : IsLawfulRun t) (c : Commit t.places t.commands t
 
   called_fly : AllFly (Course t whole c) after.net
   unfolding turn_of
-  called_fly = turn_fly (Course t whole c) t.places t.commands f v (before.none_fly t whole c flows) (subst (AllByRecursion (Course t whole c)) (sym owed.1) (stamped_so (deed_of p k v.input).after.clock (deed_of p k v.input).says call_low.said_so))
+  called_fly = turn_fly (Course t whole c) t.places t.commands f v (before.none_fly t whole c flows) (subst (AllByRecursion (Course t whole c)) (sym owed.1) (stamped_so (draft_of p k v.input).after.clock (draft_of p k v.input).says call_low.said_so))
 
   -- so few are delivered
   pub few_deliveries : length c.during ≤ 2880

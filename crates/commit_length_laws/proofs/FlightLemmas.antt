@@ -5,8 +5,8 @@ use Rattle.node_rules.specs.Data.{BranchId, Kind, Live, Msg, Phase, Place, Post}
 use Rattle.node_rules.specs.Data.kinds
 use Rattle.node_rules.specs.Data.phases
 use Rattle.node_rules.specs.Words.{numbered}
-use Rattle.node_rules.specs.NodeState.{NodeState, Deed, live_at}
-use Rattle.node_rules.specs.Turn.{stamped, turn_of, deed_of}
+use Rattle.node_rules.specs.NodeState.{NodeState, TurnDraft, live_at}
+use Rattle.node_rules.specs.Turn.{stamped, turn_of, draft_of}
 use Rattle.session_tree.specs.Tree.{count}
 use Rattle.net_bag.specs.Net.{Net, packet, packet_at, flies, is_flying, fated, with_fate, first_fate, delivered, sent_on, sent_one}
 use Rattle.run_rules.specs.Data.{Command, Packet, Took, Turn}
@@ -28,7 +28,7 @@ if_less : (q : Bool) (n m : ℕ) → n ≤ m → (if q then n else 0) ≤ m
 if_less true n m low = low
 if_less false n m low = omega arith
 
-if_both : (q : Bool) (n m : ℕ) → n ≤ m → (if q then n else 0) ≤ (if q then m else 0)
+pub if_both : (q : Bool) (n m : ℕ) → n ≤ m → (if q then n else 0) ≤ (if q then m else 0)
 if_both true n m low = low
 if_both false n m low = omega arith
 
@@ -107,8 +107,8 @@ module _ (g : BranchId) (far : BranchId → ℕ) where
 
   module _ (places : List Place) (asked : List Command) (f : Facts) (even : length f.nodes ≡ length f.records) (u : Turn) (k : NodeState) (up : node_at f u.node ≡ Some k) (uncut : u.cut ≡ false)
       (sent : u.sent ≡ (turn_of (place_at places u.node) k u.input).sent) where
-    abbrev d : Deed
-    d = deed_of (place_at places u.node) k u.input
+    abbrev d : TurnDraft
+    d = draft_of (place_at places u.node) k u.input
 
     abbrev after : Facts
     after = facts_after places asked f (happenings.Turn u)

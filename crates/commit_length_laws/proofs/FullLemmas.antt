@@ -5,7 +5,7 @@ use Rattle.std.specs.Prelude.{IfSome}
 use Rattle.std.proofs.lemmas.List.Sums.{sum_by-cons}
 use Rattle.tran_ids.proofs.ListedLemmas.{item_is}
 use Rattle.session_tree.specs.Tree.{count}
-use Rattle.node_rules.specs.Data.{BranchId, Edge, Live, Phase, Post}
+use Rattle.node_rules.specs.Data.{BranchId, Edge, Live, Phase}
 use Rattle.node_rules.specs.declared.work.Work.{Work}
 use Rattle.node_rules.specs.Data.phases
 use Rattle.node_rules.specs.Words.{numbered}
@@ -16,8 +16,8 @@ use Rattle.run_rules.specs.Births.{Born, births_of, births_after}
 use Rattle.run_base_laws.specs.BirthLaws.{Began, ChildrenAre, LiveIs}
 use Rattle.run_rules.specs.Data.{Happening, Command}
 use Rattle.run_rules.specs.Facts.{Facts, first_facts, node_at, facts_after, facts_of}
-use Rattle.run_base_laws.specs.InTurnLaws.{said_in, GoesOn, WaitsFor, call_at}
-use Rattle.run_rules.specs.Lawful.{IsPlace, IsLawful, History, IsLawfulRun, facts_at}
+use Rattle.run_base_laws.specs.InTurnLaws.{GoesOn, WaitsFor, call_at}
+use Rattle.run_rules.specs.Lawful.{IsPlace, IsLawful, History, IsLawfulRun}
 use Rattle.run_base_laws.specs.RunEvents.{events_after}
 use Rattle.run_base_laws.proofs.BirthRunLemmas.{StandBorn, stand_born_on, stand_born_first, nodes_name_the_born}
 use Rattle.run_base_laws.proofs.InTurnRunLemmas.{CallsStand, calls_stand_on, first_calls, edges_fit}
@@ -30,6 +30,7 @@ use Rattle.tree_laws.proofs.ForestLemmas.{same_born}
 use Rattle.tree_laws.proofs.ForestRunLemmas.{run_known}
 use Rattle.commit_length_laws.proofs.TotalLemmas.{total}
 use Rattle.commit_length_laws.proofs.WorthLemmas.{asked_worth}
+use Rattle.tree_laws.proofs.AtPart.{at_end}
 
 -- ---- what a Prepare is worth
 
@@ -78,11 +79,7 @@ module _ (places : List Place) (asked : List Command) (each : (n : ℕ) (p : Pla
       (calls_stand_on places asked each f t bs stand roots turns h lawful.0) (counts_on places asked each f t bs stand roots turns now h lawful.0).0 lawful.1
 
 module _ (t : History) (whole : IsLawfulRun t) where
-  abbrev f : Facts
-  f = facts_at t
-
-  abbrev said : List Post
-  said = said_in f
+  open at_end t use {f, said}
 
   stand : CountStand f
   stand =

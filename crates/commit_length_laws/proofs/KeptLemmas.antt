@@ -7,7 +7,7 @@ use Rattle.redo_record.specs.Kept.{stands_at, kept_after, ended_commit, met_as, 
 use Rattle.redo_record.specs.Lists.{change_where, drop_where}
 use Rattle.session_tree.specs.Live.{is_branch}
 use Rattle.commit_forget.specs.Beyond.{beyond}
-use Rattle.node_rules.specs.Data.{BranchId, Decision, Standing, State, Next, Beyond}
+use Rattle.node_rules.specs.Data.{BranchId, Decision, KeptRow, State, Next, Beyond}
 use Rattle.node_rules.specs.Data.decisions
 use Rattle.node_rules.specs.Data.kinds
 use Rattle.node_rules.specs.Data.nexts
@@ -16,9 +16,10 @@ use Rattle.node_rules.specs.Data.states
 use Rattle.node_rules.specs.Words.{same}
 use Rattle.node_rules.specs.Records.{applied, with_record}
 use Rattle.node_rules.specs.Commit.{acked_by, acks_kid, all_acked, knows_commit, first_decision, known_decision, decision_at, next_on_decision, next_on_ack, next_on_forgotten, next_turn, passes_commit}
-use Rattle.node_rules.specs.NodeState.{NodeState, standing_id, standing_at, with_standing, to_one}
+use Rattle.node_rules.specs.NodeState.{NodeState, kept_row_id, kept_row_at, with_kept_row, to_one}
 use Rattle.commit_length_laws.proofs.TotalLemmas.{total, total_map, put_total, change_total}
 use Rattle.commit_length_laws.proofs.WorthLemmas.{one_of, known_worth, neighbors, says_worth, row_worth, node_worth, row_low, row_is, each_worth, one_worth, beyond_low, map_length}
+use Rattle.commit_length_laws.proofs.FlightLemmas.{if_both as if_low}
 
 -- ---- rows
 
@@ -37,10 +38,6 @@ forgot_low true o n = omega arith
 forgot_low false None n = omega arith
 forgot_low false (Some e) n = omega arith
 
-if_low : (q : Bool) (n m : ℕ) → n ≤ m → (if q then n else 0) ≤ (if q then m else 0)
-if_low true n m low = low
-if_low false n m low = omega arith
-
 total_filter : {A : Type 0} (f : A → ℕ) (p : A → Bool) (xs : List A) → total f (filter p xs) ≤ total f xs
 total_filter f p [] = omega arith
 total_filter f p (x ∷ xs) = (let rest = total_filter f p xs in cond_both (p x) (x ∷ filter p xs) (filter p xs) (λ ys. total f ys ≤ f x + total f xs) (λ is. omega (arith, rest)) (λ other. omega (arith, rest)))
@@ -51,7 +48,7 @@ knows_some (Some d) is = (d, refl)
 
 -- ---- what a kept branch does about a commit
 
-module _ (s : Standing) (from : BranchId) (n : ℕ) (P : Next → Type 0) (rest : P nexts.Rest) (ends : s.decision ≡ None → P (nexts.End (decisions.Commit n)))
+module _ (s : KeptRow) (from : BranchId) (n : ℕ) (P : Next → Type 0) (rest : P nexts.Rest) (ends : s.decision ≡ None → P (nexts.End (decisions.Commit n)))
     (meets : s.decision ≡ None → (mixed : Bool) → P (nexts.Meet (decisions.Commit n) mixed)) (acks : P nexts.SayAck) where
   first_so : (state : State) → s.decision ≡ None → P (first_decision state (decisions.Commit n))
   first_so states.Sealed none = ends none
@@ -75,25 +72,25 @@ module _ (g : BranchId) (ask far : BranchId → ℕ) (low : (b : BranchId) → f
   abbrev held : NodeState → ℕ
   held k = node_worth g ask far k
 
-  ended_low : (n : ℕ) (x : Standing) → row_worth g ask far (ended_commit n x) ≤ row_worth g ask far x
+  ended_low : (n : ℕ) (x : KeptRow) → row_worth g ask far (ended_commit n x) ≤ row_worth g ask far x
   ended_low n x = if_low (same x.root g) _ _ (known_low x.forgot x.decision (decisions.Commit n) (neighbors x))
 
-  met_low : (d : Decision) (mixed : Bool) (x : Standing) → row_worth g ask far (met_as d mixed x) ≤ row_worth g ask far x
+  met_low : (d : Decision) (mixed : Bool) (x : KeptRow) → row_worth g ask far (met_as d mixed x) ≤ row_worth g ask far x
   met_low d mixed x = if_low (same x.root g) _ _ (known_low x.forgot x.decision d (neighbors x))
 
-  gone_low : (x : Standing) → row_worth g ask far (forgot_as x) ≤ row_worth g ask far x
+  gone_low : (x : KeptRow) → row_worth g ask far (forgot_as x) ≤ row_worth g ask far x
   gone_low x = if_low (same x.root g) _ _ (forgot_low x.forgot x.decision (neighbors x))
 
   half : (forgot : Bool) (d : Decision) (n : ℕ) → known_worth forgot (Some d) n ≤ n
   half true d n = omega arith
   half false d n = omega arith
 
-  module _ (k : NodeState) (s : Standing) (from : BranchId) (found : standing_at k s.me ≡ Some s) (of : same s.root g ≡ true) where
+  module _ (k : NodeState) (s : KeptRow) (from : BranchId) (found : kept_row_at k s.me ≡ Some s) (of : same s.root g ≡ true) where
     -- a decision that is learned
     ends_low : (n : ℕ) → s.decision ≡ None → held (with_record k (records.Ended s.me (decisions.Commit n))) + 20 * neighbors s ≤ held k
     unfolding applied durable_after kept_after
     ends_low n none =
-        let less = change_total (row_worth g ask far) standing_id s.me (ended_commit n) (ended_low n) k.stored.durable.kept s found in
+        let less = change_total (row_worth g ask far) kept_row_id s.me (ended_commit n) (ended_low n) k.stored.durable.kept s found in
         let was : row_worth g ask far s ≡ known_worth s.forgot s.decision (neighbors s) = row_is g ask far s of in
         let full : known_worth s.forgot s.decision (neighbors s) ≡ 21 * neighbors s = ap (λ o. known_worth s.forgot o (neighbors s)) none ∙ none_worth s.forgot (neighbors s) in
         let is : row_worth g ask far (ended_commit n s) ≤ known_worth s.forgot (Some (decisions.Commit n)) (neighbors s) = row_low g ask far (ended_commit n s) in
@@ -102,7 +99,7 @@ module _ (g : BranchId) (ask far : BranchId → ℕ) (low : (b : BranchId) → f
 
     meets_change : (n : ℕ) (mixed : Bool) → s.decision ≡ None → total (row_worth g ask far) (change_where (stands_at s.me) (met_as (decisions.Commit n) mixed) k.stored.durable.kept) + 20 * neighbors s ≤ total (row_worth g ask far) k.stored.durable.kept
     meets_change n mixed none =
-        let less = change_total (row_worth g ask far) standing_id s.me (met_as (decisions.Commit n) mixed) (met_low (decisions.Commit n) mixed) k.stored.durable.kept s found in
+        let less = change_total (row_worth g ask far) kept_row_id s.me (met_as (decisions.Commit n) mixed) (met_low (decisions.Commit n) mixed) k.stored.durable.kept s found in
         let was : row_worth g ask far s ≡ known_worth s.forgot s.decision (neighbors s) = row_is g ask far s of in
         let full : known_worth s.forgot s.decision (neighbors s) ≡ 21 * neighbors s = ap (λ o. known_worth s.forgot o (neighbors s)) none ∙ none_worth s.forgot (neighbors s) in
         let is : row_worth g ask far (met_as (decisions.Commit n) mixed s) ≤ known_worth s.forgot (Some (decisions.Commit n)) (neighbors s) = row_low g ask far (met_as (decisions.Commit n) mixed s) in
@@ -118,7 +115,7 @@ module _ (g : BranchId) (ask far : BranchId → ℕ) (low : (b : BranchId) → f
     forgets_low : (d : Decision) → s.decision ≡ Some d → s.forgot ≡ false → held (with_record k (records.Forgot s.me)) + neighbors s ≤ held k
     unfolding applied durable_after kept_after
     forgets_low d knows new =
-        let less = change_total (row_worth g ask far) standing_id s.me forgot_as gone_low k.stored.durable.kept s found in
+        let less = change_total (row_worth g ask far) kept_row_id s.me forgot_as gone_low k.stored.durable.kept s found in
         let was : row_worth g ask far s ≡ known_worth s.forgot s.decision (neighbors s) = row_is g ask far s of in
         let full : known_worth s.forgot s.decision (neighbors s) ≡ neighbors s = ap (λ o. known_worth s.forgot o (neighbors s)) knows ∙ ap (λ q. known_worth q (Some d) (neighbors s)) new in
         let is : row_worth g ask far (forgot_as s) ≤ known_worth true s.decision (neighbors s) = row_low g ask far (forgot_as s) in
@@ -185,13 +182,13 @@ module _ (g : BranchId) (ask far : BranchId → ℕ) (low : (b : BranchId) → f
         (λ below. (let sent = toward_worth near s.toward refl in omega (arith, sent)))) (λ some. omega arith))
 
   -- an Ack that is noted leaves it as it is
-  module _ (k : NodeState) (s : Standing) (from : BranchId) (found : standing_at k s.me ≡ Some s) where
-    pub noted_same : held (with_standing k (acked_by s from)) ≡ held k
+  module _ (k : NodeState) (s : KeptRow) (from : BranchId) (found : kept_row_at k s.me ≡ Some s) where
+    pub noted_same : held (with_kept_row k (acked_by s from)) ≡ held k
     noted_same =
-        let is = put_total (row_worth g ask far) standing_id k.stored.durable.kept (acked_by s from) s found in
+        let is = put_total (row_worth g ask far) kept_row_id k.stored.durable.kept (acked_by s from) s found in
         let kids : length (map (acks_kid from) s.children) ≡ length s.children = map_length (acks_kid from) s.children in
         let alike : row_worth g ask far (acked_by s from) ≡ row_worth g ask far s = ap (λ n. if same s.root g then known_worth s.forgot s.decision (one_of s.parent + n) else 0) kids in
         omega (arith, is, alike)
 
-    pub noted_found : standing_at (with_standing k (acked_by s from)) s.me ≡ Some (acked_by s from)
-    noted_found = put_found standing_id k.stored.durable.kept (acked_by s from)
+    pub noted_found : kept_row_at (with_kept_row k (acked_by s from)) s.me ≡ Some (acked_by s from)
+    noted_found = put_found kept_row_id k.stored.durable.kept (acked_by s from)

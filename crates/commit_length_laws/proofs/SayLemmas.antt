@@ -7,7 +7,7 @@ use Rattle.tran_ids.proofs.ListedLemmas.{put_or_before, drop_gone, drop_leaves}
 use Rattle.session_tree.specs.Live.{children_of, peer_of}
 use Rattle.session_tree.specs.Tree.{step}
 use Rattle.commit_forget.specs.Beyond.{beyond}
-use Rattle.node_rules.specs.Data.{Act, Beyond, BranchId, Decision, Edge, Kind, Live, Next, Post, Standing}
+use Rattle.node_rules.specs.Data.{Act, Beyond, BranchId, Decision, Edge, Kind, Live, Next, Post, KeptRow}
 use Rattle.node_rules.specs.Data.acts
 use Rattle.node_rules.specs.Data.decisions
 use Rattle.node_rules.specs.Data.kinds
@@ -110,15 +110,15 @@ module _ (k : NodeState) (l : Live) (busy : l.phase ≢ phases.Working) where
 
 -- ---- kept branches
 
-commit_said : (s : Standing) (n : ℕ) (bs : List Beyond) → AllByRecursion (SaidSo s.me) (passes_commit s n bs)
+commit_said : (s : KeptRow) (n : ℕ) (bs : List Beyond) → AllByRecursion (SaidSo s.me) (passes_commit s n bs)
 commit_said s n [] = one_said s.me kinds.Ack s.toward refl
 commit_said s n (b ∷ bs) = each_said s.me (kinds.Committed n) (map (λ c. c.branch) (b ∷ bs)) refl
 
-passes_said : (s : Standing) (d : Decision) → AllByRecursion (SaidSo s.me) (passes s d)
+passes_said : (s : KeptRow) (d : Decision) → AllByRecursion (SaidSo s.me) (passes s d)
 passes_said s (decisions.Commit n) = commit_said s n (beyond s)
 passes_said s decisions.Rollback = back_said s.me (beyond s)
 
-pub next_said : (k : NodeState) (s : Standing) (from : BranchId) (next : Next) → AllByRecursion (SaidSo s.me) (next_turn k s from next).says
+pub next_said : (k : NodeState) (s : KeptRow) (from : BranchId) (next : Next) → AllByRecursion (SaidSo s.me) (next_turn k s from next).says
 next_said k s from nexts.Rest = tt
 next_said k s from (nexts.End d) = passes_said s d
 next_said k s from (nexts.Meet d mixed) = passes_said s d
@@ -127,7 +127,7 @@ next_said k s from nexts.Forget = each_said s.me kinds.Forgotten (map (λ b. b.b
 next_said k s from nexts.SayForgotten = ((refl, refl), tt)
 next_said k s from nexts.SayAck = ((refl, refl), tt)
 
-pub next_works : (k : NodeState) (s : Standing) (from : BranchId) (next : Next) → WorksOn k (next_turn k s from next).after
+pub next_works : (k : NodeState) (s : KeptRow) (from : BranchId) (next : Next) → WorksOn k (next_turn k s from next).after
 next_works k s from nexts.Rest c y at works = at
 next_works k s from (nexts.End d) c y at works = at
 next_works k s from (nexts.Meet d mixed) c y at works = at

@@ -4,11 +4,11 @@ use Rattle.std.proofs.Common.{◌≡◌, ℕ, ◌<◌, ◌&&◌, ◌||◌, Bool,
 use Rattle.std.specs.List.{AllByRecursion}
 use Rattle.tran_ids.proofs.BranchLemmas.{same_from_equal}
 use Rattle.tran_ids.proofs.ListedLemmas.{item_is}
-use Rattle.node_rules.specs.Data.{BranchId, Input, Kind, Live, Msg, Standing}
+use Rattle.node_rules.specs.Data.{BranchId, Input, Kind, Live, Msg, KeptRow}
 use Rattle.node_rules.specs.Data.inputs
 use Rattle.node_rules.specs.Data.kinds
 use Rattle.node_rules.specs.Words.{same}
-use Rattle.node_rules.specs.NodeState.{NodeState, live_id, live_at, standing_id, standing_at}
+use Rattle.node_rules.specs.NodeState.{NodeState, live_id, live_at, kept_row_id, kept_row_at}
 use Rattle.net_bag.specs.Net.{packet_at}
 use Rattle.run_rules.specs.Births.{Born, births_of, born_id, born_at}
 use Rattle.run_base_laws.specs.BirthLaws.{Began, GoesSo, IsChild, AreNeighbors, LiveIs, KeptIs}
@@ -23,11 +23,11 @@ use Rattle.run_base_laws.proofs.OwnLemmas.{all_found}
 use Rattle.tree_laws.specs.Forests.{forest_of}
 use Rattle.tree_laws.proofs.ForestLemmas as trees
 use Rattle.tree_laws.proofs.ForestRunLemmas.{run_known, runs_have_forests}
-use Rattle.tree_laws.proofs.PrefixLemmas.{so_far, f_at}
-use Rattle.tree_site_laws.proofs.TimeLemmas.{Part, part_of, part_lawful, born_end}
+use Rattle.tree_laws.proofs.TimeLemmas.{born_end}
 use Rattle.run_claims.specs.Undisturbed.{Commit, branches_in}
-use Rattle.commit_spread_laws.proofs.FitRowLemmas.{RowFits, rows_fit}
+use Rattle.tree_laws.proofs.FitRowLemmas.{RowFits, rows_fit}
 use Rattle.commit_length_laws.proofs.SayLemmas.{in_course}
+use Rattle.tree_laws.proofs.AtTurn.{at_happening}
 
 -- what is so of each item is so of one in the midst
 pub mid_all : {A : Type 0} (P : A → Type 0) (pre : List A) (h : A) (post : List A) → AllByRecursion P (pre ++ h ∷ post) → P h
@@ -41,21 +41,6 @@ or_right false q is = is
 pub second_false : (p q : Bool) → (p && q) ≡ false → p ≡ true → q ≡ false
 second_false true q is here = is
 second_false false q is here = absurd cc
-
--- a branch that began in a transaction is among its branches
-pub is_in : (bs : List Born) (root m : BranchId) (b : Born) → born_at bs m ≡ Some b → b.root ≡ root → is_among m (branches_in bs root) ≡ true
-is_in [] root m b at of = absurd cc
-is_in (x ∷ bs) root m b at of = by (same x.me m) (same x.root root) refl refl at (is_in bs root m b)
-  where
-    by : (q r : Bool) → same x.me m ≡ q → same x.root root ≡ r → (cond q (Some x) (born_at bs m)) ≡ Some b → (born_at bs m ≡ Some b → b.root ≡ root → is_among m (branches_in bs root) ≡ true)
-        → is_among m (map born_id (cond r (x ∷ filter (λ (y : Born). same y.root root) bs) (filter (λ (y : Born). same y.root root) bs))) ≡ true
-    by true true me its found rest = ap (λ q. q || is_among m (branches_in bs root)) me
-    by true false me its found rest =
-        let it : x ≡ b = (let both : Some x ≡ Some b = found in cc) in
-        let mine : same x.root root ≡ true = same_from_equal x.root root (ap (λ (y : Born). y.root) it ∙ of) in
-        absurd (cc (mine, its))
-    by false true me its found rest = or_right (same x.me m) (is_among m (branches_in bs root)) (rest found of)
-    by false false me its found rest = rest found of
 
 -- A delivery takes a message that is in flight.
 pub record Taken (f : Facts) (node number : ℕ) (input : Input) : Type 0 where
@@ -123,17 +108,7 @@ module _ (t : History) (whole : IsLawfulRun t) (c : Commit t.places t.commands t
   Course m = (in_course m.kind ≡ true) × InTree m.from
 
   module _ (hs : List Happening) (h : Happening) (rest : List Happening) (is : hs ++ h ∷ rest ≡ t.trace) where
-    abbrev f : Facts
-    f = f_at t hs
-
-    abbrev s : History
-    s = so_far t hs
-
-    part : Part t whole hs
-    part = part_of t whole hs h rest is
-
-    lawful : IsLawfulRun s
-    lawful = part_lawful t whole hs part
+    open at_happening t whole hs h rest is use {f, s, part, lawful}
 
     wide : (a b : BranchId) → IsChild (Began (births_of s)) a b → IsChild (Began bs) a b
     wide a b kid = (kid.0, born_end t whole hs part kid.0 kid.1, kid.2, kid.3)
@@ -170,16 +145,16 @@ module _ (t : History) (whole : IsLawfulRun t) (c : Commit t.places t.commands t
         let one : it.born ≡ mine.0 = trees.same_born bs (said_in (facts_at t)) known it.born mine.0 (born_end t whole hs part it.born it.began) mine.1 (it.is_me ∙ (me ∙ sym mine.2)) in
         sym it.is_root ∙ (ap (λ (z : Born). z.root) one ∙ mine.3)
 
-    pub row_of : (n : ℕ) (k : NodeState) → node_at f n ≡ Some k → (b : BranchId) → InTree b → (r : Standing) → standing_at k b ≡ Some r → r.root ≡ c.root
+    pub row_of : (n : ℕ) (k : NodeState) → node_at f n ≡ Some k → (b : BranchId) → InTree b → (r : KeptRow) → kept_row_at k b ≡ Some r → r.root ≡ c.root
     row_of n k up b mine r found =
-        let me : r.me ≡ b = item_is standing_id k.stored.durable.kept b r found in
-        let it : KeptIs (Began (births_of s)) r = all_found (KeptIs (Began (births_of s))) standing_id k.stored.durable.kept b r (nodes_name_the_born s lawful n k up).1 found in
+        let me : r.me ≡ b = item_is kept_row_id k.stored.durable.kept b r found in
+        let it : KeptIs (Began (births_of s)) r = all_found (KeptIs (Began (births_of s))) kept_row_id k.stored.durable.kept b r (nodes_name_the_born s lawful n k up).1 found in
         let one : it.born ≡ mine.0 = trees.same_born bs (said_in (facts_at t)) known it.born mine.0 (born_end t whole hs part it.born it.began) mine.1 (it.is_me ∙ (me ∙ sym mine.2)) in
         sym it.is_root ∙ (ap (λ (z : Born). z.root) one ∙ mine.3)
 
-    pub near_of : (n : ℕ) (k : NodeState) → node_at f n ≡ Some k → (b : BranchId) (r : Standing) → standing_at k b ≡ Some r → (q : BranchId) → r.toward ≡ Some q → far q < far r.me
+    pub near_of : (n : ℕ) (k : NodeState) → node_at f n ≡ Some k → (b : BranchId) (r : KeptRow) → kept_row_at k b ≡ Some r → (q : BranchId) → r.toward ≡ Some q → far q < far r.me
     near_of n k up b r found q toward =
-        elim (all_found (λ (y : Standing). RowFits (forest_of t) y.me y.toward) standing_id k.stored.durable.kept b r (rows_fit t whole hs part n k up) found) [
+        elim (all_found (λ (y : KeptRow). RowFits (forest_of t) y.me y.toward) kept_row_id k.stored.durable.kept b r (rows_fit t whole hs part n k up) found) [
           | inl fits ↦ (let both : Some q ≡ Some ((forest_of t).toward r.me) = sym toward ∙ fits.0 in
               let it : q ≡ (forest_of t).toward r.me = cc in
               subst (λ b. far b < far r.me) (sym it) ((runs_have_forests t whole).nearer r.me fits.1 fits.2))

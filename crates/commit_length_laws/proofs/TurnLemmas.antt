@@ -5,7 +5,7 @@ use Rattle.std.proofs.lemmas.Bool.{cond_both, and_parts}
 use Rattle.tran_ids.proofs.ListedLemmas.{item_is}
 use Rattle.prepare_phase.specs.Acts.{is_first_answer}
 use Rattle.session_tree.specs.Tree.{step}
-use Rattle.node_rules.specs.Data.{BranchId, Decision, Edge, Kind, Live, Phase, Place, Post, Standing, Vote}
+use Rattle.node_rules.specs.Data.{BranchId, Decision, Edge, Kind, Live, Phase, Place, Post, KeptRow, Vote}
 use Rattle.node_rules.specs.Data.acts
 use Rattle.node_rules.specs.Data.decisions
 use Rattle.node_rules.specs.Data.kinds
@@ -13,30 +13,27 @@ use Rattle.node_rules.specs.Data.phases
 use Rattle.node_rules.specs.Data.votes
 use Rattle.node_rules.specs.Words.{same}
 use Rattle.node_rules.specs.Commit.{acked_by, ack_counts, is_beyond, is_asked_again, knows_commit, next_on_decision, next_on_ack, next_on_forgotten, counts_ack, commit_point_known}
-use Rattle.node_rules.specs.NodeState.{NodeState, Deed, live_id, live_at, work_at, with_work, standing_id, standing_at, with_standing, nothing, saying, post}
+use Rattle.node_rules.specs.NodeState.{NodeState, TurnDraft, live_id, live_at, work_at, with_work, kept_row_id, kept_row_at, with_kept_row, nothing, saying, post}
 use Rattle.node_rules.specs.Prepare.{act_turn, collecting, with_comment, without_read_keys, first_act, first_act_by, prepare_in, answer_in, answer_act, next_act, all_answered, collected_act, voted, has_voted, with_prepare_sent, commit_point_in, commit_point_act}
-use Rattle.node_rules.specs.Turn.{Stand, Is_live, Is_kept, Is_gone, kept_or_gone, live_or, stand_of, kind_turn}
+use Rattle.node_rules.specs.Turn.{BranchStatus, Is_live, Is_kept, Is_gone, kept_or_gone, live_or, status_of, kind_turn}
 use Rattle.run_rules.specs.Trail.{is_prepare}
 use Rattle.run_claims.specs.Undisturbed.{disturbs}
 use Rattle.commit_length_laws.proofs.WorthLemmas.{phase_worth, worth, says_worth, live_worth, node_worth, live_low, live_is, asked_worth, sent_worth, map_length}
 use Rattle.commit_length_laws.proofs.ActLemmas.{act_cost, act_low, collected_cost, point_cost}
 use Rattle.commit_length_laws.proofs.KeptLemmas.{committed_costs, forgotten_costs, noted_costs, noted_same, noted_found}
 use Rattle.commit_length_laws.proofs.SayLemmas.{in_course, SaidSo, WorksOn, act_said, act_works, next_said, next_works}
+use Rattle.commit_laws.proofs.TurnLemmas.{stand_live}
 
-stand_live : (k : NodeState) (b : BranchId) (l : Live) → live_at k b ≡ Some l → stand_of k b ≡ Is_live (record { live = l; work = work_at k l.me })
-unfolding stand_of
-stand_live k b l is = ap (λ o. live_or (with_work k o) (standing_at k b)) is
-
-stand_kept : (k : NodeState) (b : BranchId) (o : Option Standing) → live_at k b ≡ None → standing_at k b ≡ o → stand_of k b ≡ kept_or_gone o
-unfolding stand_of
-stand_kept k b o is row = ap (λ x. live_or (with_work k x) (standing_at k b)) is ∙ ap kept_or_gone row
+stand_kept : (k : NodeState) (b : BranchId) (o : Option KeptRow) → live_at k b ≡ None → kept_row_at k b ≡ o → status_of k b ≡ kept_or_gone o
+unfolding status_of
+stand_kept k b o is row = ap (λ x. live_or (with_work k x) (kept_row_at k b)) is ∙ ap kept_or_gone row
 
 module _ (g : BranchId) (ask far : BranchId → ℕ) (low : (b : BranchId) → far b ≤ 17) where
   abbrev held : NodeState → ℕ
   held k = node_worth g ask far k
 
   -- A turn of a branch costs at most so much, says what belongs to the course, and makes nobody work.
-  pub record Fits (k : NodeState) (to : BranchId) (w : ℕ) (d : Deed) : Type 0 where
+  pub record Fits (k : NodeState) (to : BranchId) (w : ℕ) (d : TurnDraft) : Type 0 where
     pub less : 1 + says_worth g ask far d.says + held d.after ≤ w + held k
     pub said : AllByRecursion (SaidSo to) d.says
     pub works : WorksOn k d.after
@@ -145,12 +142,12 @@ module _ (g : BranchId) (ask far : BranchId → ℕ) (low : (b : BranchId) → f
       live_fits kinds.InDoubt works so calm = absurd cc
       live_fits kinds.Ask works so calm = absurd cc
 
-    module _ (s : Standing) (found : standing_at k to ≡ Some s) (of : same s.root g ≡ true) (near : (q : BranchId) → s.toward ≡ Some q → far q < far s.me) (asks : 2 ≤ ask to) where
+    module _ (s : KeptRow) (found : kept_row_at k to ≡ Some s) (of : same s.root g ≡ true) (near : (q : BranchId) → s.toward ≡ Some q → far q < far s.me) (asks : 2 ≤ ask to) where
       own : s.me ≡ to
-      own = item_is standing_id k.stored.durable.kept to s found
+      own = item_is kept_row_id k.stored.durable.kept to s found
 
-      there : standing_at k s.me ≡ Some s
-      there = subst (λ b. standing_at k b ≡ Some s) (sym own) found
+      there : kept_row_at k s.me ≡ Some s
+      there = subst (λ b. kept_row_at k b ≡ Some s) (sym own) found
 
       said_there : (ms : List Post) → AllByRecursion (SaidSo s.me) ms → AllByRecursion (SaidSo to) ms
       said_there ms all = subst (λ b. AllByRecursion (SaidSo b) ms) own all
@@ -167,12 +164,12 @@ module _ (g : BranchId) (ask far : BranchId → ℕ) (low : (b : BranchId) → f
       acks_so = cond_both (ack_counts s from) (counts_ack k (acked_by s from) from) (nothing k) (Fits k to (2 + far to))
           (λ counts. (let knows = (and_parts (knows_commit s.decision) (is_beyond s from) counts).0 in
           let same_worth = noted_same g ask far low k s from there in
-          let cost = noted_costs g ask far low (with_standing k (acked_by s from)) (acked_by s from) from (noted_found g ask far low k s from there) of near knows in
+          let cost = noted_costs g ask far low (with_kept_row k (acked_by s from)) (acked_by s from) from (noted_found g ask far low k s from there) of near knows in
           let where_to : far s.me ≡ far to = ap far own in
           record {
             less = omega (arith, same_worth, cost, where_to);
-            said = said_there _ (next_said (with_standing k (acked_by s from)) (acked_by s from) from (next_on_ack (acked_by s from)));
-            works = next_works (with_standing k (acked_by s from)) (acked_by s from) from (next_on_ack (acked_by s from));
+            said = said_there _ (next_said (with_kept_row k (acked_by s from)) (acked_by s from) from (next_on_ack (acked_by s from)));
+            works = next_works (with_kept_row k (acked_by s from)) (acked_by s from) from (next_on_ack (acked_by s from));
           })) (λ other. idle (2 + far to) (omega arith))
 
       pub kept_fits : (kind : Kind) → in_course kind ≡ true → disturbs kind ≡ false → Fits k to (worth g ask far to kind) (kind_turn p k from to kind (Is_kept s))
@@ -226,17 +223,17 @@ module _ (g : BranchId) (ask far : BranchId → ℕ) (low : (b : BranchId) → f
       pub asks : 2 ≤ ask to
       pub mine : (l : Live) → live_at k to ≡ Some l → same l.root g ≡ true
       pub works : (l : Live) → live_at k to ≡ Some l → l.phase ≡ phases.Working → is_prepare kind ≡ true → 24 + asked_worth g ask far l.edges + 21 * length l.edges ≤ ask to
-      pub rows : (s : Standing) → standing_at k to ≡ Some s → (same s.root g ≡ true) × ((q : BranchId) → s.toward ≡ Some q → far q < far s.me)
+      pub rows : (s : KeptRow) → kept_row_at k to ≡ Some s → (same s.root g ≡ true) × ((q : BranchId) → s.toward ≡ Some q → far q < far s.me)
 
     -- so a delivery is less than its message was worth
-    pub turn_fits : (kind : Kind) → Known kind → in_course kind ≡ true → disturbs kind ≡ false → Fits k to (worth g ask far to kind) (kind_turn p k from to kind (stand_of k to))
+    pub turn_fits : (kind : Kind) → Known kind → in_course kind ≡ true → disturbs kind ≡ false → Fits k to (worth g ask far to kind) (kind_turn p k from to kind (status_of k to))
     turn_fits kind known so calm = by_live (live_at k to) refl
       where
-        by_row : (o : Option Standing) → live_at k to ≡ None → standing_at k to ≡ o → Fits k to (worth g ask far to kind) (kind_turn p k from to kind (stand_of k to))
-        by_row None none is = subst (λ (x : Stand). Fits k to (worth g ask far to kind) (kind_turn p k from to kind x)) (sym (stand_kept k to None none is)) (gone_fits known.asks kind so calm)
-        by_row (Some s) none is = (let row = known.rows s is in subst (λ (x : Stand). Fits k to (worth g ask far to kind) (kind_turn p k from to kind x)) (sym (stand_kept k to (Some s) none is)) (kept_fits s is row.0 row.1 known.asks kind so calm))
+        by_row : (o : Option KeptRow) → live_at k to ≡ None → kept_row_at k to ≡ o → Fits k to (worth g ask far to kind) (kind_turn p k from to kind (status_of k to))
+        by_row None none is = subst (λ (x : BranchStatus). Fits k to (worth g ask far to kind) (kind_turn p k from to kind x)) (sym (stand_kept k to None none is)) (gone_fits known.asks kind so calm)
+        by_row (Some s) none is = (let row = known.rows s is in subst (λ (x : BranchStatus). Fits k to (worth g ask far to kind) (kind_turn p k from to kind x)) (sym (stand_kept k to (Some s) none is)) (kept_fits s is row.0 row.1 known.asks kind so calm))
 
-        by_live : (o : Option Live) → live_at k to ≡ o → Fits k to (worth g ask far to kind) (kind_turn p k from to kind (stand_of k to))
-        by_live None is = by_row (standing_at k to) is refl
+        by_live : (o : Option Live) → live_at k to ≡ o → Fits k to (worth g ask far to kind) (kind_turn p k from to kind (status_of k to))
+        by_live None is = by_row (kept_row_at k to) is refl
         by_live (Some l) is =
-            subst (λ (x : Stand). Fits k to (worth g ask far to kind) (kind_turn p k from to kind x)) (sym (stand_live k to l is)) (live_fits l is (known.mine l is) known.asks kind (known.works l is) so calm)
+            subst (λ (x : BranchStatus). Fits k to (worth g ask far to kind) (kind_turn p k from to kind x)) (sym (stand_live k to l is)) (live_fits l is (known.mine l is) known.asks kind (known.works l is) so calm)

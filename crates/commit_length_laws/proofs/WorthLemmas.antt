@@ -3,7 +3,7 @@ use Rattle.std.proofs.Common.{◌≡◌, ℕ, suc, ◌+◌, ◌*◌, ◌≤◌, 
 use Rattle.std.proofs.lemmas.Bool.{cond_both}
 use Rattle.commit_forget.specs.Beyond.{beyond, parent_beyond, kid_beyond}
 use Rattle.session_tree.specs.Live.{is_branch}
-use Rattle.node_rules.specs.Data.{BranchId, Decision, Edge, Kind, Kid, Live, Phase, Post, Standing, Beyond}
+use Rattle.node_rules.specs.Data.{BranchId, Decision, Edge, Kind, Kid, Live, Phase, Post, KeptRow, Beyond}
 use Rattle.node_rules.specs.Data.kinds
 use Rattle.node_rules.specs.Data.phases
 use Rattle.node_rules.specs.Words.{same}
@@ -29,7 +29,7 @@ known_worth true (Some d) n = 0
 known_worth false (Some d) n = n
 
 -- the neighbours of a row
-abbrev pub neighbors : Standing → ℕ
+abbrev pub neighbors : KeptRow → ℕ
 neighbors s = one_of s.parent + length s.children
 
 module _ (g : BranchId) (ask far : BranchId → ℕ) where
@@ -56,7 +56,7 @@ module _ (g : BranchId) (ask far : BranchId → ℕ) where
   abbrev pub live_worth : Live → ℕ
   live_worth l = if same l.root g then phase_worth l.phase (length l.edges) else 0
 
-  abbrev pub row_worth : Standing → ℕ
+  abbrev pub row_worth : KeptRow → ℕ
   row_worth s = if same s.root g then known_worth s.forgot s.decision (neighbors s) else 0
 
   -- all of them at a node
@@ -73,14 +73,14 @@ module _ (g : BranchId) (ask far : BranchId → ℕ) where
   pub live_is : (l : Live) → same l.root g ≡ true → live_worth l ≡ phase_worth l.phase (length l.edges)
   live_is l of = ap (λ q. if q then phase_worth l.phase (length l.edges) else 0) of
 
-  pub row_low : (s : Standing) → row_worth s ≤ known_worth s.forgot s.decision (neighbors s)
+  pub row_low : (s : KeptRow) → row_worth s ≤ known_worth s.forgot s.decision (neighbors s)
   row_low s = by (same s.root g) (known_worth s.forgot s.decision (neighbors s))
     where
       by : (q : Bool) (n : ℕ) → (if q then n else 0) ≤ n
       by true n = omega arith
       by false n = omega arith
 
-  pub row_is : (s : Standing) → same s.root g ≡ true → row_worth s ≡ known_worth s.forgot s.decision (neighbors s)
+  pub row_is : (s : KeptRow) → same s.root g ≡ true → row_worth s ≡ known_worth s.forgot s.decision (neighbors s)
   row_is s of = ap (λ q. if q then known_worth s.forgot s.decision (neighbors s) else 0) of
 
   -- ---- messages
@@ -118,7 +118,7 @@ pub map_length : {A B : Type 0} (h : A → B) (xs : List A) → length (map h xs
 map_length h [] = refl
 map_length h (x ∷ xs) = (let rest = map_length h xs in omega (arith, rest))
 
-parent_low : (s : Standing) (o : Option BranchId) → length (parent_beyond s o) ≤ one_of o
+parent_low : (s : KeptRow) (o : Option BranchId) → length (parent_beyond s o) ≤ one_of o
 parent_low s None = omega arith
 parent_low s (Some b) = cond_both (is_branch b s.toward) [] (record { branch = b; acked = s.parent_acked; is_parent = true } ∷ []) (λ (ys : List Beyond). length ys ≤ 1) (λ is. omega arith) (λ other. omega arith)
 
@@ -127,7 +127,7 @@ append_length [] ys = omega arith
 append_length (x ∷ xs) ys = (let rest = append_length xs ys in omega (arith, rest))
 
 -- who is beyond is a neighbour
-pub beyond_low : (s : Standing) → length (beyond s) ≤ neighbors s
+pub beyond_low : (s : KeptRow) → length (beyond s) ≤ neighbors s
 unfolding beyond
 beyond_low s =
     let ps = parent_low s s.parent in

@@ -7,37 +7,36 @@ use Rattle.commit_forget.specs.declared.next.Next.TheVariants as nexts
 use Rattle.session_tree.specs.Live.{is_branch}
 use Rattle.agreement.specs.Events.{Forest, Event, Sealed, exit, learned, forced, Knows, site_of}
 use Rattle.agreement.specs.Outcomes.{differ}
-use Rattle.node_rules.specs.Data.{BranchId, Decision, Kind, Live, Msg, Place, Standing, State, Input}
+use Rattle.node_rules.specs.Data.{BranchId, Decision, Kind, Live, Msg, Place, KeptRow, State, Input}
 use Rattle.node_rules.specs.Data.decisions
 use Rattle.node_rules.specs.Data.inputs
 use Rattle.node_rules.specs.Data.kinds
 use Rattle.node_rules.specs.Data.states
 use Rattle.node_rules.specs.Data.records
 use Rattle.node_rules.specs.Inputs.{Brings, Commit_came, Rollback_came, Rolled_back_came}
-use Rattle.node_rules.specs.NodeState.{NodeState, Deed, live_id, standing_id, live_at, standing_at}
+use Rattle.node_rules.specs.NodeState.{NodeState, TurnDraft, live_id, kept_row_id, live_at, kept_row_at}
 use Rattle.node_rules.specs.Commit.{next_on_decision, decision_at, first_decision, next_turn, on_decision, is_mixed}
-use Rattle.node_rules.specs.Turn.{Stand, Is_live, Is_kept, Is_gone, turn_of, heard, deed_of, kind_turn, stand_of}
+use Rattle.node_rules.specs.Turn.{BranchStatus, Is_live, Is_kept, Is_gone, turn_of, heard, draft_of, kind_turn, status_of}
 use Rattle.node_rules.proofs.StandLemmas.{StandsSo, stands_so, live_so}
 use Rattle.run_rules.specs.Data.{Turn, Happening, Took}
 use Rattle.run_rules.specs.Data.happenings
 use Rattle.run_base_laws.specs.EventLaws.{AtEachEvent, EachEventFrom}
 use Rattle.run_base_laws.specs.EventRows.{RowIs, IsKnown, IsForcedAs, IsDone}
-use Rattle.run_rules.specs.Facts.{Facts, place_at, node_at, facts_of}
+use Rattle.run_rules.specs.Facts.{Facts, node_at, facts_of}
 use Rattle.run_rules.specs.BranchRecords.{toward_at}
-use Rattle.run_rules.specs.Lawful.{IsOwed, MayHappen, Comes, History, IsLawfulRun}
+use Rattle.run_rules.specs.Lawful.{IsOwed, Comes, History, IsLawfulRun}
 use Rattle.run_base_laws.specs.RunEvents.{events_from}
 use Rattle.run_base_laws.proofs.EventsStandLemmas.{nodes_are_as_events}
 use Rattle.run_branch_laws.proofs.GoneLemmas.{gone_are_done}
 use Rattle.run_base_laws.proofs.OwnLemmas.{all_found}
 use Rattle.tree_laws.specs.Forests.{forest_of}
 use Rattle.tree_laws.proofs.AckForestLemmas.{gone_before}
-use Rattle.tree_laws.proofs.PrefixLemmas.{so_far, f_at, e_at, one_on, more_on}
-use Rattle.tree_site_laws.proofs.TimeLemmas.{Part, part_of, part_lawful, may_of}
-use Rattle.commit_spread_laws.proofs.FitRowLemmas.{RowFits, rows_fit}
-use Rattle.commit_spread_laws.proofs.MoreLemmas.{inv_at}
+use Rattle.tree_laws.proofs.PrefixLemmas.{f_at, e_at, one_on, more_on}
+use Rattle.tree_laws.proofs.FitRowLemmas.{RowFits, toward_of_forest, rows_fit}
+use Rattle.tree_laws.proofs.MoreLemmas.{inv_at}
 use Rattle.commit_obey_laws.specs.ObeyLaws.{taken_as, Obeys, DecisionsAreObeyed}
-use Rattle.commit_obey_laws.proofs.DiskFitLemmas.{toward_of_forest}
 use Rattle.commit_obey_laws.proofs.SealStandLemmas.{toward_sealed}
+use Rattle.tree_laws.proofs.AtTurn.{at_turn}
 
 -- ---- a message that brings a decision
 
@@ -46,12 +45,12 @@ record BroughtBy (input : Input) (from to : BranchId) (d : Decision) : Type 0 wh
   scn : ℕ
   kind : Kind
   is : input ≡ inputs.Message (record { from = from; to = to; scn = scn; kind = kind })
-  deed : (p : Place) (k : NodeState) (s : Standing) → kind_turn p k from to kind (Is_kept s) ≡ on_decision k s from d
+  draft : (p : Place) (k : NodeState) (s : KeptRow) → kind_turn p k from to kind (Is_kept s) ≡ on_decision k s from d
 
 brought_by : {input : Input} {from to : BranchId} {d : Decision} → Brings input from to d → BroughtBy input from to d
-brought_by (Commit_came n came) = record { scn = came.scn; kind = kinds.Committed n; is = came.is; deed = λ p k s. refl }
-brought_by (Rollback_came came) = record { scn = came.scn; kind = kinds.Rollback; is = came.is; deed = λ p k s. refl }
-brought_by (Rolled_back_came came) = record { scn = came.scn; kind = kinds.RolledBack; is = came.is; deed = λ p k s. refl }
+brought_by (Commit_came n came) = record { scn = came.scn; kind = kinds.Committed n; is = came.is; draft = λ p k s. refl }
+brought_by (Rollback_came came) = record { scn = came.scn; kind = kinds.Rollback; is = came.is; draft = λ p k s. refl }
+brought_by (Rolled_back_came came) = record { scn = came.scn; kind = kinds.RolledBack; is = came.is; draft = λ p k s. refl }
 
 -- it came to its receiver's node
 came_here : (f : Facts) (k : NodeState) (node : ℕ) (m : Msg) (took : Option Took) → Comes f k node (inputs.Message m) took → m.to.node ≡ node
@@ -60,7 +59,7 @@ came_here f k node m None comes = absurd comes
 
 -- ---- a row that takes a decision
 
-module _ (s : Standing) (y : BranchId) (d : Decision) (toward : s.toward ≡ Some y) (none : s.decision ≡ None) where
+module _ (s : KeptRow) (y : BranchId) (d : Decision) (toward : s.toward ≡ Some y) (none : s.decision ≡ None) where
   next_is : next_on_decision s y d ≡ first_decision s.state d
   unfolding next_on_decision
   next_is =
@@ -76,7 +75,7 @@ rollback_marked : (d : Decision) → is_mixed states.ForcedRollback d ≡ differ
 rollback_marked (decisions.Commit m) = refl
 rollback_marked decisions.Rollback = refl
 
-first_wrote : (e : List Event) (k : NodeState) (s : Standing) (y : BranchId) (d : Decision) (state : State) → IsForcedAs e s.me state None
+first_wrote : (e : List Event) (k : NodeState) (s : KeptRow) (y : BranchId) (d : Decision) (state : State) → IsForcedAs e s.me state None
     → (next_turn k s y (first_decision state d)).wrote ≡ Some (taken_as (forced e s.me) s.me d)
 first_wrote e k s y d states.Sealed force = ap (λ o. Some (taken_as o s.me d)) (sym force.0)
 first_wrote e k s y d states.Committed force = absurd (force refl)
@@ -89,29 +88,7 @@ module _ (t : History) (whole : IsLawfulRun t) (hs : List Happening) (u : Turn) 
   abbrev p : Forest
   p = forest_of t
 
-  abbrev s0 : History
-  s0 = so_far t hs
-
-  abbrev f : Facts
-  f = f_at t hs
-
-  abbrev e : List Event
-  e = e_at t hs
-
-  part : Part t whole hs
-  part = part_of t whole hs (happenings.Turn u) rest is
-
-  lawful : IsLawfulRun s0
-  lawful = part_lawful t whole hs part
-
-  may : MayHappen t.places t.commands f (happenings.Turn u)
-  may = may_of t whole hs (happenings.Turn u) rest is
-
-  abbrev k : NodeState
-  k = may.0
-
-  abbrev place : Place
-  place = place_at t.places u.node
+  open at_turn t whole hs u rest is use {s as s0, f, e, part, lawful, may, k, p as place}
 
   module _ (uncut : u.cut ≡ false) (b from : BranchId) (d : Decision) (scn : ℕ) (named : toward_at f b ≡ Some from) (brings : Brings u.input from b d)
       (sealed : exit e b ≡ Some (Sealed scn)) (unlearned : learned e b ≡ None) where
@@ -127,8 +104,8 @@ module _ (t : History) (whole : IsLawfulRun t) (hs : List Happening) (u : Turn) 
     abbrev k0 : NodeState
     k0 = heard k input
 
-    abbrev d0 : Deed
-    d0 = deed_of place k input
+    abbrev d0 : TurnDraft
+    d0 = draft_of place k input
 
     abbrev Takes : Type 0
     Takes = u.wrote ≡ Some (taken_as (forced e b) b d)
@@ -139,11 +116,11 @@ module _ (t : History) (whole : IsLawfulRun t) (hs : List Happening) (u : Turn) 
     up : node_at f b.node ≡ Some k
     up = subst (λ i. node_at f i ≡ Some k) (sym here) may.1.up
 
-    -- the turn writes what the deed does
+    -- the turn writes what the draft does
     wrote_by : (cut : Bool) → cut ≡ false → IsOwed place k u.input u.wrote u.sent cut → u.wrote ≡ d0.wrote
     unfolding turn_of
     wrote_by true is owed = absurd cc
-    wrote_by false is owed = owed.0 ∙ ap (λ (i : Input). (deed_of place k i).wrote) brought.is
+    wrote_by false is owed = owed.0 ∙ ap (λ (i : Input). (draft_of place k i).wrote) brought.is
 
     owes : u.wrote ≡ d0.wrote
     owes = wrote_by u.cut uncut may.1.owed
@@ -162,15 +139,15 @@ module _ (t : History) (whole : IsLawfulRun t) (hs : List Happening) (u : Turn) 
     not_done (inl rolled) = absurd (cc (rolled, unlearned))
     not_done (inr forgot) = (let knows = ((inv_at t whole hs part).forgets b forgot).0 in no_commit knows.0 knows.1)
 
-    not_gone : stand_of k0 b ≡ Is_gone → ⊥
+    not_gone : status_of k0 b ≡ Is_gone → ⊥
     not_gone gone = not_done (gone_are_done s0 lawful b k up (gone_before k input b gone) scn sealed)
 
-    module _ (s : Standing) (me : s.me ≡ b) (kept : standing_at k0 s.me ≡ Some s) (stands : stand_of k0 b ≡ Is_kept s) where
+    module _ (s : KeptRow) (me : s.me ≡ b) (kept : kept_row_at k0 s.me ≡ Some s) (stands : status_of k0 b ≡ Is_kept s) where
       row : RowIs e s
-      row = all_found (RowIs e) standing_id k.stored.durable.kept s.me s (nodes_are_as_events s0 lawful u.node k may.1.up).1 kept
+      row = all_found (RowIs e) kept_row_id k.stored.durable.kept s.me s (nodes_are_as_events s0 lawful u.node k may.1.up).1 kept
 
       toward : s.toward ≡ Some from
-      toward = by (all_found (λ (x : Standing). RowFits p x.me x.toward) standing_id k.stored.durable.kept s.me s (rows_fit t whole hs part u.node k may.1.up) kept)
+      toward = by (all_found (λ (x : KeptRow). RowFits p x.me x.toward) kept_row_id k.stored.durable.kept s.me s (rows_fit t whole hs part u.node k may.1.up) kept)
         where
           by : RowFits p s.me s.toward → s.toward ≡ Some from
           by (inl way) = way.0 ∙ ap Some (ap p.toward me ∙ toward_of_forest t whole hs part b from named)
@@ -186,16 +163,16 @@ module _ (t : History) (whole : IsLawfulRun t) (hs : List Happening) (u : Turn) 
 
       takes_kept : Takes
       takes_kept =
-          let deed : d0 ≡ next_turn k0 s from (first_decision s.state d)
-          = ap (λ (x : Stand). kind_turn place k0 from b brought.kind x) stands ∙ (brought.deed place k0 s ∙ ap (λ x. next_turn k0 s from x) (next_is s from d toward none)) in
+          let draft : d0 ≡ next_turn k0 s from (first_decision s.state d)
+          = ap (λ (x : BranchStatus). kind_turn place k0 from b brought.kind x) stands ∙ (brought.draft place k0 s ∙ ap (λ x. next_turn k0 s from x) (next_is s from d toward none)) in
           let wrote : d0.wrote ≡ Some (taken_as (forced e s.me) s.me d)
-          = ap (λ (x : Deed). x.wrote) deed ∙ first_wrote e k0 s from d s.state (subst (IsForcedAs e s.me s.state) none row.force) in
+          = ap (λ (x : TurnDraft). x.wrote) draft ∙ first_wrote e k0 s from d s.state (subst (IsForcedAs e s.me s.state) none row.force) in
           owes ∙ subst (λ c. d0.wrote ≡ Some (taken_as (forced e c) c d)) me wrote
 
     takes : Takes
-    takes = by (stand_of k0 b) refl (stands_so k0 b)
+    takes = by (status_of k0 b) refl (stands_so k0 b)
       where
-        by : (x : Stand) → stand_of k0 b ≡ x → StandsSo k0 b x → Takes
+        by : (x : BranchStatus) → status_of k0 b ≡ x → StandsSo k0 b x → Takes
         by (Is_live x) at so = absurd (not_live x.live (subst (λ i. live_at k0 i ≡ Some x.live) so.0 (live_so k0 x.live.me x so.1)))
         by (Is_kept s) at so = takes_kept s so.0 so.1 at
         by Is_gone at so = absurd (not_gone at)

@@ -23,7 +23,7 @@ use Rattle.run_base_laws.proofs.EventsStandLemmas.{first_disk, turns_tell_as_eve
 use Rattle.run_base_laws.proofs.LaterLemmas.{exit_later, turn_added}
 use Rattle.run_rules.proofs.ListLemmas.{all_append, all_weaker}
 use Rattle.tree_laws.proofs.PrefixLemmas.{f_at, e_at, one_on, more_on}
-use Rattle.tree_site_laws.proofs.TimeLemmas.{Part, each_at, exit_on, keep_on}
+use Rattle.tree_laws.proofs.TimeLemmas.{Part, each_at, exit_on, keep_on}
 
 first_new : (x z : Option Exit) → x ≡ None → first x z ≡ z
 first_new None z is = refl
@@ -59,14 +59,14 @@ sealed_named e (records.Sealed r ∷ rs) b from stand is = by (same r.me b) refl
 sealed_named e (_ ∷ rs) b from stand is = sealed_named e rs b from stand.1 is
 
 module _ (t : History) (whole : IsLawfulRun t) where
-  abbrev Stand : List Happening → Type 0
-  Stand hs = Disks (f_at t hs) (e_at t hs)
+  abbrev BranchStatus : List Happening → Type 0
+  BranchStatus hs = Disks (f_at t hs) (e_at t hs)
 
   one_later : (hs : List Happening) (h : Happening) (r : RedoRecord) → SealStands (e_at t hs) r → SealStands (events_after t.places t.commands (f_at t hs) h (e_at t hs)) r
   one_later hs h (records.Sealed r) so = exit_on t.places t.commands (f_at t hs) h (e_at t hs) r.me (exits.Sealed r.scn) so
   one_later hs h _ so = tt
 
-  later : (hs : List Happening) (h : Happening) → Stand hs → Disks (f_at t hs) (events_after t.places t.commands (f_at t hs) h (e_at t hs))
+  later : (hs : List Happening) (h : Happening) → BranchStatus hs → Disks (f_at t hs) (events_after t.places t.commands (f_at t hs) h (e_at t hs))
   later hs h now n = all_weaker _ _ (λ r so. one_later hs h r so) (records_at (f_at t hs) n) (now n)
 
   tells : (hs : List Happening) (h : Happening) (rest : List Happening) → hs ++ h ∷ rest ≡ t.trace → TellsAsEvents (f_at t hs) (e_at t hs) h
@@ -80,7 +80,7 @@ module _ (t : History) (whole : IsLawfulRun t) where
       exit_later r.me (exits.Sealed r.scn) (turn_added (f_at t hs) (facts_after t.places t.commands (f_at t hs) (happenings.Turn u)) u (e_at t hs)) now
   seals_now hs u (Some _) wrote may = tt
 
-  disks_on : (hs : List Happening) (h : Happening) (rest : List Happening) → hs ++ h ∷ rest ≡ t.trace → Stand hs → Disks (facts_after t.places t.commands (f_at t hs) h) (events_after t.places t.commands (f_at t hs) h (e_at t hs))
+  disks_on : (hs : List Happening) (h : Happening) (rest : List Happening) → hs ++ h ∷ rest ≡ t.trace → BranchStatus hs → Disks (facts_after t.places t.commands (f_at t hs) h) (events_after t.places t.commands (f_at t hs) h (e_at t hs))
   unfolding facts_after
   disks_on hs h rest is now = by h (tells hs h rest is) (later hs h now) (λ u w wrote may. seals_now hs u w wrote may)
     where
@@ -95,13 +95,13 @@ module _ (t : History) (whole : IsLawfulRun t) where
       by (happenings.Join a b) told old new i = old i
       by (happenings.Lost k) told old new i = old i
 
-  stand_on : (hs : List Happening) (h : Happening) (rest : List Happening) → hs ++ h ∷ rest ≡ t.trace → Stand hs → Stand (hs ++ h ∷ [])
+  stand_on : (hs : List Happening) (h : Happening) (rest : List Happening) → hs ++ h ∷ rest ≡ t.trace → BranchStatus hs → BranchStatus (hs ++ h ∷ [])
   stand_on hs h rest is now = subst₂ Disks (sym (one_on t hs h)) (sym (more_on t hs h)) (disks_on hs h rest is now)
 
-  first_stand : Stand []
+  first_stand : BranchStatus []
   unfolding facts_of events_from
   first_stand n = first_disk (AllByRecursion (SealStands [])) tt (tt, tt) t.places n
 
   -- a branch that has a neighbour toward by the records of its node is sealed
   pub toward_sealed : (hs : List Happening) → Part t whole hs → (b from : BranchId) → toward_at (f_at t hs) b ≡ Some from → (m : ℕ) × (exit (e_at t hs) b ≡ Some (exits.Sealed m))
-  toward_sealed hs part b from is = sealed_named (e_at t hs) (records_at (f_at t hs) b.node) b from (keep_on t whole Stand stand_on [] hs part first_stand b.node) is
+  toward_sealed hs part b from is = sealed_named (e_at t hs) (records_at (f_at t hs) b.node) b from (keep_on t whole BranchStatus stand_on [] hs part first_stand b.node) is

@@ -4,12 +4,18 @@
 //! exactly where the forced outcome and the decision differ (`specs/ObeyLaws.antt`).
 #![tactic(auto)]
 
-ghost use Rattle.commit_obey_laws.specs.ObeyLaws.{DecisionsAreObeyed};
+ghost use Rattle.commit_obey_laws.specs.ObeyLaws.{DecisionsAreObeyed, EveryDecisionIsObeyed};
 ghost use Rattle.commit_obey_laws.specs.TriedObey.{TheTriedObey};
 
 /// In every lawful run each decision that comes from toward to a sealed branch that has learned none is written in that turn.
 pub fn decisions_are_obeyed()
     ensures { DecisionsAreObeyed }
+{}
+
+/// So it is by the book: where a decision comes from toward to a sealed branch of which the book does not have it yet that it
+/// met one, the turn writes that the branch ended with it, or how it met it, where the book has its forced outcome.
+pub fn every_decision_is_obeyed()
+    ensures { EveryDecisionIsObeyed }
 {}
 
 /// The law is not about nothing: in the tried run of two nodes B ends with the commit that A tells it, and, forced before, meets it.

@@ -17,7 +17,7 @@ use Rattle.run_rules.proofs.FactLemmas.{book_is}
 use Rattle.run_rules.proofs.ListLemmas.{all_weaker, all_append}
 use Rattle.tree_laws.specs.Forests.{forest_of}
 use Rattle.commit_point_laws.specs.EndLaws.{EntryIs, EntriesAreExits, UndisturbedSealsAreDecided}
-use Rattle.commit_point_laws.proofs.ReadyEndLemmas.{run_lawful}
+use Rattle.tree_laws.proofs.MoreLemmas.{events_lawful}
 use Rattle.commit_point_laws.proofs.WalkEndLemmas.{sealed_site}
 
 -- ---- lists
@@ -87,10 +87,10 @@ module _ (p : Forest) where
   entries_are (s ∷ t) lawful = next s t lawful.0 (entries_are t lawful.1)
 
   -- a branch that decided has its decision in the book
-  abbrev InBook : List Event → BranchId → ℕ → Type 0
+  abbrev pub InBook : List Event → BranchId → ℕ → Type 0
   InBook t b n = (ds : List Change) × (j : ℕ) × At (book_of t) j (entries.Decided b (p.root b) ds n)
 
-  decided_in : (t : List Event) → Lawful p t → (b : BranchId) (n : ℕ) → exit t b ≡ Some (Decided n) → InBook t b n
+  pub decided_in : (t : List Event) → Lawful p t → (b : BranchId) (n : ℕ) → exit t b ≡ Some (Decided n) → InBook t b n
   decided_in [] lawful b n is = absurd cc
   decided_in (s ∷ t) lawful b n is = elim (exit_new s t b (Decided n) is) [
     | inl old ↦ (let it : InBook t b n = decided_in t lawful.1 b n old in (it.0, it.1, entry_more (book_of t) (entry_by s) it.1 (entries.Decided b (p.root b) it.0 n) it.2))
@@ -106,17 +106,17 @@ module _ (p : Forest) where
 
 -- ---- every run
 
-run_book : (t : History) → (facts_at t).book ≡ book_of (events_of t)
+pub run_book : (t : History) → (facts_at t).book ≡ book_of (events_of t)
 run_book t = book_is t.places t.commands (first_facts t.places) t.trace ∙ sym (book_of_events t)
 
 pub entries_are_exits : EntriesAreExits
-entries_are_exits t whole = subst (λ es. AllByRecursion (EntryIs (forest_of t) (events_of t)) es) (sym (run_book t)) (entries_are (forest_of t) (events_of t) (run_lawful t whole))
+entries_are_exits t whole = subst (λ es. AllByRecursion (EntryIs (forest_of t) (events_of t)) es) (sym (run_book t)) (entries_are (forest_of t) (events_of t) (events_lawful t whole))
 
 pub undisturbed_seals_are_decided : UndisturbedSealsAreDecided
 undisturbed_seals_are_decided t whole c u below b cs scn i at =
     let is : EntryIs (forest_of t) (events_of t) (entries.Sealed b c.root cs scn) = slice_all (EntryIs (forest_of t) (events_of t)) (facts_at t).book i (entries.Sealed b c.root cs scn) (entries_are_exits t whole) at in
     let site = sealed_site t whole c u below b scn is.0 is.1 in
-    let it = decided_in (forest_of t) (events_of t) (run_lawful t whole) site.0 site.1 site.2 in (
+    let it = decided_in (forest_of t) (events_of t) (events_lawful t whole) site.0 site.1 site.2 in (
       site.0,
       it.0,
       site.1,

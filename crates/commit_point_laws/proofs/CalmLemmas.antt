@@ -36,12 +36,9 @@ use Rattle.commit_laws.proofs.StillLemmas.{among}
 use Rattle.commit_point_laws.specs.PointLaws.{is_point, IsNotLive}
 use Rattle.commit_point_laws.specs.RootLaws.{is_rollback}
 use Rattle.commit_point_laws.proofs.HeardLemmas.{points_are_heard}
+use Rattle.tree_laws.proofs.DecideLemmas.{cancel}
 
 -- ---- lists
-
-cancel : {A : Type 0} (xs ys zs : List A) → xs ++ ys ≡ xs ++ zs → ys ≡ zs
-cancel [] ys zs is = is
-cancel (x ∷ xs) ys zs is = cancel xs ys zs (let it : x ∷ (xs ++ ys) ≡ x ∷ (xs ++ zs) = is in cc)
 
 -- a message that was sent is among the packets
 module _ (kind : Kind → Bool) (P : Packet → Type 0) (a b : BranchId) where

@@ -37,8 +37,8 @@ use Rattle.tree_laws.proofs.AskLemmas.{sent_new}
 use Rattle.tree_laws.proofs.ForestLemmas as trees
 use Rattle.tree_laws.proofs.ForestRunLemmas.{run_known}
 use Rattle.tree_laws.proofs.PrefixLemmas.{so_far, f_at, e_at, one_on, more_on}
-use Rattle.tree_site_laws.proofs.FateLemmas.{among_found}
-use Rattle.tree_site_laws.proofs.TimeLemmas.{Part, part_on, part_of, part_lawful, may_of, each_at, exit_end, sent_end, born_end}
+use Rattle.tree_laws.proofs.FateLemmas.{among_found}
+use Rattle.tree_laws.proofs.TimeLemmas.{Part, part_on, part_of, part_lawful, may_of, each_at, exit_end, sent_end, born_end}
 use Rattle.run_claims.specs.Undisturbed.{Commit, Undisturbed}
 use Rattle.commit_laws.specs.WaitLaws.{AllCame}
 use Rattle.commit_point_laws.specs.RootLaws.{FoundNothing, is_rollback, RootReason, Seals, Decides, Finishes, Hears_abort, Gets_rollback, Rolls_back, Gives_up, TurnsLeaveRoots}

@@ -1,28 +1,26 @@
 -- In every lawful run a branch to which CommitPoint was delivered is live no more: it was Ready, and the walk goes on from it
 -- or ends there.
-use Rattle.std.proofs.Common.{◌≡◌, ◌≢◌, Bool, true, false, List, [], ◌∷◌, ◌++◌, Option, Some, None, inl, inr, refl, sym, ap, subst, ◌∙◌}
+use Rattle.std.proofs.Common.{◌≡◌, ◌≢◌, Bool, true, false, [], ◌∷◌, Option, Some, None, inl, inr, refl, sym, ap, subst, ◌∙◌}
 use Rattle.tran_ids.proofs.ListedLemmas.{item_is, drop_gone}
 use Rattle.session_tree.specs.Tree.{step}
 use Rattle.session_tree.specs.declared.act.Walk.{Walk}
 use Rattle.session_tree.specs.declared.act.Walk.TheVariants as walks
 use Rattle.agreement.specs.Events.{Exit, exit}
-use Rattle.node_rules.specs.Data.{BranchId, Decision, Kind, Live, Msg, Place, Standing}
+use Rattle.node_rules.specs.Data.{BranchId, Decision, Kind, Live, Msg, KeptRow}
 use Rattle.node_rules.specs.Data.decisions
 use Rattle.node_rules.specs.Data.inputs
 use Rattle.node_rules.specs.Data.kinds
 use Rattle.node_rules.specs.Data.phases
 use Rattle.node_rules.specs.Commit.{commit_point_known}
-use Rattle.node_rules.specs.NodeState.{NodeState, Deed, live_id, live_at, work_at, with_work, standing_at}
+use Rattle.node_rules.specs.NodeState.{NodeState, TurnDraft, live_id, live_at, work_at, with_work, kept_row_at}
 use Rattle.node_rules.specs.Points.{is_ready}
 use Rattle.node_rules.specs.Prepare.{act_turn, commit_point_act, commit_point_in}
-use Rattle.node_rules.specs.Turn.{Stand, Is_live, turn_of, heard, deed_of, stand_of, kept_or_gone, live_or, kind_turn, commit_point_turn}
+use Rattle.node_rules.specs.Turn.{BranchStatus, Is_live, turn_of, heard, draft_of, status_of, kept_or_gone, live_or, kind_turn, commit_point_turn}
 use Rattle.run_rules.specs.Births.{births_of, born_at}
 use Rattle.run_base_laws.specs.BirthLaws.{Began, IsChild, GoesSo}
-use Rattle.run_rules.specs.Data.{Turn, Happening}
-use Rattle.run_rules.specs.Data.happenings
-use Rattle.run_rules.specs.Facts.{Facts, place_at, node_at, kept_after, facts_after}
+use Rattle.run_rules.specs.Facts.{node_at, kept_after, facts_after}
 use Rattle.run_base_laws.specs.InTurnLaws.{said_in}
-use Rattle.run_rules.specs.Lawful.{MayHappen, History, IsLawfulRun, facts_at}
+use Rattle.run_rules.specs.Lawful.{History, IsLawfulRun, facts_at}
 use Rattle.run_branch_laws.specs.PhaseLaws.{PhaseFits}
 use Rattle.run_base_laws.specs.RunEvents.{events_of}
 use Rattle.run_branch_laws.specs.WalkLaws.{is_below, was_sent}
@@ -37,7 +35,7 @@ use Rattle.run_branch_laws.proofs.PhaseLemmas.{phases_fit}
 use Rattle.tree_laws.specs.AskLaws.{way_of}
 use Rattle.tree_laws.proofs.AskRunLemmas.{sent_from, collects_as_told}
 use Rattle.tree_laws.proofs.PrefixLemmas.{so_far, f_at, e_at, one_on}
-use Rattle.tree_site_laws.proofs.TimeLemmas.{Part, part_on, part_of, part_lawful, may_of, exit_end, born_end}
+use Rattle.tree_laws.proofs.TimeLemmas.{part_on, part_lawful, exit_end, born_end}
 use Rattle.commit_laws.specs.DeliveryLaws.{CameInTurn}
 use Rattle.commit_laws.proofs.CameLemmas.{deliveries_came}
 use Rattle.commit_point_laws.specs.PointLaws.{is_point, IsNotLive, PointsAreHeard}
@@ -45,6 +43,7 @@ use Rattle.commit_point_laws.proofs.PassLemmas.{points_find_ready}
 use Rattle.commit_point_laws.proofs.StayReadyLemmas.{ready_stay}
 use Rattle.tree_laws.proofs.StepWeightLemmas.{nowhere_weighs}
 use Rattle.commit_point_laws.proofs.WeightLemmas.{Lives, lives_still, walks_find_weights}
+use Rattle.tree_laws.proofs.AtTurn.{at_turn}
 
 -- who has left is not live
 pub left_not_live : (t : History) (whole : IsLawfulRun t) (b : BranchId) (z : Exit) → exit (events_of t) b ≡ Some z → IsNotLive (facts_at t) b
@@ -62,22 +61,22 @@ left_not_live t whole b z left k up = by (live_at k b) refl
 
 module _ (k : NodeState) (from to : BranchId) where
   -- one that is not live
-  known_same : (s : Standing) (o : Option Decision) → (commit_point_known k s from o).after ≡ k
+  known_same : (s : KeptRow) (o : Option Decision) → (commit_point_known k s from o).after ≡ k
   known_same s None = refl
   known_same s (Some (decisions.Commit n)) = refl
   known_same s (Some decisions.Rollback) = refl
 
-  other_same : (o : Option Standing) → (commit_point_turn k from to (kept_or_gone o)).after ≡ k
+  other_same : (o : Option KeptRow) → (commit_point_turn k from to (kept_or_gone o)).after ≡ k
   other_same None = refl
   other_same (Some s) = known_same s s.decision
 
-  stand_live : (l : Live) → live_at k to ≡ Some l → stand_of k to ≡ Is_live (record { live = l; work = work_at k l.me })
-  unfolding stand_of
-  stand_live l is = ap (λ o. live_or (with_work k o) (standing_at k to)) is
+  stand_live : (l : Live) → live_at k to ≡ Some l → status_of k to ≡ Is_live (record { live = l; work = work_at k l.me })
+  unfolding status_of
+  stand_live l is = ap (λ o. live_or (with_work k o) (kept_row_at k to)) is
 
-  stand_other : live_at k to ≡ None → stand_of k to ≡ kept_or_gone (standing_at k to)
-  unfolding stand_of
-  stand_other is = ap (λ o. live_or (with_work k o) (standing_at k to)) is
+  stand_other : live_at k to ≡ None → status_of k to ≡ kept_or_gone (kept_row_at k to)
+  unfolding status_of
+  stand_other is = ap (λ o. live_or (with_work k o) (kept_row_at k to)) is
 
   -- one that is Ready
   act_leaves : (l : Live) (w : Walk) → w ≢ walks.Nowhere → live_at (act_turn k l true (commit_point_act w)).after l.me ≡ None
@@ -85,63 +84,31 @@ module _ (k : NodeState) (from to : BranchId) where
   act_leaves l (walks.Down i) goes = drop_gone live_id k.lives l.me
   act_leaves l walks.Nowhere goes = absurd (goes refl)
 
-  leaves : ((l : Live) → live_at k to ≡ Some l → (l.phase ≡ phases.Ready) × (step l ≢ walks.Nowhere)) → live_at (commit_point_turn k from to (stand_of k to)).after to ≡ None
+  leaves : ((l : Live) → live_at k to ≡ Some l → (l.phase ≡ phases.Ready) × (step l ≢ walks.Nowhere)) → live_at (commit_point_turn k from to (status_of k to)).after to ≡ None
   leaves so = by (live_at k to) refl
     where
-      by : (o : Option Live) → live_at k to ≡ o → live_at (commit_point_turn k from to (stand_of k to)).after to ≡ None
-      by None is = subst (λ (s : Stand). live_at (commit_point_turn k from to s).after to ≡ None) (sym (stand_other is)) (subst (λ (j : NodeState). live_at j to ≡ None) (sym (other_same (standing_at k to))) is)
+      by : (o : Option Live) → live_at k to ≡ o → live_at (commit_point_turn k from to (status_of k to)).after to ≡ None
+      by None is = subst (λ (s : BranchStatus). live_at (commit_point_turn k from to s).after to ≡ None) (sym (stand_other is)) (subst (λ (j : NodeState). live_at j to ≡ None) (sym (other_same (kept_row_at k to))) is)
       by (Some l) is =
           let me : l.me ≡ to = item_is live_id k.lives to l is in
           let it = so l is in
           let acts : live_at (commit_point_in k l phases.Ready).after to ≡ None = subst (λ b. live_at (act_turn k l true (commit_point_act (step l))).after b ≡ None) me (act_leaves l (step l) it.1) in
           let turns : live_at (commit_point_in k l l.phase).after to ≡ None = subst (λ ph. live_at (commit_point_in k l ph).after to ≡ None) (sym it.0) acts in
-          subst (λ (s : Stand). live_at (commit_point_turn k from to s).after to ≡ None) (sym (stand_live l is)) turns
+          subst (λ (s : BranchStatus). live_at (commit_point_turn k from to s).after to ≡ None) (sym (stand_live l is)) turns
 
 module _ (t : History) (whole : IsLawfulRun t) (m : Msg) (came : CameInTurn t.trace m) (points : is_point m.kind ≡ true) where
-  abbrev hs : List Happening
-  hs = came.before
-
-  abbrev u : Turn
-  u = came.turn
-
-  abbrev h : Happening
-  h = happenings.Turn u
-
-  abbrev s : History
-  s = so_far t hs
-
-  abbrev f : Facts
-  f = f_at t hs
-
-  abbrev after : List Happening
-  after = hs ++ h ∷ []
-
-  abbrev b : BranchId
-  b = m.to
-
-  lawful : IsLawfulRun s
-  lawful = part_lawful t whole hs (part_of t whole hs h came.later came.is)
-
-  part_z : Part t whole after
-  part_z = part_on t whole hs h came.later came.is
+  open came use {before as hs, turn as u}
+  open m use {to as b}
+  open at_turn t whole came.before came.turn came.later came.is use {h, s, f, lawful, part_after as part_z, may, k, p, after}
 
   lawful_z : IsLawfulRun (so_far t after)
   lawful_z = part_lawful t whole after part_z
 
-  may : MayHappen t.places t.commands f h
-  may = may_of t whole hs h came.later came.is
-
-  abbrev k : NodeState
-  k = may.0
-
-  abbrev p : Place
-  p = place_at t.places u.node
-
   abbrev k0 : NodeState
   k0 = heard k (inputs.Message m)
 
-  abbrev d : Deed
-  d = deed_of p k (inputs.Message m)
+  abbrev d : TurnDraft
+  d = draft_of p k (inputs.Message m)
 
   up : node_at f b.node ≡ Some k
   up = subst (λ i. node_at f i ≡ Some k) came.here may.1.up
@@ -180,7 +147,7 @@ module _ (t : History) (whole : IsLawfulRun t) (m : Msg) (came : CameInTurn t.tr
 
   by_kind : (kind : Kind) → m.kind ≡ kind → is_point kind ≡ true → live_at d.after b ≡ None
   by_kind kinds.CommitPoint is points_it =
-      subst (λ (x : Kind). live_at (kind_turn p k0 m.from m.to x (stand_of k0 m.to)).after b ≡ None) (sym is) (leaves k0 m.from b (λ l live. (ready l live, goes l live)))
+      subst (λ (x : Kind). live_at (kind_turn p k0 m.from m.to x (status_of k0 m.to)).after b ≡ None) (sym is) (leaves k0 m.from b (λ l live. (ready l live, goes l live)))
   by_kind _ is points_it = absurd cc
 
   gone_then : live_at d.after b ≡ None

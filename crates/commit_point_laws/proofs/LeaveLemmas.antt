@@ -26,14 +26,15 @@ use Rattle.tree_laws.proofs.AskLemmas.{sent_split, below_asks}
 use Rattle.tree_laws.proofs.AskRunLemmas.{run_asks}
 use Rattle.tree_laws.proofs.LeftLemmas.{asks_live, left_have_told_all}
 use Rattle.tree_laws.proofs.PrefixLemmas.{so_far, f_at, e_at, one_on, more_on}
-use Rattle.tree_site_laws.specs.LeaveLaws.{LeftSo}
-use Rattle.tree_site_laws.proofs.FateLemmas.{drops_alone}
-use Rattle.tree_site_laws.proofs.FrozenLemmas.{path_down}
-use Rattle.tree_site_laws.proofs.LeaveLemmas.{was_there}
-use Rattle.tree_site_laws.proofs.TimeLemmas.{Part, part_on, part_of, part_lawful, may_of, each_at}
+use Rattle.tree_laws.specs.LeaveLaws.{LeftSo}
+use Rattle.tree_laws.proofs.FateLemmas.{drops_alone}
+use Rattle.tree_laws.proofs.FrozenLemmas.{path_down}
+use Rattle.tree_laws.proofs.LeaveLemmas.{was_there}
+use Rattle.tree_laws.proofs.TimeLemmas.{Part, part_on, part_of, part_lawful, may_of, each_at}
 use Rattle.commit_point_laws.specs.PointLaws.{QuietTellNone}
 use Rattle.commit_point_laws.proofs.MomentLemmas.{LeftThen, left_then, none_at_first}
 use Rattle.commit_point_laws.proofs.PassLemmas.{told_kid}
+use Rattle.tree_laws.proofs.AtTurn.{at_happening}
 
 module _ (t : History) (whole : IsLawfulRun t) where
   -- what a branch that has left asked and told by the end of the run it has by then
@@ -49,8 +50,7 @@ module _ (t : History) (whole : IsLawfulRun t) where
             (subst (EachEventFrom (HasToldAll (said_in (facts_at t))) t.places t.commands (first_facts t.places) []) (sym is) (left_have_told_all t whole)))
 
   module _ (hs : List Happening) (h : Happening) (rest : List Happening) (is : hs ++ h ∷ rest ≡ t.trace) (b c : BranchId) (left : exit (e_at t (hs ++ h ∷ [])) b ≢ None) where
-    lawful : IsLawfulRun (so_far t hs)
-    lawful = part_lawful t whole hs (part_of t whole hs h rest is)
+    open at_happening t whole hs h rest is use {lawful, part_after as part_z}
 
     -- and it did not do so in the happening in which it left
     before_leaving : (kind : Kind → Bool) → ((z : Kind) → kind z ≡ true → is_prepare z ≡ true) → was_sent kind (said_in (f_at t (hs ++ h ∷ []))) b c ≡ true → was_sent kind (said_in (f_at t hs)) b c ≡ true
@@ -62,9 +62,6 @@ module _ (t : History) (whole : IsLawfulRun t) where
               (asks_live t.places t.commands t.of_a_script.each kind asks (f_at t hs) (e_at t hs) (births_of (so_far t hs)) (run_births (so_far t hs) lawful) (run_roots (so_far t hs) lawful)
               (run_calls (so_far t hs) lawful) (run_freezes (so_far t hs) lawful) (run_asks (so_far t hs) lawful) h (may_of t whole hs h rest is) b c new)))
         ]
-
-    part_z : Part t whole (hs ++ h ∷ [])
-    part_z = part_on t whole hs h rest is
 
     pub told_before_leaving : was_sent is_below (said_in (facts_at t)) b c ≡ true → was_sent is_below (said_in (f_at t hs)) b c ≡ true
     told_before_leaving told = before_leaving is_below below_asks (told_then (hs ++ h ∷ []) part_z b c left is_below told (λ x law. (law b c left).1 told))

@@ -9,7 +9,7 @@ use Rattle.agreement.specs.Events.{Exit, exit}
 use Rattle.node_rules.specs.Data.{BranchId, Kind, Place, Post}
 use Rattle.node_rules.specs.Words.{same}
 use Rattle.node_rules.specs.NodeState.{NodeState}
-use Rattle.node_rules.specs.Turn.{turn_of, deed_of}
+use Rattle.node_rules.specs.Turn.{turn_of, draft_of}
 use Rattle.run_rules.specs.Data.{Turn, Happening}
 use Rattle.run_rules.specs.Data.happenings
 use Rattle.run_rules.specs.Facts.{place_at, facts_of}
@@ -21,7 +21,7 @@ use Rattle.run_base_laws.proofs.NodesStandLemmas.{some_or_none}
 use Rattle.run_base_laws.proofs.SaidPostLemmas.{posts_back, posts_of, said_after}
 use Rattle.tree_laws.proofs.AskLemmas.{sent_split, sent_new}
 use Rattle.tree_laws.proofs.PrefixLemmas.{f_at, e_at, one_on, more_on}
-use Rattle.tree_site_laws.proofs.TimeLemmas.{Part, part_on, exit_end, keep_on}
+use Rattle.tree_laws.proofs.TimeLemmas.{Part, part_on, exit_end, keep_on}
 
 -- what is so of each of these messages is so of one that was sent
 module _ (kind : Kind → Bool) (P : BranchId → BranchId → Kind → Type 0) (a b : BranchId) where
@@ -39,18 +39,18 @@ module _ (kind : Kind → Bool) (P : BranchId → BranchId → Kind → Type 0) 
           (x.kind, parts.1, subst₂ (λ f t. P f t x.kind) (equal_from_same x.from a ends.0) (equal_from_same x.to b ends.1) all.0)
       by false here found rest = rest found
 
--- what a turn that is whole sends is what its deed says, and a cut one sends nothing
+-- what a turn that is whole sends is what its draft says, and a cut one sends nothing
 owed_says : (kind : Kind → Bool) (place : Place) (k : NodeState) (u : Turn) (cut : Bool) → IsOwed place k u.input u.wrote u.sent cut → (p c : BranchId) → was_sent kind (map post_of u.sent) p c ≡ true
-    → (cut ≡ false) × (was_sent kind (deed_of place k u.input).says p c ≡ true)
+    → (cut ≡ false) × (was_sent kind (draft_of place k u.input).says p c ≡ true)
 unfolding turn_of
 owed_says kind place k u true owed p c is = let none : was_sent kind (map post_of u.sent) p c ≡ false = ap (λ ms. was_sent kind (map post_of ms) p c) owed.1 in absurd (cc (is, none))
 owed_says kind place k u false owed p c is =
-    let says : map post_of u.sent ≡ (deed_of place k u.input).says = ap (λ ms. map post_of ms) owed.1 ∙ posts_back (deed_of place k u.input).after.clock (deed_of place k u.input).says in
+    let says : map post_of u.sent ≡ (draft_of place k u.input).says = ap (λ ms. map post_of ms) owed.1 ∙ posts_back (draft_of place k u.input).after.clock (draft_of place k u.input).says in
     (refl, subst (λ xs. was_sent kind xs p c ≡ true) says is)
 
 module _ (t : History) where
   pub turn_says : (hs : List Happening) (u : Turn) (k : NodeState) → MayTurn t.places (f_at t hs) u k → (kind : Kind → Bool) (p c : BranchId) → was_sent kind (map post_of u.sent) p c ≡ true
-      → (u.cut ≡ false) × (was_sent kind (deed_of (place_at t.places u.node) k u.input).says p c ≡ true)
+      → (u.cut ≡ false) × (was_sent kind (draft_of (place_at t.places u.node) k u.input).says p c ≡ true)
   turn_says hs u k may kind p c is = owed_says kind (place_at t.places u.node) k u u.cut may.owed p c is
 
 module _ (t : History) (whole : IsLawfulRun t) where

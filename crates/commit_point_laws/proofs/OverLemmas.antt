@@ -19,9 +19,7 @@ use Rattle.node_rules.specs.Words.{same}
 use Rattle.node_rules.proofs.Steps as steps
 use Rattle.node_rules.proofs.Steps.{Acting, vote_kind}
 use Rattle.run_rules.specs.Data.{Turn, Happening}
-use Rattle.run_rules.specs.Facts.{Facts}
 use Rattle.run_branch_laws.specs.HeardLaws.{AnswersAre, EdgeIs, QuietIs, VoteIs}
-use Rattle.run_base_laws.specs.InTurnLaws.{said_in}
 use Rattle.run_rules.specs.Lawful.{MayTurn, History, IsLawfulRun}
 use Rattle.run_branch_laws.specs.PhaseLaws.{IsNoAbort, PhaseFits}
 use Rattle.run_branch_laws.specs.WalkLaws.{is_below, was_sent}
@@ -36,10 +34,11 @@ use Rattle.tree_laws.specs.AnswerLaws.{EdgeTold, AnswersTold, ReadyIs}
 use Rattle.tree_laws.proofs.AnswerRunLemmas.{answers_are_as_told}
 use Rattle.tree_laws.proofs.AskRunLemmas.{sent_from}
 use Rattle.tree_laws.proofs.BeyondLemmas.{none_awaited}
-use Rattle.tree_laws.proofs.PrefixLemmas.{so_far, f_at, e_at}
+use Rattle.tree_laws.proofs.PrefixLemmas.{so_far, f_at}
 use Rattle.tree_laws.proofs.SettleLemmas.{live_in}
 use Rattle.tree_laws.proofs.WhyLemmas.{Near}
 use Rattle.commit_point_laws.proofs.SaidReadyLemmas.{ready_were_said}
+use Rattle.tree_laws.proofs.AtPart.{at_part}
 
 -- an act of a branch whose collect is over, on the walk or at the root
 pub data Over : Act → Type 0 where
@@ -83,17 +82,7 @@ module _ (e : List Event) (said : List Post) (me : BranchId) where
   all_over clock phase other (x ∷ xs) all done = (over_old clock phase other x all.0 done.0, all_over clock phase other xs all.1 done.1)
 
 module _ (t : History) (before : List Happening) (lawful : IsLawfulRun (so_far t before)) (u : Turn) (k : NodeState) (may : MayTurn t.places (f_at t before) u k) where
-  abbrev s : History
-  s = so_far t before
-
-  abbrev f : Facts
-  f = f_at t before
-
-  abbrev e : List Event
-  e = e_at t before
-
-  abbrev said : List Post
-  said = said_in f
+  open at_part t before use {s, f, e, said}
 
   abbrev k0 : NodeState
   k0 = heard k u.input

@@ -6,17 +6,17 @@ use Rattle.std.specs.List.{AllByRecursion}
 use Rattle.session_tree.specs.Live.{children_of, peer_of}
 use Rattle.session_tree.specs.Tree.{step}
 use Rattle.session_tree.specs.declared.act.Walk.TheVariants as walks
-use Rattle.agreement.specs.Events.{Event, Exit, Sealed, Quiet, exit}
+use Rattle.agreement.specs.Events.{Exit, Sealed, Quiet, exit}
 use Rattle.node_rules.specs.Data.{BranchId, Edge, Kind, Live, Place, Post, RedoRecord}
 use Rattle.node_rules.specs.Data.acts
 use Rattle.node_rules.specs.Data.kinds
 use Rattle.node_rules.specs.Data.phases
 use Rattle.node_rules.specs.Data.records
 use Rattle.node_rules.specs.Words.{numbered}
-use Rattle.node_rules.specs.NodeState.{NodeState, Branch, Deed, live_at, branch_at, work_at, with_work, to_one}
+use Rattle.node_rules.specs.NodeState.{NodeState, Branch, TurnDraft, live_at, branch_at, work_at, with_work, to_one}
 use Rattle.node_rules.specs.Points.{is_ready}
 use Rattle.node_rules.specs.Prepare.{voted}
-use Rattle.node_rules.specs.Turn.{heard, deed_of}
+use Rattle.node_rules.specs.Turn.{heard, draft_of}
 use Rattle.node_rules.proofs.Steps as steps
 use Rattle.node_rules.proofs.Steps.{Acting, Collected, Pointed}
 use Rattle.run_rules.specs.Data.{Turn, Happening}
@@ -38,16 +38,17 @@ use Rattle.tree_laws.specs.AskLaws.{path_on}
 use Rattle.tree_laws.proofs.AskLemmas.{sent_wider, below_asks, voted_step}
 use Rattle.tree_laws.proofs.AskRunLemmas.{paths_are_told}
 use Rattle.tree_laws.proofs.AskStepLemmas.{voted_peers}
-use Rattle.tree_laws.proofs.PrefixLemmas.{so_far, f_at, e_at}
+use Rattle.tree_laws.proofs.PrefixLemmas.{so_far, f_at}
 use Rattle.tree_laws.proofs.SettleLemmas.{live_in}
 use Rattle.tree_laws.proofs.WhyLemmas.{Near, seal_act}
-use Rattle.tree_site_laws.proofs.FrozenLemmas.{edge_to, path_down}
-use Rattle.tree_site_laws.proofs.TimeLemmas.{Part, part_of, part_lawful, may_of, exit_end, sent_end}
+use Rattle.tree_laws.proofs.FrozenLemmas.{edge_to, path_down}
+use Rattle.tree_laws.proofs.TimeLemmas.{Part, part_of, part_lawful, may_of, exit_end, sent_end}
 use Rattle.commit_laws.proofs.NetLemmas.{numbered_all}
 use Rattle.commit_point_laws.specs.PointLaws.{is_point, PointsFindReady}
 use Rattle.commit_point_laws.proofs.MomentLemmas.{SentIn, found_in, turn_says, sent_in}
 use Rattle.commit_point_laws.proofs.OverLemmas.{Passes_on, EdgeOver, edges_over}
 use Rattle.commit_point_laws.proofs.PointStepLemmas.{IsOther, PointWhy, SealsSo, seal_says, point_why}
+use Rattle.tree_laws.proofs.AtPart.{at_part}
 
 -- ---- acts
 
@@ -68,11 +69,7 @@ point_on : {l : Live} {i : ℕ} → Pointed l (acts.SealAndPass i) → step l �
 point_on (steps.Points_on i is) = is
 
 module _ (t : History) (before : List Happening) (lawful : IsLawfulRun (so_far t before)) (u : Turn) (k : NodeState) (may : MayTurn t.places (f_at t before) u k) where
-  abbrev s : History
-  s = so_far t before
-
-  abbrev said : List Post
-  said = said_in (f_at t before)
+  open at_part t before use {s, said}
 
   abbrev k0 : NodeState
   k0 = heard k u.input
@@ -132,11 +129,7 @@ one_goes me kind None = tt
 one_goes me kind (Some q) = ((refl, refl), tt)
 
 module _ (t : History) (whole : IsLawfulRun t) (p c : BranchId) (it : SentIn t whole is_point p c) where
-  abbrev hs : List Happening
-  hs = it.before
-
-  abbrev u : Turn
-  u = it.turn
+  open it use {before as hs, turn as u}
 
   abbrev h : Happening
   h = happenings.Turn u
@@ -156,14 +149,10 @@ module _ (t : History) (whole : IsLawfulRun t) (p c : BranchId) (it : SentIn t w
   abbrev place : Place
   place = place_at t.places u.node
 
-  abbrev d : Deed
-  d = deed_of place k u.input
+  abbrev d : TurnDraft
+  d = draft_of place k u.input
 
-  abbrev e : List Event
-  e = e_at t hs
-
-  abbrev told : List Post
-  told = said_in (f_at t hs)
+  open at_part t hs use {e, said as told}
 
   -- what is to be shown
   abbrev Finds : Type 0

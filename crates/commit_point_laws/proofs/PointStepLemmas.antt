@@ -8,7 +8,7 @@ use Rattle.node_rules.specs.Data.acts
 use Rattle.node_rules.specs.Data.kinds
 use Rattle.node_rules.specs.Data.records
 use Rattle.node_rules.specs.declared.session.Session.{Session}
-use Rattle.node_rules.specs.NodeState.{NodeState, Branch, Deed, to_one, to_each}
+use Rattle.node_rules.specs.NodeState.{NodeState, Branch, TurnDraft, to_one, to_each}
 use Rattle.node_rules.specs.Statement.{ran, after_run}
 use Rattle.node_rules.specs.Calls.{answer_says, exec_to, with_edge, hears_reply}
 use Rattle.node_rules.specs.Prepare.{path_of, site_neighbors, act_turn}
@@ -81,7 +81,7 @@ module _ (k0 : NodeState) (input : Input) where
 
   module _ (p : Place) where
     -- the node is as it was, unless a statement with a table came
-    pub point_why : {k : NodeState} {d : Deed} → Step p input k d → (NoRows input → Near k0 k) → PointWhy d.says d.wrote
+    pub point_why : {k : NodeState} {d : TurnDraft} → Step p input k d → (NoRows input → Near k0 k) → PointWhy d.says d.wrote
     point_why (steps.Begins n s call rows range none step) near = point_why step (λ no. absurd (no n s call rows))
     point_why (steps.Pends {k = k} n l given call has live code step) near = point_why step (λ no. (let is = near no in record { lives = is.lives; clock = is.clock }))
     point_why (steps.Lets_reads_go {k = k} l comment b live begins step) near = point_why step (λ no. (let is = near no in record { lives = is.lives; clock = is.clock }))

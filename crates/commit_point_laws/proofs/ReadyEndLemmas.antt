@@ -1,39 +1,32 @@
 -- In every lawful run no branch of an undisturbed COMMIT is Ready when nothing is in flight: its parent would be Ready too, or
 -- has passed CommitPoint on to it.
-use Rattle.std.proofs.Common.{◌≡◌, ◌≢◌, ℕ, zero, suc, ◌+◌, ◌≤◌, true, false, List, Option, Some, None, inl, inr, refl, sym, ap, subst, ◌∙◌, arith}
+use Rattle.std.proofs.Common.{◌≡◌, ◌≢◌, ℕ, zero, suc, ◌+◌, ◌≤◌, true, false, Option, Some, None, inl, inr, refl, sym, ap, subst, ◌∙◌, arith}
 use Rattle.std.specs.Prelude.{◌⊎◌}
-use Rattle.agreement.specs.Events.{Lawful, Forest, Event, Exit, Sealed, Decided, Quiet, Dropped, exit, site_of}
-use Rattle.agreement.proofs.Invariant.{Inv}
-use Rattle.agreement.proofs.InvariantKept.{inv}
-use Rattle.node_rules.specs.Data.{BranchId, Live, Phase, Post}
+use Rattle.agreement.specs.Events.{Exit, Sealed, Decided, Quiet, Dropped, exit, site_of}
+use Rattle.node_rules.specs.Data.{BranchId, Live, Phase}
 use Rattle.node_rules.specs.Data.phases
 use Rattle.node_rules.specs.NodeState.{NodeState, Branch, live_id, live_at}
 use Rattle.node_rules.proofs.StandLemmas.{live_so}
-use Rattle.run_rules.specs.Births.{Born, births_of, born_at}
+use Rattle.run_rules.specs.Births.{Born, born_at}
 use Rattle.run_base_laws.specs.BirthLaws.{Began, LiveIs}
-use Rattle.run_rules.specs.Facts.{Facts, node_at}
+use Rattle.run_rules.specs.Facts.{node_at}
 use Rattle.run_base_laws.specs.FreezeLaws.{was_asked}
-use Rattle.run_base_laws.specs.InTurnLaws.{said_in}
-use Rattle.run_rules.specs.Lawful.{History, IsLawfulRun, facts_at}
+use Rattle.run_rules.specs.Lawful.{History, IsLawfulRun}
 use Rattle.run_branch_laws.specs.PhaseLaws.{PhaseFits}
-use Rattle.run_base_laws.specs.RunEvents.{events_of}
 use Rattle.run_rules.specs.Trail.{is_prepare}
 use Rattle.run_branch_laws.specs.WalkLaws.{is_below, was_sent}
 use Rattle.run_base_laws.proofs.BirthRunLemmas.{nodes_name_the_born}
 use Rattle.run_base_laws.proofs.EventsStandLemmas.{ids_name_their_node}
 use Rattle.run_branch_laws.proofs.FreezeRunLemmas.{asked_stand_still}
-use Rattle.run_branch_laws.proofs.JustLemmas.{just_runs_are_lawful}
 use Rattle.run_base_laws.proofs.NodesStandLemmas.{some_or_none}
 use Rattle.run_base_laws.proofs.OwnLemmas.{all_found}
 use Rattle.run_branch_laws.proofs.PhaseLemmas.{phases_fit}
-use Rattle.run_branch_laws.proofs.TreeJustLemmas.{runs_by_trees_are_just}
 use Rattle.tree_laws.specs.AskLaws.{way_of}
-use Rattle.tree_laws.specs.Forests.{comes_to, forest_of}
-use Rattle.tree_laws.proofs.AgreeLemmas.{runs_go_by_forest}
+use Rattle.tree_laws.specs.Forests.{comes_to}
 use Rattle.tree_laws.proofs.AskLemmas.{sent_wider, below_asks}
 use Rattle.tree_laws.proofs.AskRunLemmas.{collects_as_told, walk_goes_on}
 use Rattle.tree_laws.proofs.ForestLemmas as trees
-use Rattle.tree_laws.proofs.ForestRunLemmas.{run_known, runs_have_forests}
+use Rattle.tree_laws.proofs.ForestRunLemmas.{run_known}
 use Rattle.tree_laws.proofs.LeadLemmas.{leads_so}
 use Rattle.commit_laws.specs.StillLaws.{DroppedNone}
 use Rattle.run_claims.specs.Undisturbed.{Commit, Undisturbed}
@@ -46,30 +39,11 @@ use Rattle.commit_point_laws.proofs.DroppedRootLemmas.{root_born, root_began, ro
 use Rattle.commit_point_laws.proofs.LeaveLemmas.{quiet_tell_none}
 use Rattle.commit_point_laws.proofs.SealedLemmas.{sealed_pass_on}
 use Rattle.commit_point_laws.proofs.WeightLemmas.{Lives, lives_still}
-
--- the events of a run are lawful by its forest
-pub run_lawful : (t : History) → IsLawfulRun t → Lawful (forest_of t) (events_of t)
-run_lawful t whole = just_runs_are_lawful t (forest_of t) (runs_by_trees_are_just t whole (forest_of t) (runs_go_by_forest t whole))
-
--- so what is known of exits is so
-pub run_inv : (t : History) → IsLawfulRun t → Inv (forest_of t) (events_of t)
-run_inv t whole = inv (forest_of t) (events_of t) (runs_have_forests t whole) (run_lawful t whole)
+use Rattle.tree_laws.proofs.MoreLemmas.{inv_end}
+use Rattle.tree_laws.proofs.AtPart.{at_end}
 
 module _ (t : History) (whole : IsLawfulRun t) where
-  abbrev f : Facts
-  f = facts_at t
-
-  abbrev e : List Event
-  e = events_of t
-
-  abbrev bs : List Born
-  bs = births_of t
-
-  abbrev said : List Post
-  said = said_in f
-
-  abbrev p : Forest
-  p = forest_of t
+  open at_end t use {f, e, bs, said, forest as p}
 
   known : trees.Known bs said
   known = run_known t whole
@@ -181,7 +155,7 @@ module _ (t : History) (whole : IsLawfulRun t) where
           let no : was_sent is_below said r l.me ≡ false = root.1.off l.me in
           absurd (cc (yes, no))
       teller_stays Quiet left = quiet_tell_none t whole x.me left l.me told
-      teller_stays (Decided n) left = told_not_site x.me l.me told ((run_inv t whole).decided_at x.me n left)
+      teller_stays (Decided n) left = told_not_site x.me l.me told ((inv_end t whole).decided_at x.me n left)
       teller_stays (Sealed n) left = elim (sealed_pass_on t whole x.me n left l.me told) [
         | inl sent ↦ (let none : live_at k l.me ≡ None = point_heard t whole c u all x began of l.me sent k up in absurd (cc (none, live)))
         | inr stopped ↦ all.up x began of stopped

@@ -6,17 +6,17 @@ use Rattle.tran_ids.proofs.BranchLemmas.{same_from_equal}
 use Rattle.session_tree.specs.Live.{children_of}
 use Rattle.session_tree.specs.Tree.{weight, step}
 use Rattle.session_tree.specs.declared.act.Walk.TheVariants as walks
-use Rattle.agreement.specs.Events.{Event, Quiet, Send_vote, exit, Has}
-use Rattle.node_rules.specs.Data.{BranchId, Edge, Kind, Live, Post}
+use Rattle.agreement.specs.Events.{Quiet, Send_vote, exit, Has}
+use Rattle.node_rules.specs.Data.{BranchId, Edge, Kind, Live}
 use Rattle.node_rules.specs.Data.acts
 use Rattle.node_rules.specs.Data.kinds
 use Rattle.node_rules.specs.Data.phases
 use Rattle.node_rules.specs.Data.votes
 use Rattle.node_rules.specs.Words.{same, item_at, numbered}
 use Rattle.node_rules.specs.Inputs.{Came}
-use Rattle.node_rules.specs.NodeState.{NodeState, Branch, Deed, live_id, live_at, branch_at, work_at, with_work, to_each}
+use Rattle.node_rules.specs.NodeState.{NodeState, Branch, TurnDraft, live_id, live_at, branch_at, work_at, with_work, to_each}
 use Rattle.node_rules.specs.Prepare.{answers_first, is_awaited, voted}
-use Rattle.node_rules.specs.Turn.{turn_of, heard, deed_of}
+use Rattle.node_rules.specs.Turn.{turn_of, heard, draft_of}
 use Rattle.node_rules.proofs.Steps as steps
 use Rattle.node_rules.proofs.Steps.{Acting, Collected, Collects}
 use Rattle.run_rules.specs.Births.{births_of}
@@ -24,9 +24,8 @@ use Rattle.run_base_laws.specs.BirthLaws.{Began, IsChild, GoesSo}
 use Rattle.run_rules.specs.Data.{Turn, Happening}
 use Rattle.run_rules.specs.Data.happenings
 use Rattle.run_base_laws.specs.EventLaws.{EachEventFrom}
-use Rattle.run_rules.specs.Facts.{Facts, place_at}
+use Rattle.run_rules.specs.Facts.{place_at}
 use Rattle.run_base_laws.specs.FreezeLaws.{was_asked}
-use Rattle.run_base_laws.specs.InTurnLaws.{said_in}
 use Rattle.run_rules.specs.Lawful.{MayHappen, MayTurn, History, IsLawfulRun}
 use Rattle.run_rules.specs.Trail.{is_prepare}
 use Rattle.run_branch_laws.specs.WalkLaws.{is_below, is_above, was_sent}
@@ -49,7 +48,7 @@ use Rattle.tree_laws.proofs.SettleLemmas.{born_of, live_in}
 use Rattle.tree_laws.proofs.VoterRunLemmas.{voters_weigh}
 use Rattle.tree_laws.proofs.WeightLemmas.{weightless, asked_way}
 use Rattle.tree_laws.proofs.WhyLemmas.{Near}
-use Rattle.tree_site_laws.proofs.FrozenLemmas.{edge_to, path_down}
+use Rattle.tree_laws.proofs.FrozenLemmas.{edge_to, path_down}
 use Rattle.commit_laws.proofs.NetLemmas.{numbered_all}
 use Rattle.commit_point_laws.specs.RootLaws.{FoundNothing, is_rollback, RootReason, Seals, Decides, Finishes, Hears_abort, Gets_rollback, Rolls_back, Gives_up, RootLeaves, TurnsLeaveRoots, RootsHaveReasons}
 use Rattle.commit_point_laws.proofs.OverLemmas as over
@@ -57,6 +56,7 @@ use Rattle.commit_point_laws.proofs.OverLemmas.{EdgeOver, edges_over}
 use Rattle.commit_point_laws.proofs.PassLemmas.{none_at}
 use Rattle.commit_point_laws.proofs.RootStepLemmas.{StepReason, Wrote_seal, Wrote_decision, Found_none, Said_none, Abandons, Told_rollback, Rolls, Gives, root_leaves}
 use Rattle.tree_laws.proofs.StepWeightLemmas.{nowhere_weighs}
+use Rattle.tree_laws.proofs.AtPart.{at_part}
 
 -- ---- acts
 
@@ -101,17 +101,7 @@ first_there from (e ∷ es) is = by (same e.peer from) (is_awaited e.vote) is (f
     by false q found rest = rest found
 
 module _ (t : History) (before : List Happening) (lawful : IsLawfulRun (so_far t before)) (u : Turn) (k : NodeState) (may : MayTurn t.places (f_at t before) u k) where
-  abbrev s : History
-  s = so_far t before
-
-  abbrev f : Facts
-  f = f_at t before
-
-  abbrev e : List Event
-  e = e_at t before
-
-  abbrev said : List Post
-  said = said_in f
+  open at_part t before use {s, f, e, said}
 
   abbrev k0 : NodeState
   k0 = heard k u.input
@@ -200,8 +190,8 @@ module _ (t : History) (before : List Happening) (lawful : IsLawfulRun (so_far t
 
   -- ---- the turn
 
-  abbrev d : Deed
-  d = deed_of (place_at t.places u.node) k u.input
+  abbrev d : TurnDraft
+  d = draft_of (place_at t.places u.node) k u.input
 
   module _ (weigh : AllByRecursion (LiveWeighs e said) k.lives) (b : BranchId) (l : Live) (live : live_at k b ≡ Some l) (top : l.parent ≡ None) where
     -- the branch of an act is the root

@@ -12,7 +12,7 @@ use Rattle.node_rules.specs.Data.records
 use Rattle.node_rules.specs.Data.stmts
 use Rattle.node_rules.specs.Words.{same, item_at, put_item, drop_item}
 use Rattle.node_rules.specs.Inputs.{Came, IsCall}
-use Rattle.node_rules.specs.NodeState.{NodeState, Deed, live_id, live_at, to_one}
+use Rattle.node_rules.specs.NodeState.{NodeState, TurnDraft, live_id, live_at, to_one}
 use Rattle.node_rules.specs.Statement.{ran, after_run}
 use Rattle.node_rules.specs.Calls.{with_edge, hears_reply}
 use Rattle.node_rules.specs.Prepare.{ready, act_turn, to_children}
@@ -38,7 +38,7 @@ no_parent from (Some c) none is = absurd cc
 -- ---- reasons
 
 -- Why a root leaves in a step.
-pub data StepReason (k0 : NodeState) (input : Input) (b : BranchId) (d : Deed) : Type 0 where
+pub data StepReason (k0 : NodeState) (input : Input) (b : BranchId) (d : TurnDraft) : Type 0 where
   Wrote_seal : (r : Sealed) → d.wrote ≡ Some (records.Sealed r) → r.me ≡ b → StepReason k0 input b d
   Wrote_decision : (r : Decided) → d.wrote ≡ Some (records.Decided r) → r.me ≡ b → StepReason k0 input b d
   Found_none : (l : Live) (below : Bool) → ActsIn k0 input l below acts.Finish → l.me ≡ b → StepReason k0 input b d
@@ -54,7 +54,7 @@ module _ (p : Place) (k0 : NodeState) (input : Input) (b : BranchId) where
   Lives k = (l : Live) × (live_at k b ≡ Some l) × (l.parent ≡ None)
 
   -- it has a reason where it is live no more
-  abbrev pub Leaves : Deed → Type 0
+  abbrev pub Leaves : TurnDraft → Type 0
   Leaves d = live_at d.after b ≡ None → StepReason k0 input b d
 
   module _ (k : NodeState) (lives : Lives k) where
@@ -103,11 +103,11 @@ module _ (p : Place) (k0 : NodeState) (input : Input) (b : BranchId) where
       acts_leave l below acts.Finish why none = Found_none l below (record { here = k; near = near; acting = why }) (dropped_is l.me none)
       acts_leave l below acts.Abandon why none = Abandons l below (record { here = k; near = near; acting = why }) (dropped_is l.me none) refl
 
-    told_leave : (l : Live) → live_at k l.me ≡ Some l → steps.Drops input l → l.me ≡ b → (d : Deed) → StepReason k0 input b d
+    told_leave : (l : Live) → live_at k l.me ≡ Some l → steps.Drops input l → l.me ≡ b → (d : TurnDraft) → StepReason k0 input b d
     told_leave l live (steps.By_rollback from came) me d = Told_rollback from (subst (λ i. Came input from i kinds.Rollback) me came)
     told_leave l live (steps.By_parent from came is) me d = absurd (no_parent from l.parent (its_parent l live me) is)
 
-  pub root_leaves : {k : NodeState} {d : Deed} → Step p input k d → (NoRows input → Near k0 k) → Lives k → Leaves d
+  pub root_leaves : {k : NodeState} {d : TurnDraft} → Step p input k d → (NoRows input → Near k0 k) → Lives k → Leaves d
   root_leaves (steps.Begins {k = k} n s call rows range free step) near lives none = root_leaves step (λ no. absurd (no n s call rows)) (lives.0, last_found k.lives _ b lives.0 lives.1, lives.2) none
   root_leaves (steps.Pends {k = k} n l given call has live code step) near lives none = root_leaves step (λ no. (let is = near no in record { lives = is.lives; clock = is.clock })) lives none
   root_leaves (steps.Lets_reads_go {k = k} l comment down live begins step) near lives none = root_leaves step (λ no. (let is = near no in record { lives = is.lives; clock = is.clock })) lives none

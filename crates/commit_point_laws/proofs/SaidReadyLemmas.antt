@@ -11,10 +11,10 @@ use Rattle.node_rules.specs.declared.work.Going.{Going}
 use Rattle.node_rules.specs.Inputs.{Came}
 use Rattle.node_rules.specs.Points.{is_ready}
 use Rattle.node_rules.specs.Words.{same}
-use Rattle.node_rules.specs.NodeState.{NodeState, Branch, Deed, live_id, branch_at}
-use Rattle.node_rules.specs.Turn.{start_of, heard, deed_of}
+use Rattle.node_rules.specs.NodeState.{NodeState, Branch, TurnDraft, live_id, branch_at}
+use Rattle.node_rules.specs.Turn.{start_of, heard, draft_of}
 use Rattle.run_rules.specs.Data.{Turn, Happening}
-use Rattle.run_rules.specs.Facts.{Facts, place_at}
+use Rattle.run_rules.specs.Facts.{place_at}
 use Rattle.run_base_laws.specs.InTurnLaws.{said_in}
 use Rattle.run_rules.specs.Lawful.{MayTurn, History, IsLawfulRun, facts_at}
 use Rattle.run_branch_laws.specs.WalkLaws.{is_below, was_sent}
@@ -32,6 +32,7 @@ use Rattle.tree_laws.proofs.AskRunLemmas.{sent_from}
 use Rattle.tree_laws.proofs.EachNodeLemmas.{EachNode, node_end}
 use Rattle.tree_laws.proofs.PrefixLemmas.{so_far, f_at}
 use Rattle.commit_point_laws.specs.PointLaws.{ReadyWereSaid}
+use Rattle.tree_laws.proofs.AtPart.{at_part}
 
 -- ---- messages turned round
 
@@ -78,15 +79,11 @@ started_so said rs = tt
 -- ---- each turn
 
 module _ (t : History) (before : List Happening) (lawful : IsLawfulRun (so_far t before)) (now : EachNode NodeSaid (f_at t before)) where
-  abbrev f : Facts
-  f = f_at t before
-
-  abbrev said : List Post
-  said = said_in f
+  open at_part t before use {f, said}
 
   module _ (u : Turn) (k : NodeState) (may : MayTurn t.places f u k) where
-    abbrev d : Deed
-    d = deed_of (place_at t.places u.node) k u.input
+    abbrev d : TurnDraft
+    d = draft_of (place_at t.places u.node) k u.input
 
     works : (from to : BranchId) (edge strength : ℕ) → Came u.input from to (kinds.Opened edge strength) → (x : Branch) (w : Going) → branch_at (heard k u.input) x.live.me ≡ Some x → x.work.going ≡ Some w → x.live.phase ≡ phases.Working
     works from to edge strength came x w found going = elim (working_or x.live.phase) [

@@ -2,18 +2,17 @@
 -- CommitPoint in the turn of its seal, or that turn was cut and its node has stopped.
 use Rattle.std.proofs.Common.{◌≡◌, ◌≢◌, Bool, true, false, List, [], ◌∷◌, ◌++◌, map, Option, Some, None, inl, inr, refl, sym, ap, subst, ◌∙◌}
 use Rattle.std.specs.Prelude.{◌⊎◌}
-use Rattle.agreement.specs.Events.{Event, Exit, Sealed, Dropped, exit}
-use Rattle.node_rules.specs.Data.{BranchId, Live, Place, RedoRecord}
+use Rattle.agreement.specs.Events.{Exit, Sealed, Dropped, exit}
+use Rattle.node_rules.specs.Data.{BranchId, Live, RedoRecord}
 use Rattle.node_rules.specs.Data.kinds
 use Rattle.node_rules.specs.Data.records
-use Rattle.node_rules.specs.NodeState.{NodeState, Deed, to_one}
-use Rattle.node_rules.specs.Turn.{turn_of, heard, deed_of}
+use Rattle.node_rules.specs.NodeState.{to_one}
+use Rattle.node_rules.specs.Turn.{turn_of, heard}
 use Rattle.session_tree.specs.Live.{peer_of}
 use Rattle.run_rules.specs.Data.{Turn, Happening}
 use Rattle.run_rules.specs.Data.happenings
-use Rattle.run_rules.specs.Facts.{Facts, place_at, facts_after}
 use Rattle.run_base_laws.specs.InTurnLaws.{post_of, said_in}
-use Rattle.run_rules.specs.Lawful.{IsOwed, MayHappen, History, IsLawfulRun, facts_at}
+use Rattle.run_rules.specs.Lawful.{IsOwed, History, IsLawfulRun, facts_at}
 use Rattle.run_base_laws.specs.RunEvents.{events_after}
 use Rattle.run_branch_laws.specs.WalkLaws.{is_below, was_sent}
 use Rattle.run_base_laws.proofs.EventsStandLemmas.{ids_name_their_node}
@@ -22,13 +21,13 @@ use Rattle.run_base_laws.proofs.LawfulLemmas.{serves}
 use Rattle.run_base_laws.proofs.OwnLemmas.{all_found}
 use Rattle.run_base_laws.proofs.SaidPostLemmas.{posts_back, posts_of, said_after}
 use Rattle.tree_laws.proofs.AskLemmas.{sent_new}
-use Rattle.tree_laws.proofs.PrefixLemmas.{so_far, f_at, e_at, one_on, more_on}
+use Rattle.tree_laws.proofs.PrefixLemmas.{f_at, e_at, one_on, more_on}
 use Rattle.tree_laws.proofs.SealLemmas.{IsSealOf, wrote_seal, later_unsealed}
 use Rattle.node_rules.specs.NodeState.{live_id}
-use Rattle.tree_site_laws.specs.LeaveLaws.{LeftSo}
-use Rattle.tree_site_laws.proofs.FateLemmas.{drops_alone}
-use Rattle.tree_site_laws.proofs.LeaveLemmas.{was_there}
-use Rattle.tree_site_laws.proofs.TimeLemmas.{Part, part_on, part_of, part_lawful, may_of, sent_end}
+use Rattle.tree_laws.specs.LeaveLaws.{LeftSo}
+use Rattle.tree_laws.proofs.FateLemmas.{drops_alone}
+use Rattle.tree_laws.proofs.LeaveLemmas.{was_there}
+use Rattle.tree_laws.proofs.TimeLemmas.{part_on, sent_end}
 use Rattle.commit_laws.specs.WaitLaws.{HasStopped}
 use Rattle.commit_laws.proofs.ReadyStepLemmas.{one_sent}
 use Rattle.commit_laws.proofs.StopLemmas.{cut_stops, stopped_end}
@@ -37,6 +36,7 @@ use Rattle.commit_point_laws.proofs.MomentLemmas.{LeftThen, left_then, none_at_f
 use Rattle.commit_point_laws.proofs.LeaveLemmas.{told_before_leaving}
 use Rattle.commit_point_laws.proofs.PassLemmas.{passes_to}
 use Rattle.commit_point_laws.proofs.PointStepLemmas.{PointWhy, SealsSo, seal_says, point_why}
+use Rattle.tree_laws.proofs.AtTurn.{at_turn}
 
 module _ (t : History) (whole : IsLawfulRun t) (b : BranchId) (c : BranchId) (told : was_sent is_below (said_in (facts_at t)) b c ≡ true) where
   -- it passed CommitPoint on, or its node has stopped
@@ -45,41 +45,10 @@ module _ (t : History) (whole : IsLawfulRun t) (b : BranchId) (c : BranchId) (to
 
   module _ (hs : List Happening) (u : Turn) (rest : List Happening) (is : hs ++ happenings.Turn u ∷ rest ≡ t.trace) (none : exit (e_at t hs) b ≡ None)
       (z : Exit) (other : z ≢ Dropped) (left : exit (events_after t.places t.commands (f_at t hs) (happenings.Turn u) (e_at t hs)) b ≡ Some z) where
-    abbrev h : Happening
-    h = happenings.Turn u
-
-    abbrev f : Facts
-    f = f_at t hs
-
-    abbrev g : Facts
-    g = facts_after t.places t.commands f h
-
-    abbrev e : List Event
-    e = e_at t hs
-
-    abbrev s : History
-    s = so_far t hs
+    open at_turn t whole hs u rest is use {h, f, g, e, s, lawful, part_after as part_z, may, k, p, d}
 
     abbrev after : List Happening
     after = hs ++ h ∷ []
-
-    lawful : IsLawfulRun s
-    lawful = part_lawful t whole hs (part_of t whole hs h rest is)
-
-    part_z : Part t whole after
-    part_z = part_on t whole hs h rest is
-
-    may : MayHappen t.places t.commands f h
-    may = may_of t whole hs h rest is
-
-    abbrev k : NodeState
-    k = may.0
-
-    abbrev p : Place
-    p = place_at t.places u.node
-
-    abbrev d : Deed
-    d = deed_of p k u.input
 
     left_after : exit (e_at t after) b ≢ None
     left_after still = (let gone : exit (e_at t after) b ≡ Some z = subst (λ x. exit x b ≡ Some z) (sym (more_on t hs h)) left in absurd (cc (gone, still)))

@@ -6,10 +6,10 @@ use Rattle.std.proofs.lemmas.List.{append_assoc}
 use Rattle.node_rules.specs.Data.{BranchId, Edge, Kind, Live, Phase, Place}
 use Rattle.node_rules.specs.Data.kinds
 use Rattle.node_rules.specs.Data.phases
-use Rattle.node_rules.specs.NodeState.{NodeState, Deed, live_id, live_at}
+use Rattle.node_rules.specs.NodeState.{NodeState, TurnDraft, live_id, live_at}
 use Rattle.node_rules.specs.Points.{is_ready}
 use Rattle.node_rules.specs.Prepare.{is_awaited}
-use Rattle.node_rules.specs.Turn.{turn_of, heard, deed_of}
+use Rattle.node_rules.specs.Turn.{turn_of, heard, draft_of}
 use Rattle.run_rules.specs.Births.{births_of}
 use Rattle.run_base_laws.specs.BirthLaws.{Began, LiveIs}
 use Rattle.run_rules.specs.Data.{Turn, Happening}
@@ -27,7 +27,7 @@ use Rattle.run_branch_laws.proofs.PhaseLemmas.{phases_fit}
 use Rattle.tree_laws.proofs.BeyondLemmas.{none_awaited}
 use Rattle.tree_laws.proofs.PrefixLemmas.{so_far, f_at, one_on}
 use Rattle.tree_laws.proofs.WhyLemmas.{SaidWhy, why_on}
-use Rattle.tree_site_laws.proofs.TimeLemmas.{part_on, part_of, part_lawful, may_of}
+use Rattle.tree_laws.proofs.TimeLemmas.{part_on, part_of, part_lawful, may_of}
 use Rattle.commit_laws.proofs.KeepLemmas.{Has, Served}
 use Rattle.commit_laws.proofs.ServedLemmas.{ServedAt, HasBorn, served_end}
 use Rattle.commit_point_laws.specs.PointLaws.{ReadyStay}
@@ -43,11 +43,7 @@ none_any (e ∷ es) all =
     ap (λ q. q || list_any (λ (x : Edge). is_awaited x.vote) es) one ∙ none_any es (λ c. (all c).1)
 
 module _ (t : History) (whole : IsLawfulRun t) (b q : BranchId) (it : SentIn t whole is_ready b q) where
-  abbrev hs : List Happening
-  hs = it.before
-
-  abbrev u : Turn
-  u = it.turn
+  open it use {before as hs, turn as u}
 
   abbrev h : Happening
   h = happenings.Turn u
@@ -73,8 +69,8 @@ module _ (t : History) (whole : IsLawfulRun t) (b q : BranchId) (it : SentIn t w
   abbrev p : Place
   p = place_at t.places u.node
 
-  abbrev d : Deed
-  d = deed_of p k u.input
+  abbrev d : TurnDraft
+  d = draft_of p k u.input
 
   -- the branch is Ready when it has said so
   abbrev IsReady : Type 0

@@ -1,22 +1,20 @@
 -- In every lawful run each sealed branch of an undisturbed COMMIT has on its way to the site one that is sealed or the site,
 -- which decided. Where nobody is sealed and nobody decided, nobody had changes.
-use Rattle.std.proofs.Common.{◌≡◌, ◌≢◌, ℕ, zero, suc, ◌<◌, ◌≤◌, Bool, true, false, List, Option, Some, None, inl, inr, refl, sym, ap, subst, ◌∙◌, arith}
+use Rattle.std.proofs.Common.{◌≡◌, ◌≢◌, ℕ, zero, suc, ◌<◌, ◌≤◌, Bool, true, false, Option, Some, None, inl, inr, refl, sym, ap, subst, ◌∙◌, arith}
 use Rattle.std.specs.Prelude.{◌⊎◌}
 use Rattle.tran_ids.proofs.BranchLemmas.{equal_from_same, same_from_equal}
-use Rattle.agreement.specs.Events.{Forest, IsForest, Event, Beyond, Exit, Sealed, Decided, Quiet, Dropped, exit, site_of}
+use Rattle.agreement.specs.Events.{IsForest, Beyond, Exit, Sealed, Decided, Quiet, Dropped, exit, site_of}
 use Rattle.agreement.proofs.Invariant.{Inv}
-use Rattle.node_rules.specs.Data.{BranchId, Post}
+use Rattle.node_rules.specs.Data.{BranchId}
 use Rattle.node_rules.specs.Words.{same}
 use Rattle.node_rules.specs.NodeState.{live_at}
-use Rattle.run_rules.specs.Births.{Born, births_of}
-use Rattle.run_rules.specs.Facts.{Facts, node_at}
+use Rattle.run_rules.specs.Births.{Born}
+use Rattle.run_rules.specs.Facts.{node_at}
 use Rattle.run_base_laws.specs.FreezeLaws.{was_asked}
-use Rattle.run_base_laws.specs.InTurnLaws.{said_in}
-use Rattle.run_rules.specs.Lawful.{History, IsLawfulRun, facts_at}
-use Rattle.run_base_laws.specs.RunEvents.{events_of}
+use Rattle.run_rules.specs.Lawful.{History, IsLawfulRun}
 use Rattle.run_branch_laws.specs.WalkLaws.{is_below, was_sent}
 use Rattle.run_base_laws.proofs.NodesStandLemmas.{some_or_none}
-use Rattle.tree_laws.specs.Forests.{told_below, comes_to, forest_of}
+use Rattle.tree_laws.specs.Forests.{told_below, comes_to}
 use Rattle.tree_laws.proofs.BeyondLemmas.{beyond_is}
 use Rattle.tree_laws.proofs.ForestLemmas as trees
 use Rattle.tree_laws.proofs.ForestLemmas.{told_sent}
@@ -31,24 +29,13 @@ use Rattle.commit_point_laws.specs.RootLaws.{FoundNothing}
 use Rattle.commit_point_laws.proofs.CalmLemmas.{point_heard}
 use Rattle.commit_point_laws.proofs.DroppedRootLemmas.{root_born, root_began, root_me, root_top, root_of, root_found}
 use Rattle.commit_point_laws.proofs.LeaveLemmas.{quiet_tell_none}
-use Rattle.commit_point_laws.proofs.ReadyEndLemmas.{run_inv, all as tree_all, never_below, dropped_root, TreeLives, tree_lives, leave_ready}
+use Rattle.tree_laws.proofs.MoreLemmas.{inv_end}
+use Rattle.commit_point_laws.proofs.ReadyEndLemmas.{all as tree_all, never_below, dropped_root, TreeLives, tree_lives, leave_ready}
 use Rattle.commit_point_laws.proofs.SealedLemmas.{sealed_pass_on}
+use Rattle.tree_laws.proofs.AtPart.{at_end}
 
 module _ (t : History) (whole : IsLawfulRun t) (c : Commit t.places t.commands t.trace) (u : Undisturbed t.places t.commands t.trace c) (below : DroppedNone t c.root) where
-  abbrev f : Facts
-  f = facts_at t
-
-  abbrev e : List Event
-  e = events_of t
-
-  abbrev bs : List Born
-  bs = births_of t
-
-  abbrev said : List Post
-  said = said_in f
-
-  abbrev p : Forest
-  p = forest_of t
+  open at_end t use {f, e, bs, said, forest as p}
 
   known : trees.Known bs said
   known = run_known t whole
@@ -72,7 +59,7 @@ module _ (t : History) (whole : IsLawfulRun t) (c : Commit t.places t.commands t
   forest = runs_have_forests t whole
 
   i : Inv p e
-  i = run_inv t whole
+  i = inv_end t whole
 
   module _ (b : BranchId) (n : ℕ) (sealed : exit e b ≡ Some (Sealed n)) (of : p.root b ≡ r) where
     abbrev y2 : BranchId

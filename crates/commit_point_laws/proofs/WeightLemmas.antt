@@ -1,8 +1,8 @@
 -- In every lawful run a live branch that was told that the walk to the commit point site comes there has a weight: the one
 -- by which its parent took that step.
-use Rattle.std.proofs.Common.{◌≡◌, ◌≢◌, ℕ, ◌≤◌, true, false, List, [], ◌∷◌, ◌++◌, map, Option, Some, None, inl, inr, refl, sym, ap, subst, subst₂, ◌∙◌, append-nil}
+use Rattle.std.proofs.Common.{◌≡◌, ◌≢◌, ℕ, ◌≤◌, true, false, List, [], ◌∷◌, ◌++◌, Option, Some, None, inl, inr, refl, sym, ap, subst, subst₂, ◌∙◌, append-nil}
 use Rattle.tran_ids.proofs.ListedLemmas.{item_is}
-use Rattle.session_tree.specs.Tree.{place_of_greatest, weight_by, weight, step}
+use Rattle.session_tree.specs.Tree.{weight, step}
 use Rattle.agreement.specs.Events.{exit}
 use Rattle.node_rules.specs.Data.{BranchId, Edge, Live}
 use Rattle.node_rules.specs.Data.phases
@@ -36,22 +36,18 @@ use Rattle.tree_laws.proofs.LeftLemmas.{asks_live}
 use Rattle.tree_laws.proofs.PrefixLemmas.{so_far, f_at, e_at, more_on}
 use Rattle.tree_laws.proofs.StepWeightLemmas.{down_weighs}
 use Rattle.tree_laws.proofs.WeightRunLemmas.{replies_tell_weights, edges_hold_weights}
-use Rattle.tree_site_laws.specs.RestLaws.{Rests, SameTree}
-use Rattle.tree_site_laws.proofs.CalledLemmas.{edges_were_called}
-use Rattle.tree_site_laws.proofs.FateLemmas.{Fate, Stays, Leaves, among_found, fate_of}
-use Rattle.tree_site_laws.proofs.FrozenLemmas.{edge_to, path_down}
-use Rattle.tree_site_laws.proofs.StrengthLemmas.{lives_have_strength}
-use Rattle.tree_site_laws.proofs.TimeLemmas.{Part, part_on, part_of, part_lawful, may_of, exit_end, sent_end, keep_on}
+use Rattle.tree_laws.specs.RestLaws.{Rests, SameTree}
+use Rattle.tree_laws.proofs.CalledLemmas.{edges_were_called}
+use Rattle.tree_laws.proofs.FateLemmas.{Fate, Stays, Leaves, among_found, fate_of}
+use Rattle.tree_laws.proofs.FrozenLemmas.{edge_to, path_down}
+use Rattle.tree_laws.proofs.StrengthLemmas.{lives_have_strength}
+use Rattle.tree_laws.proofs.TimeLemmas.{Part, part_on, part_of, part_lawful, may_of, exit_end, sent_end, keep_on}
 use Rattle.commit_point_laws.specs.PointLaws.{WalksFindWeights}
 use Rattle.commit_point_laws.proofs.MomentLemmas.{SentIn, sent_in, sent_there}
+use Rattle.tree_laws.proofs.AtTurn.{at_happening}
+use Rattle.tree_laws.proofs.FrozenLemmas.{same_weight}
 
 -- ---- weights
-
-same_weight : (x y : Live) → y.changed ≡ x.changed → y.strength ≡ x.strength → map (λ e. e.weight) y.edges ≡ map (λ e. e.weight) x.edges → weight y ≡ weight x
-unfolding weight
-same_weight x y changed strong weights =
-    ap (λ q. weight_by q y.strength (place_of_greatest 1 (map (λ (e : Edge). e.weight) y.edges) None)) changed ∙
-    (ap (λ s. weight_by x.changed s (place_of_greatest 1 (map (λ (e : Edge). e.weight) y.edges) None)) strong ∙ ap (λ ws. weight_by x.changed x.strength (place_of_greatest 1 ws None)) weights)
 
 -- ---- at one moment
 
@@ -124,14 +120,7 @@ module _ (t : History) (whole : IsLawfulRun t) (q c : BranchId) (it : SentIn t w
       absurd (cc (at, none))
 
   module _ (hs : List Happening) (h : Happening) (rest : List Happening) (is : hs ++ h ∷ rest ≡ t.trace) (now : WeighsAt hs) where
-    abbrev after : List Happening
-    after = hs ++ h ∷ []
-
-    lawful : IsLawfulRun (so_far t hs)
-    lawful = part_lawful t whole hs (part_of t whole hs h rest is)
-
-    lawful_z : IsLawfulRun (so_far t after)
-    lawful_z = part_lawful t whole after (part_on t whole hs h rest is)
+    open at_happening t whole hs h rest is use {after, lawful, lawful_after as lawful_z}
 
     sent_then : was_sent is_below (said_in (f_at t after)) q c ≡ true
     sent_then = sent_end (so_far t after) lawful_z hs (record { rest = h ∷ []; is = refl }) is_below q c now.0

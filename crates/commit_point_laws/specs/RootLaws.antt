@@ -9,7 +9,7 @@ use Rattle.node_rules.specs.Data.kinds
 use Rattle.node_rules.specs.Data.records
 use Rattle.node_rules.specs.Data.stmts
 use Rattle.node_rules.specs.Inputs.{Came, IsCall}
-use Rattle.node_rules.specs.NodeState.{NodeState, Outcome, live_at}
+use Rattle.node_rules.specs.NodeState.{NodeState, TurnOutput, live_at}
 use Rattle.node_rules.specs.Turn.{turn_of}
 use Rattle.run_rules.specs.Data.{Happening}
 use Rattle.run_rules.specs.Data.happenings
@@ -41,7 +41,7 @@ pub data RootReason (said : List Post) (e : List Event) (input : Input) (b : Bra
   Gives_up : (n : ℕ) → input ≡ inputs.GiveUp n → RootReason said e input b wrote sent
 
 -- each live root that a turn leaves no more has a reason
-abbrev pub RootLeaves : List Post → List Event → Input → NodeState → Outcome → Type 0
+abbrev pub RootLeaves : List Post → List Event → Input → NodeState → TurnOutput → Type 0
 RootLeaves said e input k o = (b : BranchId) (l : Live) → live_at k b ≡ Some l → l.parent ≡ None → live_at o.after b ≡ None → RootReason said e input b o.wrote (map post_of o.sent)
 
 -- so does each turn of a node that is up

@@ -6,13 +6,13 @@ use Rattle.std.specs.List.{AllByRecursion}
 use Rattle.tran_ids.proofs.ListedLemmas.{item_is}
 use Rattle.commit_forget.specs.declared.next.Next.TheVariants as nexts
 use Rattle.agreement.specs.Events.{Event, Sealed, first, exit, forced}
-use Rattle.node_rules.specs.Data.{BranchId, Decision, Live, Place, Post, RedoRecord, Stmt, Input}
+use Rattle.node_rules.specs.Data.{BranchId, Decision, Live, Place, RedoRecord, Stmt, Input}
 use Rattle.node_rules.specs.Data.acts
 use Rattle.node_rules.specs.Data.inputs
 use Rattle.node_rules.specs.Data.records
 use Rattle.node_rules.specs.Data.stmts
 use Rattle.node_rules.specs.Inputs.{IsCall}
-use Rattle.node_rules.specs.NodeState.{NodeState, Deed, live_id}
+use Rattle.node_rules.specs.NodeState.{NodeState, TurnDraft, live_id}
 use Rattle.node_rules.proofs.Steps as steps
 use Rattle.node_rules.proofs.Steps.{Step}
 use Rattle.run_rules.specs.Births.{Born, births_of}
@@ -32,32 +32,18 @@ use Rattle.run_base_laws.proofs.OwnLemmas.{all_found}
 use Rattle.tree_laws.specs.AskLaws.{HeardAbove}
 use Rattle.tree_laws.proofs.ForestLemmas as trees
 use Rattle.tree_laws.proofs.ForestRunLemmas.{run_known}
-use Rattle.tree_laws.proofs.PrefixLemmas.{so_far, f_at, e_at}
-use Rattle.tree_site_laws.proofs.HeardLemmas.{left_were_asked}
-use Rattle.tree_site_laws.proofs.TimeLemmas.{Part, part_of, part_lawful, rest_lawful, born_end, events_join}
+use Rattle.tree_laws.proofs.PrefixLemmas.{f_at, e_at}
+use Rattle.tree_laws.proofs.HeardLemmas.{left_were_asked}
+use Rattle.tree_laws.proofs.TimeLemmas.{Part, part_of, part_lawful, rest_lawful, born_end, events_join}
 use Rattle.run_claims.specs.Undisturbed.{Commit, IsDelivery}
-use Rattle.commit_stay_laws.proofs.FirstLemmas.{commits_come_first}
+use Rattle.commit_spread_laws.proofs.FirstLemmas.{commits_come_first}
 use Rattle.commit_spread_laws.specs.BeforeLaws.{NoneSealedBefore, NoneForced}
-use Rattle.commit_spread_laws.proofs.MoreLemmas.{inv_at}
+use Rattle.tree_laws.proofs.MoreLemmas.{inv_at}
+use Rattle.tree_laws.proofs.AtPart.{at_part}
 
 module _ (t : History) (whole : IsLawfulRun t) (c : Commit t.places t.commands t.trace) where
-  abbrev hs : List Happening
-  hs = c.before
-
-  abbrev s : History
-  s = so_far t hs
-
-  abbrev f : Facts
-  f = f_at t hs
-
-  abbrev said : List Post
-  said = said_in f
-
-  abbrev bs : List Born
-  bs = births_of s
-
-  abbrev k : NodeState
-  k = c.kept
+  open c use {before as hs, kept as k}
+  open at_part t hs use {s, f, said, bs}
 
   part : Part t whole hs
   part = part_of t whole hs (happenings.Turn c.call) c.during c.is
@@ -125,7 +111,7 @@ IsUnforced (records.Forced b d given) = ⊥
 IsUnforced _ = Unit {0}
 
 module _ (p : Place) (input : Input) (calm : ForcesNone input) where
-  unforced_on : {k : NodeState} {d : Deed} → Step p input k d → IfSome d.wrote IsUnforced
+  unforced_on : {k : NodeState} {d : TurnDraft} → Step p input k d → IfSome d.wrote IsUnforced
   unforced_on (steps.Begins n s call rows range free step) = unforced_on step
   unforced_on (steps.Pends n l given call has live code step) = unforced_on step
   unforced_on (steps.Lets_reads_go l comment below live begins step) = unforced_on step

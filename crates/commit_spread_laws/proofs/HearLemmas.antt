@@ -1,5 +1,5 @@
 -- In every lawful run a sealed branch to which toward told a commit has learned it, or its node has stopped since.
-use Rattle.std.proofs.Common.{◌≡◌, ◌≢◌, ℕ, Bool, true, false, if◌then◌else◌, List, [], ◌∷◌, ◌++◌, Option, Some, None, inl, inr, refl, sym, ap, subst, ◌∙◌, append-nil}
+use Rattle.std.proofs.Common.{◌≡◌, ◌≢◌, ℕ, Bool, true, false, if◌then◌else◌, List, [], ◌∷◌, Option, Some, None, inl, inr, refl, sym, ap, subst, ◌∙◌, append-nil}
 use Rattle.std.specs.Prelude.{◌⊎◌}
 use Rattle.std.proofs.lemmas.List.{append_assoc}
 use Rattle.tran_ids.proofs.BranchLemmas.{same_from_equal}
@@ -10,20 +10,18 @@ use Rattle.agreement.specs.Events.{Forest, Event, Exit, Sealed, Decided, Quiet, 
 use Rattle.agreement.proofs.AgreementLaws.{covered, undecided_from_rollback}
 use Rattle.agreement.proofs.Invariant.{Inv}
 use Rattle.agreement.proofs.WholeTree.{site_root}
-use Rattle.node_rules.specs.Data.{BranchId, Decision, Kind, Live, Msg, Place, Standing, State, Input}
+use Rattle.node_rules.specs.Data.{BranchId, Decision, Kind, Live, Msg, KeptRow, State, Input}
 use Rattle.node_rules.specs.Data.decisions
 use Rattle.node_rules.specs.Data.inputs
 use Rattle.node_rules.specs.Data.kinds
 use Rattle.node_rules.specs.Data.states
 use Rattle.node_rules.specs.Inputs.{Came}
-use Rattle.node_rules.specs.NodeState.{NodeState, Deed, live_id, standing_id, live_at, standing_at}
+use Rattle.node_rules.specs.NodeState.{NodeState, TurnDraft, live_id, kept_row_id, live_at, kept_row_at}
 use Rattle.node_rules.specs.Commit.{next_on_decision, decision_at, first_decision, next_turn}
-use Rattle.node_rules.specs.Turn.{Stand, Is_live, Is_kept, Is_gone, turn_of, heard, deed_of, committed_turn, kind_turn, stand_of}
+use Rattle.node_rules.specs.Turn.{BranchStatus, Is_live, Is_kept, Is_gone, turn_of, heard, draft_of, committed_turn, kind_turn, status_of}
 use Rattle.node_rules.proofs.StandLemmas.{StandsSo, stands_so, live_so}
-use Rattle.run_rules.specs.Data.{Turn, Happening}
-use Rattle.run_rules.specs.Data.happenings
 use Rattle.run_base_laws.specs.EventRows.{RowIs, IsKnown, IsForcedAs, IsDone}
-use Rattle.run_rules.specs.Facts.{Facts, place_at, node_at, facts_after}
+use Rattle.run_rules.specs.Facts.{node_at, facts_after}
 use Rattle.run_rules.specs.Lawful.{IsOwed, MayHappen, History, IsLawfulRun, facts_at}
 use Rattle.run_base_laws.specs.RunEvents.{with_event, wrote_event, with_record, events_after, events_of}
 use Rattle.run_base_laws.proofs.EventsStandLemmas.{run_stands, nodes_are_as_events}
@@ -35,19 +33,20 @@ use Rattle.run_base_laws.proofs.RowEventLemmas.{learned_now}
 use Rattle.run_base_laws.proofs.SaidLemmas.{came_said}
 use Rattle.tree_laws.specs.Forests.{forest_of}
 use Rattle.tree_laws.proofs.AckForestLemmas.{gone_before}
-use Rattle.tree_laws.proofs.PrefixLemmas.{so_far, f_at, e_at, more_on}
-use Rattle.tree_site_laws.proofs.TimeLemmas.{Part, part_on, part_of, part_lawful, may_of, exit_end}
+use Rattle.tree_laws.proofs.PrefixLemmas.{so_far, e_at, more_on}
+use Rattle.tree_laws.proofs.TimeLemmas.{Part, part_on, part_lawful, may_of, exit_end}
 use Rattle.commit_laws.specs.DeliveryLaws.{CameInTurn}
 use Rattle.commit_laws.specs.WaitLaws.{HasStopped}
 use Rattle.commit_laws.proofs.CameLemmas.{deliveries_came}
 use Rattle.commit_laws.proofs.StopLemmas.{stopped_end, cut_stops}
 use Rattle.commit_spread_laws.specs.HearLaws.{HasHeard, CommitsAreHeard, RowHasHeard, RowsHaveHeard}
-use Rattle.commit_spread_laws.proofs.FitRowLemmas.{RowFits, rows_fit}
-use Rattle.commit_spread_laws.proofs.MoreLemmas.{forest, inv_end, added_end, lawful_at, inv_at}
+use Rattle.tree_laws.proofs.FitRowLemmas.{RowFits, rows_fit}
+use Rattle.tree_laws.proofs.MoreLemmas.{forest, inv_end, added_end, lawful_at, inv_at}
+use Rattle.tree_laws.proofs.AtTurn.{at_turn}
 
 -- ---- a row that hears a commit
 
-module _ (s : Standing) (y : BranchId) (n : ℕ) (toward : s.toward ≡ Some y) (none : s.decision ≡ None) where
+module _ (s : KeptRow) (y : BranchId) (n : ℕ) (toward : s.toward ≡ Some y) (none : s.decision ≡ None) where
   next_is : next_on_decision s y (decisions.Commit n) ≡ first_decision s.state (decisions.Commit n)
   unfolding next_on_decision
   next_is =
@@ -55,11 +54,11 @@ module _ (s : Standing) (y : BranchId) (n : ℕ) (toward : s.toward ≡ Some y) 
       ap (λ q. if q then decision_at s (decisions.Commit n) s.decision else nexts.Rest) here ∙ ap (decision_at s (decisions.Commit n)) none
 
 -- the record of a turn says that a branch learned this commit
-abbrev WritesLearn : ℕ → Deed → BranchId → ℕ → Type 0
+abbrev WritesLearn : ℕ → TurnDraft → BranchId → ℕ → Type 0
 WritesLearn node d b n = (mixed : Option Bool) × (wrote_event node d.wrote ≡ Some (Learn b (decisions.Commit n) mixed))
 
 -- a row that knows no decision writes it
-first_writes : (e : List Event) (k : NodeState) (s : Standing) (y : BranchId) (n node : ℕ) (state : State) → IsForcedAs e s.me state None → WritesLearn node (next_turn k s y (first_decision state (decisions.Commit n))) s.me n
+first_writes : (e : List Event) (k : NodeState) (s : KeptRow) (y : BranchId) (n node : ℕ) (state : State) → IsForcedAs e s.me state None → WritesLearn node (next_turn k s y (first_decision state (decisions.Commit n))) s.me n
 first_writes e k s y n node states.Sealed force = (None, refl)
 first_writes e k s y n node states.Committed force = absurd (force refl)
 first_writes e k s y n node (states.ForcedCommit m) force = (Some false, refl)
@@ -74,44 +73,12 @@ module _ (t : History) (whole : IsLawfulRun t) (m : Msg) (came : CameInTurn t.tr
   abbrev p : Forest
   p = forest_of t
 
-  abbrev hs : List Happening
-  hs = came.before
-
-  abbrev u : Turn
-  u = came.turn
-
-  abbrev h : Happening
-  h = happenings.Turn u
-
-  abbrev s0 : History
-  s0 = so_far t hs
-
-  abbrev f : Facts
-  f = f_at t hs
-
-  abbrev e : List Event
-  e = e_at t hs
-
-  abbrev after : List Happening
-  after = hs ++ h ∷ []
-
-  abbrev b : BranchId
-  b = m.to
-
-  abbrev y : BranchId
-  y = m.from
+  open came use {before as hs, turn as u}
+  open m use {to as b, from as y}
+  open at_turn t whole came.before came.turn came.later came.is use {h, s as s0, f, e, part, part_after as part_z, lawful, p as place, after}
 
   abbrev Heard : Type 0
   Heard = (learned (events_of t) b ≡ Some (decisions.Commit n)) ⊎ HasStopped (facts_at t) b
-
-  part : Part t whole hs
-  part = part_of t whole hs h came.later came.is
-
-  part_z : Part t whole after
-  part_z = part_on t whole hs h came.later came.is
-
-  lawful : IsLawfulRun s0
-  lawful = part_lawful t whole hs part
 
   pub may : MayHappen t.places t.commands f h
   may = may_of t whole hs h came.later came.is
@@ -119,17 +86,14 @@ module _ (t : History) (whole : IsLawfulRun t) (m : Msg) (came : CameInTurn t.tr
   abbrev k : NodeState
   k = may.0
 
-  abbrev place : Place
-  place = place_at t.places u.node
-
   abbrev input : Input
   input = inputs.Message m
 
   abbrev k0 : NodeState
   k0 = heard k input
 
-  abbrev d : Deed
-  d = deed_of place k input
+  abbrev d : TurnDraft
+  d = draft_of place k input
 
   up : node_at f b.node ≡ Some k
   up = subst (λ i. node_at f i ≡ Some k) came.here may.1.up
@@ -188,7 +152,7 @@ module _ (t : History) (whole : IsLawfulRun t) (m : Msg) (came : CameInTurn t.tr
       let left = was_sealed.1 in
       absurd (cc (mine, left))
 
-  gone_heard : stand_of k0 b ≡ Is_gone → Heard
+  gone_heard : status_of k0 b ≡ Is_gone → Heard
   gone_heard gone = by (gone_are_done s0 lawful b k up (gone_before k input b gone) was_sealed.0 was_sealed.1)
     where
       by : IsDone e b → Heard
@@ -216,27 +180,27 @@ module _ (t : History) (whole : IsLawfulRun t) (m : Msg) (came : CameInTurn t.tr
     by_cut : (cut : Bool) → u.cut ≡ cut → IsOwed place k u.input u.wrote u.sent cut → Heard
     unfolding turn_of
     by_cut true cut owed = cut_heard cut
-    by_cut false cut owed = whole_heard (owed.0 ∙ ap (λ (i : Input). (deed_of place k i).wrote) came.input)
+    by_cut false cut owed = whole_heard (owed.0 ∙ ap (λ (i : Input). (draft_of place k i).wrote) came.input)
 
-  module _ (s : Standing) (me : s.me ≡ b) (kept : standing_at k0 s.me ≡ Some s) (stands : stand_of k0 b ≡ Is_kept s) where
+  module _ (s : KeptRow) (me : s.me ≡ b) (kept : kept_row_at k0 s.me ≡ Some s) (stands : status_of k0 b ≡ Is_kept s) where
     row : RowIs e s
-    row = all_found (RowIs e) standing_id k.stored.durable.kept s.me s (nodes_are_as_events s0 lawful u.node k may.1.up).1 kept
+    row = all_found (RowIs e) kept_row_id k.stored.durable.kept s.me s (nodes_are_as_events s0 lawful u.node k may.1.up).1 kept
 
     toward : s.toward ≡ Some y
-    toward = by (all_found (λ (x : Standing). RowFits p x.me x.toward) standing_id k.stored.durable.kept s.me s (rows_fit t whole hs part u.node k may.1.up) kept)
+    toward = by (all_found (λ (x : KeptRow). RowFits p x.me x.toward) kept_row_id k.stored.durable.kept s.me s (rows_fit t whole hs part u.node k may.1.up) kept)
       where
         by : RowFits p s.me s.toward → s.toward ≡ Some y
         by (inl way) = way.0 ∙ ap Some (ap p.toward me ∙ next)
         by (inr none) = absurd (not_site (subst (λ c. c ≡ site_of p c) me none.1))
 
-    deed_is : s.decision ≡ None → d ≡ next_turn k0 s y (first_decision s.state (decisions.Commit n))
-    deed_is none =
-        ap (λ (x : Kind). kind_turn place k0 y b x (stand_of k0 b)) is
-        ∙ (ap (λ (x : Stand). committed_turn k0 y b n x) stands ∙ ap (λ x. next_turn k0 s y x) (next_is s y n toward none))
+    draft_is : s.decision ≡ None → d ≡ next_turn k0 s y (first_decision s.state (decisions.Commit n))
+    draft_is none =
+        ap (λ (x : Kind). kind_turn place k0 y b x (status_of k0 b)) is
+        ∙ (ap (λ (x : BranchStatus). committed_turn k0 y b n x) stands ∙ ap (λ x. next_turn k0 s y x) (next_is s y n toward none))
 
     unknown_heard : s.decision ≡ None → IsKnown e s None → IsForcedAs e s.me s.state None → Heard
     unknown_heard none known force =
-        let writes : WritesLearn u.node d s.me n = subst (λ x. WritesLearn u.node x s.me n) (sym (deed_is none)) (first_writes e k0 s y n u.node s.state force) in
+        let writes : WritesLearn u.node d s.me n = subst (λ x. WritesLearn u.node x s.me n) (sym (draft_is none)) (first_writes e k0 s y n u.node s.state force) in
         by_cut s.me me known.1 writes u.cut refl may.1.owed
 
     kept_heard : Heard
@@ -248,9 +212,9 @@ module _ (t : History) (whole : IsLawfulRun t) (m : Msg) (came : CameInTurn t.tr
         by (Some decisions.Rollback) some known force = learned_is decisions.Rollback (subst (λ i. learned e i ≡ Some decisions.Rollback) me known)
 
   pub commit_heard : Heard
-  commit_heard = by (stand_of k0 b) refl (stands_so k0 b)
+  commit_heard = by (status_of k0 b) refl (stands_so k0 b)
     where
-      by : (x : Stand) → stand_of k0 b ≡ x → StandsSo k0 b x → Heard
+      by : (x : BranchStatus) → status_of k0 b ≡ x → StandsSo k0 b x → Heard
       by (Is_live x) at so = absurd (not_live x.live (subst (λ i. live_at k0 i ≡ Some x.live) so.0 (live_so k0 x.live.me x so.1)))
       by (Is_kept s) at so = kept_heard s so.0 so.1 at
       by Is_gone at so = gone_heard at
@@ -270,19 +234,19 @@ row_heard : (t : History) (whole : IsLawfulRun t) (from to : BranchId) (kind : K
 row_heard t whole from to (kinds.Committed n) heard_so =
     λ k s up at toward. (
     let rows = (nodes_are_as_events t whole to.node k up).1 in
-    let row : RowIs (events_of t) s = all_found (RowIs (events_of t)) standing_id k.stored.durable.kept to s rows at in
-    let me : s.me ≡ to = item_is standing_id k.stored.durable.kept to s at in
-    let fits : RowFits (forest_of t) s.me s.toward = all_found (λ (x : Standing). RowFits (forest_of t) x.me x.toward) standing_id k.stored.durable.kept to s (rows_fit t whole t.trace (at_end t whole) to.node k up) at in
+    let row : RowIs (events_of t) s = all_found (RowIs (events_of t)) kept_row_id k.stored.durable.kept to s rows at in
+    let me : s.me ≡ to = item_is kept_row_id k.stored.durable.kept to s at in
+    let fits : RowFits (forest_of t) s.me s.toward = all_found (λ (x : KeptRow). RowFits (forest_of t) x.me x.toward) kept_row_id k.stored.durable.kept to s (rows_fit t whole t.trace (at_end t whole) to.node k up) at in
     by k s me toward fits s.decision refl row.known)
   where
     at_end : (t : History) (whole : IsLawfulRun t) → Part t whole t.trace
     at_end t whole = record { rest = []; is = append-nil t.trace }
 
-    next_of : (s : Standing) → s.me ≡ to → s.toward ≡ Some from → RowFits (forest_of t) s.me s.toward → (forest_of t).toward to ≡ from
+    next_of : (s : KeptRow) → s.me ≡ to → s.toward ≡ Some from → RowFits (forest_of t) s.me s.toward → (forest_of t).toward to ≡ from
     next_of s me toward (inl way) = (let both : Some ((forest_of t).toward s.me) ≡ Some from = sym way.0 ∙ toward in let one : (forest_of t).toward s.me ≡ from = cc in ap (forest_of t).toward (sym me) ∙ one)
     next_of s me toward (inr none) = (let no = none.0 in absurd (cc (no, toward)))
 
-    by : (k : NodeState) (s : Standing) → s.me ≡ to → s.toward ≡ Some from → RowFits (forest_of t) s.me s.toward → (o : Option Decision) → s.decision ≡ o → IsKnown (events_of t) s o → (s.decision ≢ None) ⊎ HasStopped (facts_at t) to
+    by : (k : NodeState) (s : KeptRow) → s.me ≡ to → s.toward ≡ Some from → RowFits (forest_of t) s.me s.toward → (o : Option Decision) → s.decision ≡ o → IsKnown (events_of t) s o → (s.decision ≢ None) ⊎ HasStopped (facts_at t) to
     by k s me toward fits (Some o) some known = inl (λ none. absurd (cc (some, none)))
     by k s me toward fits None none known = elim (heard_so (next_of s me toward fits) s.scn (subst (λ i. exit (events_of t) i ≡ Some (Sealed s.scn)) me known.0)) [
       | inl learnt ↦ (let unlearnt : learned (events_of t) to ≡ None = subst (λ i. learned (events_of t) i ≡ None) me known.1 in absurd (cc (learnt, unlearnt)))

@@ -1,5 +1,3 @@
-pub mod MoreLemmas
-pub mod FitRowLemmas
 pub mod TellStepLemmas
 pub mod TellLemmas
 pub mod HearLemmas
@@ -8,3 +6,14 @@ pub mod BeforeLemmas
 pub mod ComeLemmas
 pub mod SealLemmas
 mod TriedTellingLemmas
+pub mod DeliveredLemmas
+pub mod GotStepLemmas
+pub mod GotLeaveLemmas
+pub mod GotLemmas
+pub mod FirstLemmas
+pub mod TreeLemmas
+pub mod ComesOnceLemmas
+pub mod DropLemmas
+pub mod TurnStayLemmas
+pub mod StayLemmas
+mod TriedStayLemmas

@@ -1,15 +1,15 @@
 -- In every lawful run the commit of a transaction has reached each of its sealed branches, where all its messages came and no
 -- node of its branches stopped: by their distance from the commit point site, the nearest first.
-use Rattle.std.proofs.Common.{◌≡◌, ℕ, zero, suc, ◌≤◌, true, List, [], Some, inl, inr, refl, sym, ap, subst, ◌∙◌, arith}
+use Rattle.std.proofs.Common.{◌≡◌, ℕ, zero, suc, ◌≤◌, true, Some, inl, inr, refl, sym, ap, subst, ◌∙◌, arith}
 use Rattle.std.proofs.lemmas.Bool.Decides.{nat_tests}
-use Rattle.agreement.specs.Events.{Forest, Event, Sealed, Decided, Quiet, Beyond, exit, learned, Knows, site_of}
+use Rattle.agreement.specs.Events.{Sealed, Decided, Quiet, Beyond, exit, learned, Knows, site_of}
 use Rattle.agreement.proofs.AgreementLaws.{covers}
 use Rattle.agreement.proofs.Invariant.{Inv}
 use Rattle.agreement.proofs.SameBranch.{cases_same}
 use Rattle.node_rules.specs.Data.{BranchId, Kind}
 use Rattle.node_rules.specs.Data.decisions
 use Rattle.node_rules.specs.Data.kinds
-use Rattle.run_rules.specs.Births.{Born, births_of}
+use Rattle.run_rules.specs.Births.{Born}
 use Rattle.run_base_laws.specs.BirthLaws.{Began}
 use Rattle.run_rules.specs.Data.{Packet}
 use Rattle.run_rules.specs.Data.fates
@@ -21,7 +21,7 @@ use Rattle.tree_laws.specs.AskLaws.{HeardAbove}
 use Rattle.tree_laws.specs.Forests.{forest_of}
 use Rattle.tree_laws.proofs.ForestLemmas as trees
 use Rattle.tree_laws.proofs.ForestRunLemmas.{run_known}
-use Rattle.tree_site_laws.proofs.HeardLemmas.{left_were_asked}
+use Rattle.tree_laws.proofs.HeardLemmas.{left_were_asked}
 use Rattle.commit_laws.specs.WaitLaws.{HasStopped}
 use Rattle.commit_laws.proofs.NetLemmas.{numbered_all}
 use Rattle.commit_laws.proofs.SentLemmas.{IsSent, sent_found}
@@ -29,8 +29,9 @@ use Rattle.commit_spread_laws.specs.HearLaws.{HasHeard}
 use Rattle.commit_spread_laws.specs.ReachLaws.{HasAllCome, CommitsReachAll}
 use Rattle.commit_spread_laws.specs.TellLaws.{is_commit_at}
 use Rattle.commit_spread_laws.proofs.HearLemmas.{commits_are_heard}
-use Rattle.commit_spread_laws.proofs.MoreLemmas.{forest, events_lawful, inv_end}
+use Rattle.tree_laws.proofs.MoreLemmas.{forest, events_lawful, inv_end}
 use Rattle.commit_spread_laws.proofs.TellLemmas.{commits_are_told}
+use Rattle.tree_laws.proofs.AtPart.{at_end}
 
 -- what Committed says has been heard
 heard_as : (t : History) (from to : BranchId) (n : ℕ) (kind : Kind) → is_commit_at n kind ≡ true → HasHeard t from to kind → HasHeard t from to (kinds.Committed n)
@@ -40,14 +41,7 @@ heard_as t from to n _ is so = absurd cc
 -- ---- every run
 
 module _ (t : History) (whole : IsLawfulRun t) (root : BranchId) (all : HasAllCome t root) (n : ℕ) (decided : exit (events_of t) ((forest_of t).site root) ≡ Some (Decided n)) where
-  abbrev p : Forest
-  p = forest_of t
-
-  abbrev e : List Event
-  e = events_of t
-
-  abbrev bs : List Born
-  bs = births_of t
+  open at_end t use {forest as p, e, bs}
 
   end : Inv p e
   end = inv_end t whole

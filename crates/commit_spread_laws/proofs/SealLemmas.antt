@@ -18,20 +18,19 @@ use Rattle.run_rules.specs.Data.entries
 use Rattle.run_rules.specs.Facts.{first_facts}
 use Rattle.run_base_laws.specs.InTurnLaws.{said_in}
 use Rattle.run_rules.specs.Lawful.{History, IsLawfulRun, facts_at}
-use Rattle.run_base_laws.specs.RunEvents.{events_of}
 use Rattle.run_branch_laws.proofs.EventBookLemmas.{book_of_events}
 use Rattle.run_rules.proofs.FactLemmas.{book_is}
 use Rattle.run_rules.proofs.ListLemmas.{all_append}
-use Rattle.tree_laws.specs.Forests.{forest_of}
 use Rattle.tree_laws.proofs.ForestLemmas as trees
 use Rattle.tree_laws.proofs.ForestRunLemmas.{run_known}
-use Rattle.tree_site_laws.proofs.HeardLemmas.{left_were_asked}
+use Rattle.tree_laws.proofs.HeardLemmas.{left_were_asked}
 use Rattle.run_claims.specs.Undisturbed.{Commit, Undisturbed, SealIsEnded}
 use Rattle.commit_spread_laws.specs.SealLaws.{is_seal_on, SealsAreDecided, UndisturbedSealsEnd}
 use Rattle.commit_spread_laws.proofs.BeforeLemmas.{none_forced}
 use Rattle.commit_spread_laws.proofs.ComeLemmas.{undisturbed_has_come}
-use Rattle.commit_spread_laws.proofs.MoreLemmas.{events_lawful}
+use Rattle.tree_laws.proofs.MoreLemmas.{events_lawful}
 use Rattle.commit_spread_laws.proofs.ReachLemmas.{commits_reach_all}
+use Rattle.tree_laws.proofs.AtPart.{at_end}
 
 -- ---- books
 
@@ -98,11 +97,7 @@ seal_there (s ∷ t) b m is = elim (exit_new s t b (Sealed m) is) [
 -- ---- every run
 
 module _ (t : History) (whole : IsLawfulRun t) (c : Commit t.places t.commands t.trace) (u : Undisturbed t.places t.commands t.trace c) where
-  abbrev p : Forest
-  p = forest_of t
-
-  abbrev e : List Event
-  e = events_of t
+  open at_end t use {forest as p, e}
 
   abbrev book : List Entry
   book = book_of e

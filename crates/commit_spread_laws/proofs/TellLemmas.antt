@@ -7,16 +7,16 @@ use Rattle.tran_ids.proofs.ListedLemmas.{item_is}
 use Rattle.session_tree.specs.Live.{is_branch}
 use Rattle.agreement.specs.Events.{Forest, Event, Sealed, Decided, Quiet, Beyond, first, only_at, exit, learned, Knows}
 use Rattle.agreement.proofs.EventLemmas.{first_is, only_at_is}
-use Rattle.node_rules.specs.Data.{BranchId, Place, RedoRecord, Standing}
+use Rattle.node_rules.specs.Data.{BranchId, Place, RedoRecord, KeptRow}
 use Rattle.node_rules.specs.Data.decisions
 use Rattle.node_rules.specs.Data.records
 use Rattle.node_rules.specs.Words.{item_at}
-use Rattle.node_rules.specs.NodeState.{NodeState, Deed, standing_id}
-use Rattle.node_rules.specs.Turn.{turn_of, heard, deed_of}
+use Rattle.node_rules.specs.NodeState.{NodeState, TurnDraft, kept_row_id}
+use Rattle.node_rules.specs.Turn.{turn_of, heard, draft_of}
 use Rattle.run_rules.specs.Data.{Turn, Happening}
 use Rattle.run_rules.specs.Data.happenings
 use Rattle.run_base_laws.specs.EventLaws.{EachEventFrom}
-use Rattle.run_rules.specs.Facts.{Facts, first_facts, place_at, records_at, facts_after}
+use Rattle.run_rules.specs.Facts.{first_facts, place_at, records_at, facts_after}
 use Rattle.run_base_laws.specs.IdLaws.{IsRecordOf}
 use Rattle.run_base_laws.specs.InTurnLaws.{post_of, said_in}
 use Rattle.run_rules.specs.Lawful.{IsOwed, MayHappen, MayTurn, History, IsLawfulRun}
@@ -38,13 +38,14 @@ use Rattle.tree_laws.proofs.NameLemmas.{rows_name_beyond}
 use Rattle.tree_laws.proofs.PrefixLemmas.{so_far, f_at, e_at, one_on, more_on}
 use Rattle.tree_laws.proofs.SettleRunLemmas.{records_heard}
 use Rattle.tree_laws.proofs.SiteLemmas.{later_undecided}
-use Rattle.tree_site_laws.proofs.TimeLemmas.{Part, part_on, part_of, part_lawful, may_of, each_at, exit_end, keep_on}
+use Rattle.tree_laws.proofs.TimeLemmas.{may_of, each_at, exit_end, keep_on}
 use Rattle.commit_laws.specs.WaitLaws.{HasStopped}
 use Rattle.commit_laws.proofs.StopLemmas.{stopped_on, cut_stops}
 use Rattle.commit_spread_laws.specs.TellLaws.{is_commit_at, CommitsAreTold}
-use Rattle.commit_spread_laws.proofs.FitRowLemmas.{RowFits, rows_fit}
-use Rattle.commit_spread_laws.proofs.MoreLemmas.{forest, inv_at}
+use Rattle.tree_laws.proofs.FitRowLemmas.{RowFits, rows_fit}
+use Rattle.tree_laws.proofs.MoreLemmas.{forest, inv_at}
 use Rattle.commit_spread_laws.proofs.TellStepLemmas.{TellsByRow, TellsCommit, tells_on, named_beyond}
+use Rattle.tree_laws.proofs.AtTurn.{at_happening}
 
 -- ---- what teaches a branch a commit
 
@@ -132,23 +133,7 @@ module _ (t : History) (whole : IsLawfulRun t) (b x : BranchId) (edge : Beyond (
   ReportsAll hs = (n : ℕ) → Knows (e_at t hs) b n → Told n hs
 
   module _ (hs : List Happening) (h : Happening) (rest : List Happening) (is : hs ++ h ∷ rest ≡ t.trace) where
-    abbrev f : Facts
-    f = f_at t hs
-
-    abbrev e : List Event
-    e = e_at t hs
-
-    abbrev after : List Happening
-    after = hs ++ h ∷ []
-
-    part : Part t whole hs
-    part = part_of t whole hs h rest is
-
-    lawful : IsLawfulRun (so_far t hs)
-    lawful = part_lawful t whole hs part
-
-    lawful_z : IsLawfulRun (so_far t after)
-    lawful_z = part_lawful t whole after (part_on t whole hs h rest is)
+    open at_happening t whole hs h rest is use {f, e, after, part, lawful, lawful_after as lawful_z}
 
     said_is : said_in (f_at t after) ≡ said_in f ++ posts_of h
     said_is = ap said_in (one_on t hs h) ∙ said_after t.places t.commands f h
@@ -167,8 +152,8 @@ module _ (t : History) (whole : IsLawfulRun t) (b x : BranchId) (edge : Beyond (
       abbrev place : Place
       place = place_at t.places u.node
 
-      abbrev d : Deed
-      d = deed_of place k u.input
+      abbrev d : TurnDraft
+      d = draft_of place k u.input
 
       abbrev k0 : NodeState
       k0 = heard k u.input
@@ -200,18 +185,18 @@ module _ (t : History) (whole : IsLawfulRun t) (b x : BranchId) (edge : Beyond (
       -- by its row
       row_told : (c : BranchId) (m : ℕ) → c ≡ b → TellsByRow k0 u.input d.says c m → was_sent (is_commit_at m) d.says c x ≡ true
       row_told c m me tells =
-          let s : Standing = tells.0 in
-          let there : item_at standing_id k.stored.durable.kept c ≡ Some s = subst (λ ks. item_at standing_id ks c ≡ Some s) (heard_rows k u.input) tells.1 in
-          let mine : s.me ≡ b = item_is standing_id k.stored.durable.kept c s there ∙ me in
+          let s : KeptRow = tells.0 in
+          let there : item_at kept_row_id k.stored.durable.kept c ≡ Some s = subst (λ ks. item_at kept_row_id ks c ≡ Some s) (heard_rows k u.input) tells.1 in
+          let mine : s.me ≡ b = item_is kept_row_id k.stored.durable.kept c s there ∙ me in
           let edge_s : Beyond p x s.me = subst (Beyond p x) (sym mine) edge in
-          let fits : RowFits p s.me s.toward = all_found (λ (y : Standing). RowFits p y.me y.toward) standing_id k.stored.durable.kept c s (rows_fit t whole hs part u.node k may.up) there in
-          let named : RowNames p e s = all_found (RowNames p e) standing_id k.stored.durable.kept c s names there in
+          let fits : RowFits p s.me s.toward = all_found (λ (y : KeptRow). RowFits p y.me y.toward) kept_row_id k.stored.durable.kept c s (rows_fit t whole hs part u.node k may.up) there in
+          let named : RowNames p e s = all_found (RowNames p e) kept_row_id k.stored.durable.kept c s names there in
           elim (named x edge_s) [
             | inl here ↦ tells.2 x (named_beyond s x (apart s edge_s fits) here)
             | inr quiet ↦ absurd (quiet_not quiet)
           ]
         where
-          apart : (s : Standing) → Beyond p x s.me → RowFits p s.me s.toward → is_branch x s.toward ≡ false
+          apart : (s : KeptRow) → Beyond p x s.me → RowFits p s.me s.toward → is_branch x s.toward ≡ false
           apart s edge_s (inl way) = ap (is_branch x) way.0 ∙ not_back p (forest t whole) x s.me (p.toward s.me) edge_s way.1 way.2 refl
           apart s edge_s (inr none) = ap (is_branch x) none.0
 

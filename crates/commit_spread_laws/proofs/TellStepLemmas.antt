@@ -1,6 +1,6 @@
 -- What the turn says in which a branch decides, or learns a commit: Committed to each neighbour that its record or its row
 -- names, but the one on the way to the site.
-use Rattle.std.proofs.Common.{◌≡◌, ℕ, ◌+◌, ◌==◌, ◌&&◌, ◌||◌, not, Bool, true, false, if◌then◌else◌, List, [], ◌∷◌, ◌++◌, map, filter, Option, Some, None, inl, inr, refl, sym, ap, subst, ◌∙◌, arith}
+use Rattle.std.proofs.Common.{◌≡◌, ℕ, ◌+◌, ◌==◌, ◌&&◌, ◌||◌, not, Bool, true, false, if◌then◌else◌, List, [], ◌∷◌, ◌++◌, map, filter, Option, Some, None, inl, inr, refl, ap, subst, ◌∙◌, arith}
 use Rattle.std.specs.Prelude.{IfSome}
 use Rattle.std.specs.Option.{option_to_list}
 use Rattle.std.specs.List.{list_any}
@@ -14,31 +14,26 @@ use Rattle.prepare_phase.specs.Records.{is_prepared, named_children}
 use Rattle.redo_record.specs.declared.durable.Kid.{Kid}
 use Rattle.redo_record.specs.declared.record.Peer.{Peer}
 use Rattle.session_tree.specs.Live.{is_branch}
-use Rattle.node_rules.specs.Data.{BranchId, Decision, Edge, Kind, Live, Msg, Place, Post, RedoRecord, Standing, Input}
+use Rattle.node_rules.specs.Data.{BranchId, Decision, Edge, Kind, Live, Place, Post, RedoRecord, KeptRow, Input}
 use Rattle.node_rules.specs.Data.acts
 use Rattle.node_rules.specs.Data.decisions
-use Rattle.node_rules.specs.Data.inputs
 use Rattle.node_rules.specs.Data.kinds
 use Rattle.node_rules.specs.Data.records
 use Rattle.node_rules.specs.Words.{same, item_at}
 use Rattle.node_rules.specs.Inputs.{Came, Brings, Commit_came, Rollback_came, Rolled_back_came}
-use Rattle.node_rules.specs.NodeState.{NodeState, Stored, Deed, standing_id, standing_at, to_each}
+use Rattle.node_rules.specs.NodeState.{NodeState, Stored, TurnDraft, kept_row_id, kept_row_at, to_each}
 use Rattle.node_rules.specs.Commit.{beyond, parent_beyond, kid_beyond, is_beyond, passes_commit}
 use Rattle.node_rules.specs.Prepare.{site_neighbors}
 use Rattle.node_rules.proofs.Steps as steps
-use Rattle.node_rules.proofs.Steps.{Step, Doing}
+use Rattle.node_rules.proofs.Steps.{Step}
 use Rattle.run_branch_laws.specs.WalkLaws.{was_sent}
 use Rattle.tree_laws.specs.BeyondLaws.{IsNamed}
 use Rattle.tree_laws.proofs.RowLemmas.{kid_branch}
 use Rattle.commit_spread_laws.specs.TellLaws.{is_commit_at}
+use Rattle.tree_laws.proofs.AskRunLemmas.{sent_first as first_sent}
+use Rattle.tree_laws.proofs.TellWhyLemmas.{kinds_apart}
 
 -- ---- messages to several
-
-first_sent : (p q r rest : Bool) → p ≡ true → q ≡ true → r ≡ true → (((p && q) && r) || rest) ≡ true
-first_sent true true true rest one two three = refl
-first_sent true true false rest one two three = absurd cc
-first_sent true false r rest one two three = absurd cc
-first_sent false q r rest one two three = absurd cc
 
 same_number : (n : ℕ) → (n == n) ≡ true
 same_number n = grind (arith, nat_tests)
@@ -58,7 +53,7 @@ any_branches : (q : BranchId) (bs : List Beyond) → list_any (λ c. same c q) (
 any_branches q [] = refl
 any_branches q (b ∷ bs) = ap (λ r. same b.branch q || r) (any_branches q bs)
 
-commit_sent : (s : Standing) (n : ℕ) (bs : List Beyond) (q : BranchId) → list_any (λ (b : Beyond). same b.branch q) bs ≡ true → was_sent (is_commit_at n) (passes_commit s n bs) s.me q ≡ true
+commit_sent : (s : KeptRow) (n : ℕ) (bs : List Beyond) (q : BranchId) → list_any (λ (b : Beyond). same b.branch q) bs ≡ true → was_sent (is_commit_at n) (passes_commit s n bs) s.me q ≡ true
 commit_sent s n [] q is = absurd cc
 commit_sent s n (b ∷ bs) q is = each_sent (is_commit_at n) s.me (kinds.Committed n) (same_number n) q (map (λ (c : Beyond). c.branch) (b ∷ bs)) (any_branches q (b ∷ bs) ∙ is)
 
@@ -92,7 +87,7 @@ neighbor_named l x (inr down) =
 
 -- ---- neighbours of a row
 
-module _ (s : Standing) (x : BranchId) (apart : is_branch x s.toward ≡ false) where
+module _ (s : KeptRow) (x : BranchId) (apart : is_branch x s.toward ≡ false) where
   abbrev Is : Beyond → Bool
   Is b = same b.branch x
 
@@ -131,12 +126,6 @@ module _ (s : Standing) (x : BranchId) (apart : is_branch x s.toward ≡ false) 
 abbrev NoAck : Input → Type 0
 NoAck input = (from to : BranchId) → Came input from to kinds.Ack → ⊥
 
-kinds_apart : {input : Input} {a b c e : BranchId} {x y : Kind} → Came input a b x → Came input c e y → x ≡ y
-kinds_apart {a = a} {b = b} {c = c} {e = e} {x = x} {y = y} one other =
-    let it : inputs.Message (record { from = a; to = b; scn = one.scn; kind = x }) ≡ inputs.Message (record { from = c; to = e; scn = other.scn; kind = y }) = sym one.is ∙ other.is in
-    let here : record { from = a; to = b; scn = one.scn; kind = x } ≡ record { from = c; to = e; scn = other.scn; kind = y } = cc in
-    ap (λ (m : Msg). m.kind) here
-
 brings_no_ack : {input : Input} {from to : BranchId} {d : Decision} → Brings input from to d → NoAck input
 brings_no_ack (Commit_came n came) a b ack = (let it : kinds.Committed n ≡ kinds.Ack = kinds_apart came ack in absurd cc)
 brings_no_ack (Rollback_came came) a b ack = (let it : kinds.Rollback ≡ kinds.Ack = kinds_apart came ack in absurd cc)
@@ -145,7 +134,7 @@ brings_no_ack (Rolled_back_came came) a b ack = (let it : kinds.RolledBack ≡ k
 module _ (k0 : NodeState) (input : Input) where
   -- the branch has a row, and each neighbour beyond by it is told
   abbrev pub TellsByRow : List Post → BranchId → ℕ → Type 0
-  TellsByRow says b n = (s : Standing) × (standing_at k0 b ≡ Some s) × ((x : BranchId) → is_beyond s x ≡ true → was_sent (is_commit_at n) says b x ≡ true)
+  TellsByRow says b n = (s : KeptRow) × (kept_row_at k0 b ≡ Some s) × ((x : BranchId) → is_beyond s x ≡ true → was_sent (is_commit_at n) says b x ≡ true)
 
   -- what goes out with a record
   abbrev pub TellsCommit : List Post → RedoRecord → Type 0
@@ -158,11 +147,11 @@ module _ (k0 : NodeState) (input : Input) where
   abbrev Near : NodeState → Type 0
   Near k = NoAck input → k.stored ≡ k0.stored
 
-  row_there : (k : NodeState) → Near k → (s : Standing) {from : BranchId} {d : Decision} → Brings input from s.me d → standing_at k s.me ≡ Some s → standing_at k0 s.me ≡ Some s
-  row_there k near s brings kept = subst (λ (x : Stored). item_at standing_id x.durable.kept s.me ≡ Some s) (near (brings_no_ack brings)) kept
+  row_there : (k : NodeState) → Near k → (s : KeptRow) {from : BranchId} {d : Decision} → Brings input from s.me d → kept_row_at k s.me ≡ Some s → kept_row_at k0 s.me ≡ Some s
+  row_there k near s brings kept = subst (λ (x : Stored). item_at kept_row_id x.durable.kept s.me ≡ Some s) (near (brings_no_ack brings)) kept
 
   module _ (p : Place) where
-    pub tells_on : {k : NodeState} {d : Deed} → Step p input k d → Near k → IfSome d.wrote (TellsCommit d.says)
+    pub tells_on : {k : NodeState} {d : TurnDraft} → Step p input k d → Near k → IfSome d.wrote (TellsCommit d.says)
     tells_on (steps.Begins n s call rows range free step) near = tells_on step near
     tells_on (steps.Pends n l given call has live code step) near = tells_on step near
     tells_on (steps.Lets_reads_go l comment below live begins step) near = tells_on step near

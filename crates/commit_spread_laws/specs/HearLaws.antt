@@ -4,10 +4,10 @@
 use Rattle.std.specs.Prelude.{◌≡◌, ◌≢◌, ℕ, ◌⊎◌, Some, None}
 use Rattle.std.specs.List.{AllByRecursion}
 use Rattle.agreement.specs.Events.{Sealed, exit, learned}
-use Rattle.node_rules.specs.Data.{BranchId, Kind, Standing}
+use Rattle.node_rules.specs.Data.{BranchId, Kind, KeptRow}
 use Rattle.node_rules.specs.Data.decisions
 use Rattle.node_rules.specs.Data.kinds
-use Rattle.node_rules.specs.NodeState.{NodeState, standing_at}
+use Rattle.node_rules.specs.NodeState.{NodeState, kept_row_at}
 use Rattle.run_rules.specs.Data.fates
 use Rattle.run_rules.specs.Facts.{node_at}
 use Rattle.run_rules.specs.Lawful.{History, IsLawfulRun, facts_at}
@@ -27,7 +27,7 @@ CommitsAreHeard = (t : History) → IsLawfulRun t → AllByRecursion (λ x. x.fa
 
 -- a branch whose row has the sender as toward knows its decision by that row, or its node has stopped since it began
 abbrev pub RowHasHeard : History → BranchId → BranchId → Kind → Type 0
-RowHasHeard t from to (kinds.Committed n) = (k : NodeState) (s : Standing) → node_at (facts_at t) to.node ≡ Some k → standing_at k to ≡ Some s → s.toward ≡ Some from
+RowHasHeard t from to (kinds.Committed n) = (k : NodeState) (s : KeptRow) → node_at (facts_at t) to.node ≡ Some k → kept_row_at k to ≡ Some s → s.toward ≡ Some from
     → (s.decision ≢ None) ⊎ HasStopped (facts_at t) to
 RowHasHeard t from to _ = Unit {0}
 

@@ -4,3 +4,6 @@ pub mod ReachLaws
 pub mod BeforeLaws
 pub mod SealLaws
 pub mod TriedTelling
+pub mod GotLaws
+pub mod StayLaws
+pub mod TriedStay

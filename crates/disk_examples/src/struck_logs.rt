@@ -3,7 +3,7 @@ ghost use Rattle.redo_log.specs.Log.{IsUsable};
 ghost use Rattle.std.specs.Prelude.{IfSome};
 
 use crate::logs::{new_log, takes};
-use block_disk::{Disk, How, MemDisk, Order, Stop};
+use block_disk::{Disk, DiskFault, How, MemDisk, Stop};
 use redo_log::{LoadErr, Log, LogErr};
 use std::alloc::Global;
 
@@ -21,7 +21,7 @@ fn one_body(alloc: Global) -> Option<Log<MemDisk>>
 
 /// The disk on which an order struck the append of `cd` behind the body `ab`, once its power is on again. The append
 /// writes 7 bytes behind the gate at place 7, and then this gate.
-fn struck(alloc: Global, order: Order) -> Option<MemDisk> {
+fn struck(alloc: Global, order: DiskFault) -> Option<MemDisk> {
     let mut log = one_body(alloc)?;
     log.arm(order);
     match log.append(b"cd") {
@@ -35,7 +35,7 @@ fn struck(alloc: Global, order: Order) -> Option<MemDisk> {
 }
 
 /// How many bytes such a disk has, and how many bodies are loaded from it.
-fn left_by(alloc: Global, order: Order) -> Option<(usize, usize)> {
+fn left_by(alloc: Global, order: DiskFault) -> Option<(usize, usize)> {
     let disk = struck(alloc, order)?;
     let length = disk.bytes().len();
     match Log::load(alloc, disk) {
@@ -52,13 +52,13 @@ fn left_by(alloc: Global, order: Order) -> Option<(usize, usize)> {
 /// The same where a write keeps so many bytes.
 fn kept(alloc: Global, write: u32, count: u32) -> Option<(usize, usize)> {
     let how = How::Keep(count);
-    left_by(alloc, Order::Stop(Stop { write, how }))
+    left_by(alloc, DiskFault::Stop(Stop { write, how }))
 }
 
 /// The same where a write leaves these bytes.
 fn left(alloc: Global, write: u32, bytes: &[u8]) -> Option<(usize, usize)> {
     let how = How::Leave(bytes.to_vec(alloc).ok()?);
-    left_by(alloc, Order::Stop(Stop { write, how }))
+    left_by(alloc, DiskFault::Stop(Stop { write, how }))
 }
 
 #[test]
@@ -88,14 +88,14 @@ fn a_body_counts_once_its_gate_is_open(rt: HostRuntime) {
 
 #[test]
 fn a_call_that_fails_writes_nothing(rt: HostRuntime) {
-    assert!(rt; left_by(rt.alloc(), Order::Fault(1)) == Some((8, 1)));
-    assert!(rt; left_by(rt.alloc(), Order::Fault(2)) == Some((15, 1)));
-    assert!(rt; left_by(rt.alloc(), Order::Fault(3)) == Some((15, 1)));
-    assert!(rt; left_by(rt.alloc(), Order::Fault(4)) == Some((15, 2)));
+    assert!(rt; left_by(rt.alloc(), DiskFault::Fault(1)) == Some((8, 1)));
+    assert!(rt; left_by(rt.alloc(), DiskFault::Fault(2)) == Some((15, 1)));
+    assert!(rt; left_by(rt.alloc(), DiskFault::Fault(3)) == Some((15, 1)));
+    assert!(rt; left_by(rt.alloc(), DiskFault::Fault(4)) == Some((15, 2)));
 }
 
 #[test]
 fn an_order_past_the_calls_of_an_append_does_not_strike_it(rt: HostRuntime) {
     assert!(rt; kept(rt.alloc(), 3, 0) == None);
-    assert!(rt; left_by(rt.alloc(), Order::Fault(5)) == None);
+    assert!(rt; left_by(rt.alloc(), DiskFault::Fault(5)) == None);
 }

@@ -2,9 +2,8 @@
 //! input and writes the picture to standard output.
 #![tactic(auto)]
 
-use chart_run::draw_script;
+use chart_run::{Status, draw_script};
 use dtx_ports::{ReadPort, WritePort};
-use script_run::Status;
 use std::alloc::AllocError;
 use std::io::ErrorKind;
 use std::process::ExitCode;

@@ -6,7 +6,7 @@ ghost use Rattle.force_cmds.specs.Named.{is_sealed as is_sealed_state, is_id_of,
 
 use crate::IdNames;
 use dtx_values::Name;
-use redo_record::{Standing, State};
+use redo_record::{KeptRow, State};
 use std::alloc::{AllocError, Global};
 use tran_ids::{BranchId, global_text, local_text};
 
@@ -15,7 +15,7 @@ use tran_ids::{BranchId, global_text, local_text};
 pub fn find(
     alloc: Global,
     names: &[Name],
-    kept: &[Standing],
+    kept: &[KeptRow],
     id: &[u8],
 ) -> Result<IdNames, AllocError>
     ensures { IfOk result (λ found. found ≡ named names.now kept.now id.now) }
@@ -68,7 +68,7 @@ fn is_global(alloc: Global, names: &[Name], root: &BranchId, id: &[u8]) -> Resul
     Ok(text.as_slice() == id)
 }
 
-fn is_id(alloc: Global, names: &[Name], id: &[u8], row: &Standing) -> Result<bool, AllocError>
+fn is_id(alloc: Global, names: &[Name], id: &[u8], row: &KeptRow) -> Result<bool, AllocError>
     ensures { IfOk result (λ is. is ≡ is_id_of names.now id.now row.now) }
 {
     let local = is_local(alloc, &row.me, id)?;
@@ -76,7 +76,7 @@ fn is_id(alloc: Global, names: &[Name], id: &[u8], row: &Standing) -> Result<boo
     Ok(local || global)
 }
 
-fn is_named_by(alloc: Global, names: &[Name], id: &[u8], row: &Standing) -> Result<bool, AllocError>
+fn is_named_by(alloc: Global, names: &[Name], id: &[u8], row: &KeptRow) -> Result<bool, AllocError>
     ensures { IfOk result (λ is. is ≡ is_named names.now id.now row.now) }
 {
     let fits = is_id(alloc, names, id, row)?;

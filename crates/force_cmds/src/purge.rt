@@ -3,7 +3,7 @@ ghost use Rattle.std.specs.Prelude.{◌≡◌, IfOk};
 ghost use Rattle.force_cmds.specs.Named.{is_purged_by as is_purged, may_purge as may_purge_row, purged};
 
 use crate::finding::{is_local, is_sealed};
-use redo_record::Standing;
+use redo_record::KeptRow;
 use std::alloc::{AllocError, Global};
 use tran_ids::BranchId;
 
@@ -11,7 +11,7 @@ use tran_ids::BranchId;
 /// committed or forced for PURGE_LOST_DB_ENTRY. Fails where memory runs out.
 pub fn may_purge(
     alloc: Global,
-    kept: &[Standing],
+    kept: &[KeptRow],
     id: &[u8],
     mixed: bool,
 ) -> Result<Option<BranchId>, AllocError>
@@ -25,7 +25,7 @@ pub fn may_purge(
     Ok(None)
 }
 
-fn is_purged_by(row: &Standing, mixed: bool) -> bool
+fn is_purged_by(row: &KeptRow, mixed: bool) -> bool
     ensures { result ≡ is_purged mixed row.now }
 {
     if mixed {
@@ -35,7 +35,7 @@ fn is_purged_by(row: &Standing, mixed: bool) -> bool
     }
 }
 
-fn may_purge_it(alloc: Global, row: &Standing, id: &[u8], mixed: bool) -> Result<bool, AllocError>
+fn may_purge_it(alloc: Global, row: &KeptRow, id: &[u8], mixed: bool) -> Result<bool, AllocError>
     ensures { IfOk result (λ may. may ≡ may_purge_row mixed id.now row.now) }
 {
     let fits = is_local(alloc, &row.me, id)?;

@@ -12,7 +12,7 @@ use Rattle.node_disk.specs.Effects.{Tells}
 use Rattle.node_disk.specs.Incoming.{IsReadAs}
 use Rattle.node_disk.specs.OnDisk.{disk_of, kept_of, place_of, turn_at, IsRunning, IsSpellable}
 use Rattle.node_disk.specs.Starts.{CanBeStarted}
-use Rattle.node_disk.specs.declared.effects.Effects.{Effects}
+use Rattle.node_disk.specs.declared.effects.DurableTurn.{DurableTurn}
 use Rattle.node_disk.specs.declared.incoming.Incoming.{Incoming}
 use Rattle.node_disk.specs.declared.incoming.Incoming.TheVariants as comings
 use Rattle.node_disk.specs.declared.node.Node.{Node}
@@ -26,7 +26,7 @@ use Rattle.node_rules.specs.declared.session.Session.{Session}
 use Rattle.node_rules.specs.declared.work.Work.{Work}
 use Rattle.node_rules.specs.Client.{root_by}
 use Rattle.node_rules.specs.Inputs.{IsSession}
-use Rattle.node_rules.specs.NodeState.{NodeState, Outcome, live_id, live_at, with_work}
+use Rattle.node_rules.specs.NodeState.{NodeState, TurnOutput, live_id, live_at, with_work}
 use Rattle.node_rules.specs.Sessions.{session_at}
 use Rattle.node_rules.specs.Turn.{kind_scn, turn_of}
 use Rattle.node_ready_laws.specs.Names.{MakesNamed}
@@ -213,12 +213,12 @@ pub spellable : TurnsKeepBytes → RecordsHaveBytes → (bound : ℕ) (asks : Bo
 spellable bytes_law records_law bound asks node incoming alone few coming meets input read =
     has_spelling bound (place_of node) (kept_of node) asks incoming input alone.kept few coming meets read bytes_law records_law
 
-pub still_alone : TurnsKeepBytes → NumbersStayWithin → (bound : ℕ) (asks : Bool) (before after : Node DiskState) (incoming : Incoming) (e : Effects) → IsAlone bound before → bound < 1000000
+pub still_alone : TurnsKeepBytes → NumbersStayWithin → (bound : ℕ) (asks : Bool) (before after : Node DiskState) (incoming : Incoming) (e : DurableTurn) → IsAlone bound before → bound < 1000000
     → IsComing asks incoming → Meets asks incoming (kept_of before).lives → IsReadAs incoming e.input → Tells (turn_at before e.input) (kept_of after) e → IsRunning bytes_of images_of after
     → IsReady (place_of after) (kept_of after) → place_of after ≡ place_of before → CanBeStarted bytes_of images_of (disk_of after) → IsAlone (bound + 1) after
 still_alone bytes_law numbers_law bound asks before after incoming e alone few coming meets read tells running ready place starts =
     let p : Place = place_of before in
-    let o : Outcome = turn_of p (kept_of before) e.input in
+    let o : TurnOutput = turn_of p (kept_of before) e.input in
     let here : IsReady p (kept_of after) = subst (λ (q : Place). IsReady q (kept_of after)) place ready in
     let kept : IsKeptWithin (bound + 1) p o.after = kept_after bound p (kept_of before) asks incoming e.input alone.kept few coming meets read bytes_law numbers_law (subst (λ (k : NodeState). IsReady p k) tells.after here) in
     record {

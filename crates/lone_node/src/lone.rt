@@ -8,10 +8,10 @@ use crate::coming::Comes;
 use crate::places::place;
 use crate::starting::{makes, starts};
 use crate::turns::take;
-use block_disk::{Armable, MemDisk, Order};
-use node_disk::{CutAt, Effects, Node};
+use block_disk::{Armable, DiskFault, MemDisk};
+use node_disk::{CutAt, DurableTurn, Node};
 use node_points::Point;
-use redo_record::Standing;
+use redo_record::KeptRow;
 use std::alloc::Global;
 use std::marker::Model;
 
@@ -81,7 +81,7 @@ impl LoneNode {
         alloc: Global,
         comes: &Comes,
         points: &[Point],
-    ) -> Result<Effects, Option<CutAt>> {
+    ) -> Result<DurableTurn, Option<CutAt>> {
         if self.is_up {
             let bound = self.bound;
             match take(alloc, &mut self.node, bound, comes, points) {
@@ -112,7 +112,7 @@ impl LoneNode {
 
     /// Gives its disk an order to stop or to fail.
     #[tactic(auto, using(crate::proofs::PlayLemmas::armed))]
-    pub fn arm(&mut self, order: Order) {
+    pub fn arm(&mut self, order: DiskFault) {
         self.node.arm(order);
     }
 
@@ -153,7 +153,7 @@ impl LoneNode {
     }
 
     /// The rows of the branches that it keeps.
-    pub fn kept(&self) -> &[Standing] {
+    pub fn kept(&self) -> &[KeptRow] {
         self.node.kept()
     }
 }

@@ -2,7 +2,7 @@
 use crate::coming::Comes;
 use crate::lone::LoneNode;
 use crate::says::{Letter, bytes_of};
-use node_disk::{Effects, Finished, Mailed};
+use node_disk::{DurableTurn, Finished, Mailed};
 use node_points::Point;
 use redo_record::{Decision, RedoRecord};
 use report::answer_lines;
@@ -102,7 +102,7 @@ fn are_ended(alloc: Global, ends: &[Finished], lines: &[&[u8]]) -> bool {
 /// Whether a turn tells just this.
 fn tells(
     alloc: Global,
-    effects: Effects,
+    effects: DurableTurn,
     wrote: Wrote,
     letters: &[Letter],
     lines: &[&[u8]],

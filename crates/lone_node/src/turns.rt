@@ -7,7 +7,7 @@ ghost use Rattle.lone_node.specs.Played.{commits as commits_by, works as works_b
 
 use crate::coming::{Comes, incoming};
 use block_disk::MemDisk;
-use node_disk::{CutAt, Effects, Incoming, Node, TurnErr};
+use node_disk::{CutAt, DurableTurn, Incoming, Node, TurnErr};
 use node_points::Point;
 use node_ready_laws::turns_stay_ready;
 use node_spell_laws::{messages_fit, records_fit};
@@ -89,7 +89,7 @@ fn turn(
     incoming: Incoming,
     asks: bool,
     points: &[Point],
-) -> Result<Effects, Option<CutAt>>
+) -> Result<DurableTurn, Option<CutAt>>
     requires alone { IsAlone bound node.old }
     requires few { bound < 1000000 }
     requires coming { IsComing asks incoming }
@@ -113,7 +113,7 @@ fn take_this(
     incoming: Incoming,
     asks: bool,
     points: &[Point],
-) -> Result<Effects, Option<CutAt>>
+) -> Result<DurableTurn, Option<CutAt>>
     requires alone { IsAlone bound node.old }
     requires coming { IsComing asks incoming }
     ensures alone { OnOk result (IsAlone (bound + 1) node.new) }
@@ -136,7 +136,7 @@ pub(crate) fn take(
     bound: u64,
     comes: &Comes,
     points: &[Point],
-) -> Result<Effects, Option<CutAt>>
+) -> Result<DurableTurn, Option<CutAt>>
     requires alone { IsAlone bound node.old }
     ensures alone { OnOk result (IsAlone (bound + 1) node.new) }
     ensures few { OnOk result (bound < 1000000) }

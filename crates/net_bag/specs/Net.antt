@@ -13,7 +13,7 @@ use Rattle.net_bag.specs.declared.packet.Fate.TheVariants as fates
 use Rattle.net_bag.specs.declared.packet.Packet.{Packet}
 
 -- An order, given by LOSE NEXT, to lose the next message of a kind from one node to another.
-pub record Order : Type 0 where
+pub record LoseOrder : Type 0 where
   pub kind : KindName
   pub from : ℕ
   pub to : ℕ
@@ -24,7 +24,7 @@ pub record Net : Type 0 where
   pub packets : List Packet
   pub cuts : List (ℕ × ℕ)
   pub down : List ℕ
-  pub orders : List Order
+  pub orders : List LoseOrder
 
 -- before any message
 abbrev pub still : Net
@@ -47,11 +47,11 @@ abbrev pub is_blocked : Net → Msg → Bool
 is_blocked net m = is_cut net m.from.node m.to.node || is_down net m.to.node
 
 -- whether an order fits a message
-abbrev pub is_order_for : Msg → Order → Bool
+abbrev pub is_order_for : Msg → LoseOrder → Bool
 is_order_for m o = same_kind o.kind (name_of_kind m.kind) && ((o.from == m.from.node) && (o.to == m.to.node))
 
 -- the earliest order that fits is used up
-abbrev pub use_order : Msg → List Order → List Order
+abbrev pub use_order : Msg → List LoseOrder → List LoseOrder
 use_order m [] = []
 use_order m (o ∷ os) = if is_order_for m o then os else o ∷ use_order m os
 
@@ -68,7 +68,7 @@ abbrev pub first_fate : Net → Msg → Fate
 first_fate net m = if is_lost_at_once net m then fates.Lost else fates.InFlight
 
 -- the orders left after a message is sent: one that cannot pass uses up none
-abbrev pub orders_left : Net → Msg → List Order
+abbrev pub orders_left : Net → Msg → List LoseOrder
 orders_left net m = if is_blocked net m then net.orders else use_order m net.orders
 
 -- one message is sent
@@ -169,7 +169,7 @@ unfoldable pub started : Net → ℕ → Net
 started net n = record net { down = filter (λ m. not (m == n)) net.down }
 
 -- one more order to lose a message
-abbrev pub with_order : Net → Order → Net
+abbrev pub with_order : Net → LoseOrder → Net
 with_order net o = record net { orders = net.orders ++ o ∷ [] }
 
 -- the message in flight with the least number

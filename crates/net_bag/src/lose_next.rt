@@ -17,9 +17,9 @@ pub struct LoseNext {
 }
 
 impl Model for LoseNext {
-    ghost use Rattle.net_bag.specs.Net.{Order};
+    ghost use Rattle.net_bag.specs.Net.{LoseOrder};
 
-    ghost Value = { Order };
+    ghost Value = { LoseOrder };
 
     ghost view = { λ o. record { kind = o.kind; from = o.from; to = o.to } };
 }

@@ -2,7 +2,7 @@
 //! printed.
 use dtx_values::{Advice, Bytes, Listing, Name, NameErr, Texts};
 use pending_view::{neighbors_view, pending_view};
-use redo_record::{Decision, Kid, Standing, State};
+use redo_record::{Decision, KeptRow, Kid, State};
 use session_tree::{Edge, Live, Phase, Vote};
 use std::alloc::{AllocError, Global};
 use tran_ids::BranchId;
@@ -54,8 +54,8 @@ fn bytes(alloc: Global, text: &[u8]) -> Result<Bytes, AllocError> {
 }
 
 /// A prepared branch of HQ below this root, towards which its commit point site is, without a child or a comment.
-fn prepared(alloc: Global, me: BranchId, root: BranchId) -> Standing {
-    Standing {
+fn prepared(alloc: Global, me: BranchId, root: BranchId) -> KeptRow {
+    KeptRow {
         me,
         root,
         scn: 5,
@@ -83,7 +83,7 @@ fn one_child(alloc: Global, branch: BranchId, link: &[u8]) -> Result<Listing<Kid
 }
 
 /// A branch that has committed at its commit point site.
-fn committed(alloc: Global) -> Standing {
+fn committed(alloc: Global) -> KeptRow {
     let mut row = prepared(alloc, branch(HQ, 1, 65, 1), branch(WAREHOUSE, 1, 1, 1));
     row.toward = None;
     row.state = State::Committed;
@@ -92,7 +92,7 @@ fn committed(alloc: Global) -> Standing {
 }
 
 /// A branch in doubt, with a child at WAREHOUSE.
-fn in_doubt(alloc: Global) -> Result<Standing, NameErr> {
+fn in_doubt(alloc: Global) -> Result<KeptRow, NameErr> {
     let children = one_child(alloc, branch(WAREHOUSE, 1, 65, 1), b"WAREHOUSE")?;
     let comment = bytes(alloc, b"orders")?;
     let mut row = prepared(alloc, branch(HQ, 1, 66, 1), branch(SALES, 1, 1, 1));
@@ -103,7 +103,7 @@ fn in_doubt(alloc: Global) -> Result<Standing, NameErr> {
 }
 
 /// A branch whose row a purge took out of the view.
-fn purged(alloc: Global) -> Standing {
+fn purged(alloc: Global) -> KeptRow {
     let mut row = prepared(alloc, branch(HQ, 1, 67, 1), branch(SALES, 1, 1, 2));
     row.state = State::ForcedCommit(9);
     row.mixed = true;
@@ -112,7 +112,7 @@ fn purged(alloc: Global) -> Standing {
 }
 
 /// A branch that was rolled back by force. Its commit point site is below its child.
-fn rolled_back(alloc: Global) -> Result<Standing, NameErr> {
+fn rolled_back(alloc: Global) -> Result<KeptRow, NameErr> {
     let child = branch(WAREHOUSE, 1, 70, 1);
     let children = one_child(alloc, child, b"DEPOT")?;
     let mut row = prepared(alloc, branch(HQ, 2, 65, 1), branch(SALES, 1, 1, 3));
@@ -124,7 +124,7 @@ fn rolled_back(alloc: Global) -> Result<Standing, NameErr> {
     Ok(row)
 }
 
-fn kept(alloc: Global) -> Result<Vec<Standing>, NameErr> {
+fn kept(alloc: Global) -> Result<Vec<KeptRow>, NameErr> {
     let mut kept = Vec::new(alloc);
     kept.push(committed(alloc))?;
     kept.push(in_doubt(alloc)?)?;
@@ -186,7 +186,7 @@ fn are(alloc: Global, lines: &Texts, due: &str) -> Result<bool, AllocError> {
 
 fn is_pending_shown(
     alloc: Global,
-    kept: &[Standing],
+    kept: &[KeptRow],
     lives: &[Live],
     due: &str,
 ) -> Result<bool, NameErr> {
@@ -195,7 +195,7 @@ fn is_pending_shown(
     Ok(are(alloc, &lines, due)?)
 }
 
-fn are_neighbors_shown(alloc: Global, kept: &[Standing], due: &str) -> Result<bool, NameErr> {
+fn are_neighbors_shown(alloc: Global, kept: &[KeptRow], due: &str) -> Result<bool, NameErr> {
     let names = names(alloc)?;
     let lines = neighbors_view(alloc, &names, kept)?;
     Ok(are(alloc, &lines, due)?)

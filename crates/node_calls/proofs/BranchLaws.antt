@@ -8,11 +8,11 @@ use Rattle.tran_ids.proofs.ListedLemmas.{item_is, put_found}
 use Rattle.session_tree.specs.Tree.{count}
 use Rattle.node_rules.specs.Data.{Live}
 use Rattle.node_rules.specs.declared.work.Work.{Work}
-use Rattle.node_rules.specs.NodeState.{NodeState, Branch, Deed as DeedByRules, live_id, work_id, work_or, with_work, branch_at, with_branch, nothing}
+use Rattle.node_rules.specs.NodeState.{NodeState, Branch, TurnDraft as DraftByRules, live_id, work_id, work_or, with_work, branch_at, with_branch, nothing}
 use Rattle.node_state.specs.Changed.{change_item, with_item}
 use Rattle.node_state.specs.Works.{work_of, change_work}
-use Rattle.node_deeds.specs.declared.deed.Deed.{Deed}
-use Rattle.node_deeds.specs.Gives.{Gives}
+use Rattle.node_drafts.specs.declared.draft.TurnDraft.{TurnDraft}
+use Rattle.node_drafts.specs.Gives.{Gives}
 use Rattle.node_calls.specs.Handled.{at_live}
 
 module _ {A : Type 0} (id : A → BranchId) where
@@ -46,18 +46,18 @@ module _ {A : Type 0} (id : A → BranchId) where
   put_twice (z ∷ zs) x y is = twice_step x y z zs is (same (id z) (id x)) refl (put_twice zs x y is)
 
 -- what a branch does that is not live
-nobody : (k : NodeState) (b : BranchId) (f : Branch → DeedByRules) → item_at live_id k.lives b ≡ None → at_live k f (branch_at k b) ≡ nothing k
+nobody : (k : NodeState) (b : BranchId) (f : Branch → DraftByRules) → item_at live_id k.lives b ≡ None → at_live k f (branch_at k b) ≡ nothing k
 nobody k b f none = ap (λ o. at_live k f (with_work k o)) none
 
-pub nothing_so : (k : NodeState) (b : BranchId) (f : Branch → DeedByRules) (deed : Deed) → item_at live_id k.lives b ≡ None → Gives (nothing k) k deed → Gives (at_live k f (branch_at k b)) k deed
-nothing_so k b f deed none does = subst (λ d. Gives d k deed) (sym (nobody k b f none)) does
+pub nothing_so : (k : NodeState) (b : BranchId) (f : Branch → DraftByRules) (draft : TurnDraft) → item_at live_id k.lives b ≡ None → Gives (nothing k) k draft → Gives (at_live k f (branch_at k b)) k draft
+nothing_so k b f draft none does = subst (λ d. Gives d k draft) (sym (nobody k b f none)) does
 
 -- the live branch of an id, with its calls
 abbrev pub branch_here : NodeState → BranchId → Live → Branch
 branch_here k b l = record { live = l; work = work_of k.works b }
 
 -- what it does
-pub somebody : (k : NodeState) (b : BranchId) (l : Live) (f : Branch → DeedByRules) → item_at live_id k.lives b ≡ Some l → at_live k f (branch_at k b) ≡ f (branch_here k b l)
+pub somebody : (k : NodeState) (b : BranchId) (l : Live) (f : Branch → DraftByRules) → item_at live_id k.lives b ≡ Some l → at_live k f (branch_at k b) ≡ f (branch_here k b l)
 somebody k b l f is = ap (λ o. at_live k f (with_work k o)) is ∙ ap (λ c. f (record { live = l; work = work_of k.works c })) (item_is live_id k.lives b l is)
 
 of_found : (b : BranchId) (o : Option Work) → ((w : Work) → o ≡ Some w → w.branch ≡ b) → (work_or b o).branch ≡ b

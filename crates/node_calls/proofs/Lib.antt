@@ -1,5 +1,5 @@
 mod BranchLaws
-mod DeedLaws
+mod DraftLaws
 mod OpenedLaws
 mod ReplyLaws
 mod WayLaws

@@ -11,19 +11,19 @@ use Rattle.node_rules.specs.declared.work.Going.{Going}
 use Rattle.node_rules.specs.declared.work.Waits.{Waits}
 use Rattle.node_rules.specs.declared.work.Work.{Work}
 use Rattle.node_rules.specs.declared.work.Waits.TheVariants as waiting
-use Rattle.node_rules.specs.NodeState.{NodeState, Branch, Deed as DeedByRules, nothing, live_id, branch_at, with_branch}
+use Rattle.node_rules.specs.NodeState.{NodeState, Branch, TurnDraft as DraftByRules, nothing, live_id, branch_at, with_branch}
 use Rattle.node_rules.specs.Calls.{call_pends, called, calls_over, exec_to, next_call, on_opened, opened_going, opened_waits, with_edge}
 use Rattle.session_tree.specs.Live.{peer_of}
 use Rattle.node_state.specs.Changed.{change_item, with_item}
 use Rattle.node_state.specs.Works.{change_work, with_child, work_of}
-use Rattle.node_deeds.specs.declared.deed.Deed.{Deed}
-use Rattle.node_deeds.specs.Gives.{Gives}
+use Rattle.node_drafts.specs.declared.draft.TurnDraft.{TurnDraft}
+use Rattle.node_drafts.specs.Gives.{Gives}
 use Rattle.node_calls.specs.declared.opened.Waited.{Waited}
 use Rattle.node_calls.specs.Handled.{at_live, goes_on, waited_for, waits_for, HasRoomFor, HasRoomWhile}
 use Rattle.node_calls.proofs.BranchLaws.{work_branch, branch_here, somebody, found_changed, changed_twice, calls_changed}
 
 -- what a branch does with what waited for its child, and nothing where nothing did
-abbrev goes_if : NodeState → Branch → BranchId → ℕ → Option Waited → DeedByRules
+abbrev goes_if : NodeState → Branch → BranchId → ℕ → Option Waited → DraftByRules
 goes_if k x from strength None = nothing k
 goes_if k x from strength (Some w) = goes_on k x from strength w
 
@@ -100,16 +100,16 @@ module _ (k : NodeState) (b : BranchId) (l : Live) (is : item_at live_id k.lives
   at_once = somebody k b l (λ x. on_opened k x from edge strength) is ∙ opened_is k it from edge strength (work_of k.works b).going
 
   -- nothing waits for this child
-  pub opened_ignored : (deed : Deed) → waited_for edge (next_edge l) (work_of k.works b).going ≡ None → Gives (nothing k) k deed
-      → Gives (at_live k (λ x. on_opened k x from edge strength) (branch_at k b)) k deed
-  opened_ignored deed none does = subst (λ d. Gives d k deed) (sym (at_once ∙ ap (goes_if k it from strength) none)) does
+  pub opened_ignored : (draft : TurnDraft) → waited_for edge (next_edge l) (work_of k.works b).going ≡ None → Gives (nothing k) k draft
+      → Gives (at_live k (λ x. on_opened k x from edge strength) (branch_at k b)) k draft
+  opened_ignored draft none does = subst (λ d. Gives d k draft) (sym (at_once ∙ ap (goes_if k it from strength) none)) does
 
   -- the branch with its new child, called
-  pub opened_so : (w : Waited) (e : Edge) (given : ℕ) (lives : List Live) (works : List Work) (after : NodeState) (deed : Deed) → waited_for edge (next_edge l) (work_of k.works b).going ≡ Some w
+  pub opened_so : (w : Waited) (e : Edge) (given : ℕ) (lives : List Live) (works : List Work) (after : NodeState) (draft : TurnDraft) → waited_for edge (next_edge l) (work_of k.works b).going ≡ Some w
       → e ≡ new_edge from w.link strength → given ≡ w.room - 1 → lives ≡ change_item live_id (λ y. add_edge y e) k.lives b → works ≡ change_work with_child k.works b
-      → Gives (at_live (record k { lives = lives; works = works }) (λ x. calls_over (record k { lives = lives; works = works }) x edge w.statement given) (branch_at (record k { lives = lives; works = works }) b)) after deed
-      → Gives (at_live k (λ x. on_opened k x from edge strength) (branch_at k b)) after deed
-  opened_so w e given lives works after deed waits is_e is_given is_lives is_works does =
+      → Gives (at_live (record k { lives = lives; works = works }) (λ x. calls_over (record k { lives = lives; works = works }) x edge w.statement given) (branch_at (record k { lives = lives; works = works }) b)) after draft
+      → Gives (at_live k (λ x. on_opened k x from edge strength) (branch_at k b)) after draft
+  opened_so w e given lives works after draft waits is_e is_given is_lives is_works does =
       let m : NodeState = record k { lives = lives; works = works } in
       let x = with_edge it (new_edge from w.link strength) in
       let put : m ≡ with_branch k x =
@@ -124,4 +124,4 @@ module _ (k : NodeState) (b : BranchId) (l : Live) (is : item_at live_id k.lives
       ∙ calls_again k x edge w.statement (w.room - 1) in
       let rules : at_live k (λ y. on_opened k y from edge strength) (branch_at k b) ≡ calls_over k x edge w.statement (w.room - 1) =
       at_once ∙ ap (goes_if k it from strength) waits ∙ ap (λ i. calls_over k x i w.statement (w.room - 1)) (sym (number_is edge (next_edge l) (work_of k.works b).going w waits)) in
-      subst (λ d. Gives d after deed) (code ∙ sym rules) does
+      subst (λ d. Gives d after draft) (code ∙ sym rules) does

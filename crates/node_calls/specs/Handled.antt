@@ -11,7 +11,7 @@ use Rattle.node_rules.specs.declared.work.Going.{Going}
 use Rattle.node_rules.specs.declared.work.Waits.{Waits}
 use Rattle.node_rules.specs.Data.answers
 use Rattle.node_rules.specs.declared.work.Waits.TheVariants as waiting
-use Rattle.node_rules.specs.NodeState.{NodeState, Branch, Deed, live_id, nothing}
+use Rattle.node_rules.specs.NodeState.{NodeState, Branch, TurnDraft, live_id, nothing}
 use Rattle.node_rules.specs.Ids.{decimal}
 use Rattle.node_rules.specs.Words.{one}
 use Rattle.node_rules.specs.Refusals.{ora}
@@ -27,7 +27,7 @@ use Rattle.node_calls.specs.declared.opened.Waited.{Waited}
 use Rattle.node_calls.specs.declared.replied.Replier.{Replier}
 
 -- what a live branch does, and nothing where it is not live
-abbrev pub at_live : NodeState → (Branch → Deed) → Option Branch → Deed
+abbrev pub at_live : NodeState → (Branch → TurnDraft) → Option Branch → TurnDraft
 at_live k f None = nothing k
 at_live k f (Some x) = f x
 
@@ -42,7 +42,7 @@ waited_for number next None = None
 waited_for number next (Some g) = if number == next then waits_for g g.waits else None
 
 -- the branch goes on with what waited for its new child
-abbrev pub goes_on : NodeState → Branch → BranchId → ℕ → Waited → Deed
+abbrev pub goes_on : NodeState → Branch → BranchId → ℕ → Waited → TurnDraft
 goes_on k x from strength w = calls_over k (with_edge x (new_edge from w.link strength)) (next_edge x.live) w.statement (w.room - 1)
 
 -- the child that replies, with its number
@@ -50,7 +50,7 @@ abbrev pub replier_as : Replier → ℕ × Edge
 replier_as r = (r.number, r.edge.now)
 
 -- a transaction that can only be rolled back, after an answer of this code: ORA-02067 where its root is live
-abbrev pub refuses_again : NodeState → ℕ → ℕ → Option Branch → Deed
+abbrev pub refuses_again : NodeState → ℕ → ℕ → Option Branch → TurnDraft
 refuses_again k n code None = nothing k
 refuses_again k n code (Some x) = refuses k n (ora 2067 (one (decimal code)))
 

@@ -1,11 +1,11 @@
 //! ALTER SESSION ADVISE.
 ghost use Rattle.std.specs.Prelude.{◌≡◌, IfOk};
 ghost use Rattle.node_rules.specs.Client.{advise as advise_of};
-ghost use Rattle.node_deeds.specs.Gives.{Gives};
+ghost use Rattle.node_drafts.specs.Gives.{Gives};
 ghost use Rattle.node_memory.specs.Parts.{kept_in};
 
 use dtx_values::{Advice, Answer, Done};
-use node_deeds::Deed;
+use node_drafts::TurnDraft;
 use node_memory::Memory;
 use std::alloc::{AllocError, Global};
 
@@ -15,11 +15,11 @@ pub fn advise(
     alloc: Global,
     session: u32,
     advice: Option<Advice>,
-) -> Result<Deed, AllocError>
-    ensures gives { IfOk result (λ deed. Gives (advise_of (kept_in memory.old) session advice) (kept_in memory.new) deed) }
+) -> Result<TurnDraft, AllocError>
+    ensures gives { IfOk result (λ draft. Gives (advise_of (kept_in memory.old) session advice) (kept_in memory.new) draft) }
     ensures place { memory.new.place ≡ memory.old.place }
 {
-    let deed = Deed::ending(alloc, session, Answer::Did(Done::SessionAltered, 0))?;
+    let draft = TurnDraft::ending(alloc, session, Answer::Did(Done::SessionAltered, 0))?;
     memory.sessions.set_advice(session, advice);
-    Ok(deed)
+    Ok(draft)
 }

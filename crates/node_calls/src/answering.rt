@@ -6,13 +6,13 @@ ghost use Rattle.node_rules.specs.NodeState.{branch_at};
 ghost use Rattle.node_rules.specs.Calls.{answered, replies as replies_of};
 ghost use Rattle.node_rules.specs.Sessions.{with_call};
 ghost use Rattle.node_state.specs.Works.{answered_with, change_work, work_of};
-ghost use Rattle.node_deeds.specs.Gives.{Gives, branch_with};
+ghost use Rattle.node_drafts.specs.Gives.{Gives, branch_with};
 ghost use Rattle.node_memory.specs.Parts.{kept_in};
 ghost use Rattle.node_calls.specs.Handled.{at_live, HasFew};
 
 use dtx_values::{Answer, Duplicate};
 use link_session::ReplyFields;
-use node_deeds::{Deed, replies, reply_fields};
+use node_drafts::{TurnDraft, replies, reply_fields};
 use node_memory::Memory;
 use node_rules::PendingCall;
 use node_state::{Works, no_work};
@@ -28,21 +28,21 @@ pub(crate) fn answer(
     alloc: Global,
     branch: &BranchId,
     answer: Answer,
-) -> Result<Deed, AllocError>
+) -> Result<TurnDraft, AllocError>
     requires { HasFew memory.old branch.now }
-    ensures gives { IfOk result (λ deed.
-        Gives (at_live (kept_in memory.old) (λ x. answered (kept_in memory.old) x answer) (branch_at (kept_in memory.old) branch.now)) (kept_in memory.new) deed) }
+    ensures gives { IfOk result (λ draft.
+        Gives (at_live (kept_in memory.old) (λ x. answered (kept_in memory.old) x answer) (branch_at (kept_in memory.old) branch.now)) (kept_in memory.new) draft) }
     ensures place { memory.new.place ≡ memory.old.place }
 {
     let Some(live) = memory.lives.get(branch) else {
         drop(answer);
-        return Ok(Deed::nothing(alloc));
+        return Ok(TurnDraft::nothing(alloc));
     };
     match live.parent {
         None => {
             let session = live.me.session;
-            let deed = answer_client(memory, alloc, branch, session, answer)?;
-            Ok(deed)
+            let draft = answer_client(memory, alloc, branch, session, answer)?;
+            Ok(draft)
         }
         Some(parent) => {
             let fields = reply_fields(live, answer);
@@ -52,8 +52,8 @@ pub(crate) fn answer(
                     Err(error)
                 }
                 Ok(says) => {
-                    let deed = answer_parent(memory, alloc, branch, fields, says)?;
-                    Ok(deed)
+                    let draft = answer_parent(memory, alloc, branch, fields, says)?;
+                    Ok(draft)
                 }
             }
         }
@@ -67,13 +67,13 @@ fn answer_parent(
     branch: &BranchId,
     fields: ReplyFields,
     says: Posts,
-) -> Result<Deed, AllocError>
+) -> Result<TurnDraft, AllocError>
     ensures after { OnOk result (kept_in memory.new ≡ record (kept_in memory.old) { works = change_work (answered_with (Some fields)) memory.old.works branch.now }) }
-    ensures deed { IfOk result (λ deed. deed ≡ record { wrote = None; says = says; ended = [] }) }
+    ensures draft { IfOk result (λ draft. draft ≡ record { wrote = None; says = says; ended = [] }) }
     ensures place { memory.new.place ≡ memory.old.place }
 {
     memory.works.answer(alloc, branch, Some(fields))?;
-    Ok(Deed::saying(alloc, says))
+    Ok(TurnDraft::saying(alloc, says))
 }
 
 // At a root the call of its session ends.
@@ -83,20 +83,20 @@ fn answer_client(
     branch: &BranchId,
     session: u32,
     answer: Answer,
-) -> Result<Deed, AllocError>
+) -> Result<TurnDraft, AllocError>
     ensures after { OnOk result (kept_in memory.new ≡ record (kept_in memory.old) { works = change_work (answered_with None) memory.old.works branch.now; sessions = with_call memory.old.sessions session pending.NoCall }) }
-    ensures deed { IfOk result (λ deed. deed ≡ record { wrote = None; says = []; ended = (record { session = session; answer = answer }) ∷ [] }) }
+    ensures draft { IfOk result (λ draft. draft ≡ record { wrote = None; says = []; ended = (record { session = session; answer = answer }) ∷ [] }) }
     ensures place { memory.new.place ≡ memory.old.place }
 {
-    let deed = Deed::ending(alloc, session, answer)?;
+    let draft = TurnDraft::ending(alloc, session, answer)?;
     match memory.works.answer(alloc, branch, None) {
         Err(error) => {
-            drop(deed);
+            drop(draft);
             Err(error)
         }
         Ok(()) => {
             memory.sessions.set_call(session, PendingCall::NoCall);
-            Ok(deed)
+            Ok(draft)
         }
     }
 }

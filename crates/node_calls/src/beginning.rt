@@ -6,14 +6,14 @@ ghost use Rattle.session_tree.specs.Live.{fresh_live};
 ghost use Rattle.node_rules.specs.NodeState.{branch_at, live_id};
 ghost use Rattle.node_rules.specs.Sessions.{session_at};
 ghost use Rattle.node_rules.specs.Client.{begun, begun_by, new_root as new_root_of, fresh_root as fresh_root_of, statement_by, statement_call as statement_call_of};
-ghost use Rattle.node_deeds.specs.Gives.{Gives};
+ghost use Rattle.node_drafts.specs.Gives.{Gives};
 ghost use Rattle.node_memory.specs.Parts.{kept_in};
 ghost use Rattle.node_calls.specs.Handled.{refuses_again, HasFew, TakesStatement};
 
 use crate::opening::strength_of;
 use crate::routing::statement_at;
 use dtx_values::{Answer, Listing};
-use node_deeds::{Deed, needs_rollback};
+use node_drafts::{TurnDraft, needs_rollback};
 use node_memory::Memory;
 use session_tree::{Live, Phase};
 use sql_statement::Stmt;
@@ -28,19 +28,19 @@ pub fn statement_call(
     alloc: Global,
     session: u32,
     statement: &Stmt,
-) -> Result<Deed, AllocError>
+) -> Result<TurnDraft, AllocError>
     requires seq { (session_at memory.old.sessions session).seq + 1 < 2 ^ 32 }
     requires new { item_at live_id memory.old.lives (new_root_of memory.old.place (kept_in memory.old) session) ≡ None }
     requires takes { (root : BranchId) → TakesStatement memory.old root statement.now }
-    ensures gives { IfOk result (λ deed. Gives (statement_call_of memory.old.place (begun memory.old.place (kept_in memory.old) session) session statement.now) (kept_in memory.new) deed) }
+    ensures gives { IfOk result (λ draft. Gives (statement_call_of memory.old.place (begun memory.old.place (kept_in memory.old) session) session statement.now) (kept_in memory.new) draft) }
     ensures place { memory.new.place ≡ memory.old.place }
 {
     begin(memory, alloc, session)?;
     match memory.sessions.at(session).root {
-        None => Ok(Deed::nothing(alloc)),
+        None => Ok(TurnDraft::nothing(alloc)),
         Some(root) => {
-            let deed = statement_in(memory, alloc, session, &root, statement)?;
-            Ok(deed)
+            let draft = statement_in(memory, alloc, session, &root, statement)?;
+            Ok(draft)
         }
     }
 }
@@ -112,16 +112,16 @@ fn statement_in(
     session: u32,
     root: &BranchId,
     statement: &Stmt,
-) -> Result<Deed, AllocError>
+) -> Result<TurnDraft, AllocError>
     requires { TakesStatement memory.old root.now statement.now }
-    ensures gives { IfOk result (λ deed.
-        Gives (statement_by memory.old.place (kept_in memory.old) session statement.now (session_at memory.old.sessions session).code (branch_at (kept_in memory.old) root.now)) (kept_in memory.new) deed) }
+    ensures gives { IfOk result (λ draft.
+        Gives (statement_by memory.old.place (kept_in memory.old) session statement.now (session_at memory.old.sessions session).code (branch_at (kept_in memory.old) root.now)) (kept_in memory.new) draft) }
     ensures place { memory.new.place ≡ memory.old.place }
 {
     match memory.sessions.at(session).code {
         None => {
-            let deed = statement_at(memory, alloc, root, statement, 0)?;
-            Ok(deed)
+            let draft = statement_at(memory, alloc, root, statement, 0)?;
+            Ok(draft)
         }
         Some(code) => refuse_again(memory, alloc, session, root, code),
     }
@@ -135,14 +135,14 @@ fn refuse_again(
     session: u32,
     root: &BranchId,
     code: u16,
-) -> Result<Deed, AllocError>
-    ensures { IfOk result (λ deed. Gives (refuses_again (kept_in memory.now) session code (branch_at (kept_in memory.now) root.now)) (kept_in memory.now) deed) }
+) -> Result<TurnDraft, AllocError>
+    ensures { IfOk result (λ draft. Gives (refuses_again (kept_in memory.now) session code (branch_at (kept_in memory.now) root.now)) (kept_in memory.now) draft) }
 {
     match memory.lives.get(root) {
-        None => Ok(Deed::nothing(alloc)),
+        None => Ok(TurnDraft::nothing(alloc)),
         Some(_) => {
             let refusal = needs_rollback(alloc, code)?;
-            Deed::ending(alloc, session, Answer::Refused(refusal))
+            TurnDraft::ending(alloc, session, Answer::Refused(refusal))
         }
     }
 }

@@ -8,12 +8,12 @@ ghost use Rattle.node_rules.specs.Data.kinds;
 ghost use Rattle.session_tree.specs.Live.{next_edge};
 ghost use Rattle.node_rules.specs.Calls.{advice_of as advice_of_branch, call_pends, calls_over, exec_to, next_call, nobody_at as nobody_at_node, opens_through};
 ghost use Rattle.node_state.specs.Works.{work_of};
-ghost use Rattle.node_deeds.specs.Gives.{Gives, branch_with};
+ghost use Rattle.node_drafts.specs.Gives.{Gives, branch_with};
 ghost use Rattle.node_memory.specs.Parts.{kept_in};
 ghost use Rattle.node_calls.specs.Handled.{at_live};
 
 use dtx_values::{Advice, Duplicate, Listing, Name};
-use node_deeds::{Deed, peer_of, post};
+use node_drafts::{TurnDraft, peer_of, post};
 use node_memory::Memory;
 use node_rules::PendingCall;
 use node_state::{Sessions, Works};
@@ -34,15 +34,15 @@ pub(crate) fn call_over(
     number: u8,
     statement: Stmt,
     given: u16,
-) -> Result<Deed, AllocError>
+) -> Result<TurnDraft, AllocError>
     requires { next_call (work_of memory.old.works branch.now) number < 2 ^ 32 }
-    ensures gives { IfOk result (λ deed.
-        Gives (at_live (kept_in memory.old) (λ x. calls_over (kept_in memory.old) x number statement given) (branch_at (kept_in memory.old) branch.now)) (kept_in memory.new) deed) }
+    ensures gives { IfOk result (λ draft.
+        Gives (at_live (kept_in memory.old) (λ x. calls_over (kept_in memory.old) x number statement given) (branch_at (kept_in memory.old) branch.now)) (kept_in memory.new) draft) }
     ensures place { memory.new.place ≡ memory.old.place }
 {
     let Some(live) = memory.lives.get(branch) else {
         drop(statement);
-        return Ok(Deed::nothing(alloc));
+        return Ok(TurnDraft::nothing(alloc));
     };
     match exec_over(
         alloc,
@@ -68,7 +68,7 @@ pub(crate) fn call_over(
                     drop(says);
                     Err(error)
                 }
-                Ok(()) => Ok(Deed::saying(alloc, says)),
+                Ok(()) => Ok(TurnDraft::saying(alloc, says)),
             }
         }
     }
@@ -85,16 +85,16 @@ pub(crate) fn open_through(
     link: Name,
     statement: Stmt,
     given: u16,
-) -> Result<Deed, AllocError>
+) -> Result<TurnDraft, AllocError>
     requires { IfSome (item_at live_id memory.old.lives branch.now) (λ live. live.depth < depth_limit) }
-    ensures gives { IfOk result (λ deed.
-        Gives (at_live (kept_in memory.old) (λ x. opens_through (kept_in memory.old) x node link statement given) (branch_at (kept_in memory.old) branch.now)) (kept_in memory.new) deed) }
+    ensures gives { IfOk result (λ draft.
+        Gives (at_live (kept_in memory.old) (λ x. opens_through (kept_in memory.old) x node link statement given) (branch_at (kept_in memory.old) branch.now)) (kept_in memory.new) draft) }
     ensures place { memory.new.place ≡ memory.old.place }
 {
     let Some(live) = memory.lives.get(branch) else {
         drop(link);
         drop(statement);
-        return Ok(Deed::nothing(alloc));
+        return Ok(TurnDraft::nothing(alloc));
     };
     match open_says(alloc, live, node) {
         Err(error) => {
@@ -112,7 +112,7 @@ pub(crate) fn open_through(
                     drop(says);
                     Err(error)
                 }
-                Ok(()) => Ok(Deed::saying(alloc, says)),
+                Ok(()) => Ok(TurnDraft::saying(alloc, says)),
             }
         }
     }

@@ -6,28 +6,28 @@ ghost use Rattle.node_rules.specs.NodeState.{NodeState};
 ghost use Rattle.node_rules.specs.Client.{writes as writes_of, refuses as refuses_of, create_table as create_table_of, create_link as create_link_of, create_synonym as create_synonym_of, set_recovery as set_recovery_of};
 ghost use Rattle.node_ready_laws.specs.Rows.{HasRows};
 ghost use Rattle.node_ready_laws.specs.Following.{MayFollow};
-ghost use Rattle.node_deeds.specs.Gives.{Gives};
+ghost use Rattle.node_drafts.specs.Gives.{Gives};
 ghost use Rattle.node_memory.specs.Parts.{kept_in, stored_in};
 
 use dtx_values::{Answer, Done, Duplicate, INVALID_SQL, Link, Listing, Synonym, Table};
-use node_deeds::{Deed, LINK_USED, NAME_USED, ended};
+use node_drafts::{LINK_USED, NAME_USED, TurnDraft, ended};
 use node_memory::Memory;
 use redo_record::{Param, RedoRecord};
 use sql_check::plain;
 use std::alloc::{AllocError, Global};
 
 /// A text that no statement has: ORA-00900.
-pub fn refuse_text(alloc: Global, session: u32) -> Result<Deed, AllocError>
-    ensures gives { IfOk result (λ deed. (k : NodeState) → Gives (refuses_of k session (ora 900 [])) k deed) }
+pub fn refuse_text(alloc: Global, session: u32) -> Result<TurnDraft, AllocError>
+    ensures gives { IfOk result (λ draft. (k : NodeState) → Gives (refuses_of k session (ora 900 [])) k draft) }
 {
     refuse(alloc, session, INVALID_SQL)
 }
 
 // The call of a session ends with a refusal that names nothing.
-fn refuse(alloc: Global, session: u32, code: u16) -> Result<Deed, AllocError>
-    ensures { IfOk result (λ deed. (k : NodeState) → Gives (refuses_of k session (ora code [])) k deed) }
+fn refuse(alloc: Global, session: u32, code: u16) -> Result<TurnDraft, AllocError>
+    ensures { IfOk result (λ draft. (k : NodeState) → Gives (refuses_of k session (ora code [])) k draft) }
 {
-    Deed::ending(alloc, session, Answer::Refused(plain(alloc, code)))
+    TurnDraft::ending(alloc, session, Answer::Refused(plain(alloc, code)))
 }
 
 /// CREATE TABLE, or ORA-00955 where a table or a synonym has the name.
@@ -36,9 +36,9 @@ pub fn create_table(
     alloc: Global,
     session: u32,
     table: &Table,
-) -> Result<Deed, AllocError>
+) -> Result<TurnDraft, AllocError>
     requires { HasRows (kept_in memory.old) }
-    ensures gives { IfOk result (λ deed. Gives (create_table_of (kept_in memory.old) session table.now) (kept_in memory.new) deed) }
+    ensures gives { IfOk result (λ draft. Gives (create_table_of (kept_in memory.old) session table.now) (kept_in memory.new) draft) }
     ensures place { memory.new.place ≡ memory.old.place }
 {
     if memory.catalog.is_used(&table.name) {
@@ -55,8 +55,8 @@ pub fn create_link(
     alloc: Global,
     session: u32,
     link: &Link,
-) -> Result<Deed, AllocError>
-    ensures gives { IfOk result (λ deed. Gives (create_link_of (kept_in memory.old) session link.now) (kept_in memory.new) deed) }
+) -> Result<TurnDraft, AllocError>
+    ensures gives { IfOk result (λ draft. Gives (create_link_of (kept_in memory.old) session link.now) (kept_in memory.new) draft) }
     ensures place { memory.new.place ≡ memory.old.place }
 {
     if memory.catalog.is_link_used(&link.name) {
@@ -73,8 +73,8 @@ pub fn create_synonym(
     alloc: Global,
     session: u32,
     synonym: &Synonym,
-) -> Result<Deed, AllocError>
-    ensures gives { IfOk result (λ deed. Gives (create_synonym_of (kept_in memory.old) session synonym.now) (kept_in memory.new) deed) }
+) -> Result<TurnDraft, AllocError>
+    ensures gives { IfOk result (λ draft. Gives (create_synonym_of (kept_in memory.old) session synonym.now) (kept_in memory.new) draft) }
     ensures place { memory.new.place ≡ memory.old.place }
 {
     if memory.catalog.is_used(&synonym.name) {
@@ -91,8 +91,8 @@ pub fn set_recovery(
     alloc: Global,
     session: u32,
     on: bool,
-) -> Result<Deed, AllocError>
-    ensures gives { IfOk result (λ deed. Gives (set_recovery_of (kept_in memory.old) session on) (kept_in memory.new) deed) }
+) -> Result<TurnDraft, AllocError>
+    ensures gives { IfOk result (λ draft. Gives (set_recovery_of (kept_in memory.old) session on) (kept_in memory.new) draft) }
     ensures place { memory.new.place ≡ memory.old.place }
 {
     let redo = RedoRecord::Param(Param::Recovery(on));
@@ -106,9 +106,9 @@ fn write(
     session: u32,
     redo: RedoRecord,
     done: Done,
-) -> Result<Deed, AllocError>
+) -> Result<TurnDraft, AllocError>
     requires { MayFollow (stored_in memory.old) redo }
-    ensures gives { IfOk result (λ deed. Gives (writes_of (kept_in memory.old) session redo done) (kept_in memory.new) deed) }
+    ensures gives { IfOk result (λ draft. Gives (writes_of (kept_in memory.old) session redo done) (kept_in memory.new) draft) }
     ensures place { memory.new.place ≡ memory.old.place }
 {
     match ended(alloc, session, Answer::Did(done, 0)) {
@@ -122,7 +122,7 @@ fn write(
                 drop(ends);
                 Err(error)
             }
-            Ok(()) => Ok(Deed::writing(redo, Listing::new(alloc), ends)),
+            Ok(()) => Ok(TurnDraft::writing(redo, Listing::new(alloc), ends)),
         },
     }
 }

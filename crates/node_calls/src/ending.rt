@@ -2,11 +2,11 @@
 ghost use Rattle.std.specs.Prelude.{◌≡◌, IfOk};
 ghost use Rattle.node_rules.specs.Client.{rollback_by as rollback_by_of, root_at};
 ghost use Rattle.node_rules.specs.NodeState.{branch_at};
-ghost use Rattle.node_deeds.specs.Gives.{Gives};
+ghost use Rattle.node_drafts.specs.Gives.{Gives};
 ghost use Rattle.node_memory.specs.Parts.{kept_in};
 
 use dtx_values::{Answer, Done};
-use node_deeds::{Deed, ended, to_children};
+use node_drafts::{TurnDraft, ended, to_children};
 use node_memory::Memory;
 use std::alloc::{AllocError, Global};
 use tran_ids::BranchId;
@@ -14,28 +14,32 @@ use wire_msg::Kind;
 
 /// ROLLBACK in a session: its root is gone with its changes and its keys, each child is told, and the transaction has ended. In
 /// a session without a transaction only the call ends.
-pub fn rollback_by(memory: &mut Memory, alloc: Global, session: u32) -> Result<Deed, AllocError>
-    ensures gives { IfOk result (λ deed. Gives (rollback_by_of (kept_in memory.old) session (root_at (kept_in memory.old) session)) (kept_in memory.new) deed) }
+pub fn rollback_by(
+    memory: &mut Memory,
+    alloc: Global,
+    session: u32,
+) -> Result<TurnDraft, AllocError>
+    ensures gives { IfOk result (λ draft. Gives (rollback_by_of (kept_in memory.old) session (root_at (kept_in memory.old) session)) (kept_in memory.new) draft) }
     ensures place { memory.new.place ≡ memory.old.place }
 {
     match memory.sessions.at(session).root {
-        None => Deed::ending(alloc, session, Answer::Did(Done::RolledBack, 0)),
+        None => TurnDraft::ending(alloc, session, Answer::Did(Done::RolledBack, 0)),
         Some(root) => rollback_root(memory, alloc, session, &root),
     }
 }
 
-#[tactic(auto, using(crate::proofs::DeedLaws::rolled_back_so, crate::proofs::DeedLaws::none_to_roll_back))]
+#[tactic(auto, using(crate::proofs::DraftLaws::rolled_back_so, crate::proofs::DraftLaws::none_to_roll_back))]
 fn rollback_root(
     memory: &mut Memory,
     alloc: Global,
     session: u32,
     root: &BranchId,
-) -> Result<Deed, AllocError>
-    ensures gives { IfOk result (λ deed. Gives (rollback_by_of (kept_in memory.old) session (branch_at (kept_in memory.old) root.now)) (kept_in memory.new) deed) }
+) -> Result<TurnDraft, AllocError>
+    ensures gives { IfOk result (λ draft. Gives (rollback_by_of (kept_in memory.old) session (branch_at (kept_in memory.old) root.now)) (kept_in memory.new) draft) }
     ensures place { memory.new.place ≡ memory.old.place }
 {
     let Some(live) = memory.lives.get(root) else {
-        return Deed::ending(alloc, session, Answer::Did(Done::RolledBack, 0));
+        return TurnDraft::ending(alloc, session, Answer::Did(Done::RolledBack, 0));
     };
     let me = live.me;
     let says = to_children(alloc, live, &Kind::Rollback)?;
@@ -48,7 +52,7 @@ fn rollback_root(
             memory.sessions.end(session);
             memory.drop_branch(&me);
             let wrote = None;
-            Ok(Deed { wrote, says, ended })
+            Ok(TurnDraft { wrote, says, ended })
         }
     }
 }

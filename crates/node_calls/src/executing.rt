@@ -3,14 +3,14 @@ ghost use Rattle.std.specs.Prelude.{◌≡◌, IfOk};
 ghost use Rattle.node_rules.specs.NodeState.{branch_at};
 ghost use Rattle.node_rules.specs.Calls.{on_exec as on_exec_of, says_again as says_again_of};
 ghost use Rattle.node_state.specs.Works.{work_of};
-ghost use Rattle.node_deeds.specs.Gives.{Gives, branch_with};
+ghost use Rattle.node_drafts.specs.Gives.{Gives, branch_with};
 ghost use Rattle.node_memory.specs.Parts.{kept_in};
 ghost use Rattle.node_calls.specs.Handled.{at_live, TakesStatement};
 
 use crate::routing::statement_at;
 use dtx_values::Advice;
 use link_session::Admit;
-use node_deeds::{Deed, says_again};
+use node_drafts::{TurnDraft, says_again};
 use node_memory::Memory;
 use node_state::{Works, no_work};
 use reco::Posts;
@@ -31,26 +31,26 @@ pub(crate) fn on_exec(
     given: u16,
     advice: Option<Advice>,
     statement: &Stmt,
-) -> Result<Deed, AllocError>
+) -> Result<TurnDraft, AllocError>
     requires { TakesStatement memory.old to.now statement.now }
-    ensures gives { IfOk result (λ deed.
-        Gives (at_live (kept_in memory.old) (λ x. on_exec_of memory.old.place (kept_in memory.old) x from call given advice statement.now) (branch_at (kept_in memory.old) to.now)) (kept_in memory.new) deed) }
+    ensures gives { IfOk result (λ draft.
+        Gives (at_live (kept_in memory.old) (λ x. on_exec_of memory.old.place (kept_in memory.old) x from call given advice statement.now) (branch_at (kept_in memory.old) to.now)) (kept_in memory.new) draft) }
     ensures place { memory.new.place ≡ memory.old.place }
 {
     let Some(live) = memory.lives.get(to) else {
-        return Ok(Deed::nothing(alloc));
+        return Ok(TurnDraft::nothing(alloc));
     };
     match memory.works.admit(to, call) {
-        Admit::Ignore => Ok(Deed::nothing(alloc)),
+        Admit::Ignore => Ok(TurnDraft::nothing(alloc)),
         Admit::Again => {
             let says = reply_again(alloc, &memory.works, to, live, from)?;
-            Ok(Deed::saying(alloc, says))
+            Ok(TurnDraft::saying(alloc, says))
         }
         Admit::Run => {
             memory.lives.take_advice(to, advice);
             memory.works.take_call(alloc, to, call)?;
-            let deed = statement_at(memory, alloc, to, statement, given)?;
-            Ok(deed)
+            let draft = statement_at(memory, alloc, to, statement, given)?;
+            Ok(draft)
         }
     }
 }

@@ -6,11 +6,11 @@ ghost use Rattle.sql_check.specs.Words.{one};
 ghost use Rattle.node_rules.specs.NodeState.{branch_at};
 ghost use Rattle.node_rules.specs.Client.{statement_given_up as statement_given_up_of, waited_link as waited_link_of};
 ghost use Rattle.node_state.specs.Works.{work_of};
-ghost use Rattle.node_deeds.specs.Gives.{Gives};
+ghost use Rattle.node_drafts.specs.Gives.{Gives};
 ghost use Rattle.node_memory.specs.Parts.{kept_in};
 
 use dtx_values::Answer;
-use node_deeds::{Deed, NO_ANSWER, no_answer, waited_link};
+use node_drafts::{NO_ANSWER, TurnDraft, no_answer, waited_link};
 use node_memory::Memory;
 use node_rules::PendingCall;
 use node_state::Works;
@@ -20,30 +20,30 @@ use tran_ids::BranchId;
 
 /// The statement of a session with this root is given up: DTX-03, which names the link that the root waits for. The transaction
 /// can only be rolled back from then on. Nothing where the root is not live.
-#[tactic(auto, using(crate::proofs::DeedLaws::none_given_up))]
+#[tactic(auto, using(crate::proofs::DraftLaws::none_given_up))]
 pub fn statement_given_up(
     memory: &mut Memory,
     alloc: Global,
     session: u32,
     root: &BranchId,
-) -> Result<Deed, AllocError>
-    ensures gives { IfOk result (λ deed. Gives (statement_given_up_of (kept_in memory.old) session (branch_at (kept_in memory.old) root.now)) (kept_in memory.new) deed) }
+) -> Result<TurnDraft, AllocError>
+    ensures gives { IfOk result (λ draft. Gives (statement_given_up_of (kept_in memory.old) session (branch_at (kept_in memory.old) root.now)) (kept_in memory.new) draft) }
     ensures place { memory.new.place ≡ memory.old.place }
 {
     let Some(live) = memory.lives.get(root) else {
-        return Ok(Deed::nothing(alloc));
+        return Ok(TurnDraft::nothing(alloc));
     };
     let answer = answer_lost(alloc, &memory.works, root, live)?;
-    let deed = Deed::ending(alloc, session, answer)?;
+    let draft = TurnDraft::ending(alloc, session, answer)?;
     match memory.works.give_up(alloc, root) {
         Err(error) => {
-            drop(deed);
+            drop(draft);
             Err(error)
         }
         Ok(()) => {
             memory.sessions.set_call(session, PendingCall::NoCall);
             memory.sessions.need_rollback(session, NO_ANSWER);
-            Ok(deed)
+            Ok(draft)
         }
     }
 }

@@ -5,13 +5,13 @@ ghost use Rattle.session_tree.specs.Live.{new_edge as new_edge_of, next_edge as 
 ghost use Rattle.node_rules.specs.NodeState.{branch_at};
 ghost use Rattle.node_rules.specs.Calls.{on_opened as on_opened_of};
 ghost use Rattle.node_state.specs.Works.{work_of};
-ghost use Rattle.node_deeds.specs.Gives.{Gives};
+ghost use Rattle.node_drafts.specs.Gives.{Gives};
 ghost use Rattle.node_memory.specs.Parts.{kept_in};
 ghost use Rattle.node_calls.specs.Handled.{at_live, HasNumbers, HasRoom, waited_for as waited_for_of, waits_for as waits_for_of};
 
 use crate::calling::call_over;
 use dtx_values::{Duplicate, Name};
-use node_deeds::Deed;
+use node_drafts::TurnDraft;
 use node_memory::Memory;
 use node_rules::{Going, Waits};
 use node_state::Works;
@@ -39,19 +39,19 @@ pub(crate) fn on_opened(
     to: &BranchId,
     edge: u8,
     strength: u8,
-) -> Result<Deed, AllocError>
+) -> Result<TurnDraft, AllocError>
     requires room { HasRoom memory.old to.now }
     requires numbers { HasNumbers memory.old to.now }
-    ensures gives { IfOk result (λ deed.
-        Gives (at_live (kept_in memory.old) (λ x. on_opened_of (kept_in memory.old) x from edge strength) (branch_at (kept_in memory.old) to.now)) (kept_in memory.new) deed) }
+    ensures gives { IfOk result (λ draft.
+        Gives (at_live (kept_in memory.old) (λ x. on_opened_of (kept_in memory.old) x from edge strength) (branch_at (kept_in memory.old) to.now)) (kept_in memory.new) draft) }
     ensures place { memory.new.place ≡ memory.old.place }
 {
     let Some(live) = memory.lives.get(to) else {
-        return Ok(Deed::nothing(alloc));
+        return Ok(TurnDraft::nothing(alloc));
     };
     let next = next_edge(live);
     let Some(waited) = waited_for(alloc, &memory.works, to, edge, next)? else {
-        return Ok(Deed::nothing(alloc));
+        return Ok(TurnDraft::nothing(alloc));
     };
     let Waited {
         link,
@@ -69,8 +69,8 @@ pub(crate) fn on_opened(
                 Err(error)
             }
             Ok(()) => {
-                let deed = call_over(memory, alloc, to, edge, statement, one_less(room))?;
-                Ok(deed)
+                let draft = call_over(memory, alloc, to, edge, statement, one_less(room))?;
+                Ok(draft)
             }
         },
     }

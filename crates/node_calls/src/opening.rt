@@ -4,12 +4,12 @@ ghost use Rattle.tran_ids.specs.Listed.{item_at};
 ghost use Rattle.session_tree.specs.Live.{fresh_live};
 ghost use Rattle.node_rules.specs.NodeState.{live_id};
 ghost use Rattle.node_rules.specs.Calls.{new_opening as new_opening_of, next_child as next_child_of, on_open as on_open_of, strength_of as strength_of_node};
-ghost use Rattle.node_deeds.specs.Gives.{Gives};
+ghost use Rattle.node_drafts.specs.Gives.{Gives};
 ghost use Rattle.node_memory.specs.Parts.{kept_in};
 
 use dtx_values::Listing;
 use link_session::Opening;
-use node_deeds::{Deed, opened_says};
+use node_drafts::{TurnDraft, opened_says};
 use node_memory::Memory;
 use session_tree::{Live, Phase};
 use std::alloc::{AllocError, Global};
@@ -23,19 +23,19 @@ pub fn on_open(
     edge: u8,
     root: BranchId,
     depth: u8,
-) -> Result<Deed, AllocError>
+) -> Result<TurnDraft, AllocError>
     requires sessions { 65 + length memory.old.opens < 2 ^ 32 }
     requires new { item_at live_id memory.old.lives (next_child_of memory.old.place (kept_in memory.old)) ≡ None }
-    ensures gives { IfOk result (λ deed. Gives (on_open_of memory.old.place (kept_in memory.old) parent edge root depth) (kept_in memory.new) deed) }
+    ensures gives { IfOk result (λ draft. Gives (on_open_of memory.old.place (kept_in memory.old) parent edge root depth) (kept_in memory.new) draft) }
     ensures place { memory.new.place ≡ memory.old.place }
 {
     match memory.opens.find(&parent, edge) {
-        Some(opening) => Ok(Deed::saying(alloc, opened_says(alloc, &opening)?)),
+        Some(opening) => Ok(TurnDraft::saying(alloc, opened_says(alloc, &opening)?)),
         None => {
             let opening = new_opening(memory, parent, edge);
             memory.lives.begin(begun(alloc, &opening, root, depth))?;
             memory.opens.add(opening)?;
-            Ok(Deed::saying(alloc, opened_says(alloc, &opening)?))
+            Ok(TurnDraft::saying(alloc, opened_says(alloc, &opening)?))
         }
     }
 }

@@ -6,13 +6,13 @@ ghost use Rattle.session_tree.specs.Live.{edge_at as edge_at_number};
 ghost use Rattle.node_rules.specs.NodeState.{branch_at};
 ghost use Rattle.node_rules.specs.Calls.{heard_sessions, on_reply as on_reply_of, reply_edge, reply_going, reply_of};
 ghost use Rattle.node_state.specs.Works.{work_of};
-ghost use Rattle.node_deeds.specs.Gives.{Gives, branch_with};
+ghost use Rattle.node_drafts.specs.Gives.{Gives, branch_with};
 ghost use Rattle.node_memory.specs.Parts.{kept_in};
 ghost use Rattle.node_calls.specs.Handled.{at_live, replier_as, HasFewWith};
 
 use crate::answering::answer;
 use dtx_values::Answer;
-use node_deeds::{BRANCH_GONE, Deed, edge_at, heard_answer, is_gone};
+use node_drafts::{BRANCH_GONE, TurnDraft, edge_at, heard_answer, is_gone};
 use node_memory::Memory;
 use node_rules::{Waits, Work};
 use node_state::{Sessions, Works};
@@ -40,26 +40,26 @@ pub(crate) fn on_reply(
     weight: Option<u8>,
     count: u16,
     told: Answer,
-) -> Result<Deed, AllocError>
+) -> Result<TurnDraft, AllocError>
     requires { HasFewWith memory.old to.now weight count }
-    ensures gives { IfOk result (λ deed.
-        Gives (at_live (kept_in memory.old) (λ x. on_reply_of (kept_in memory.old) x from call weight count told) (branch_at (kept_in memory.old) to.now)) (kept_in memory.new) deed) }
+    ensures gives { IfOk result (λ draft.
+        Gives (at_live (kept_in memory.old) (λ x. on_reply_of (kept_in memory.old) x from call weight count told) (branch_at (kept_in memory.old) to.now)) (kept_in memory.new) draft) }
     ensures place { memory.new.place ≡ memory.old.place }
 {
     let Some(live) = memory.lives.get(to) else {
         drop(told);
-        return Ok(Deed::nothing(alloc));
+        return Ok(TurnDraft::nothing(alloc));
     };
     let Some(replier) = replying(&memory.works, to, live, &from, call) else {
         drop(told);
-        return Ok(Deed::nothing(alloc));
+        return Ok(TurnDraft::nothing(alloc));
     };
     let number = replier.number;
     hear_gone(&mut memory.sessions, live, &told);
     let heard = heard_answer(alloc, live, &replier.edge.link, told)?;
     memory.lives.hear(alloc, to, number, weight, count);
-    let deed = answer(memory, alloc, to, heard)?;
-    Ok(deed)
+    let draft = answer(memory, alloc, to, heard)?;
+    Ok(draft)
 }
 
 // Where a root hears that its child is gone, the transaction needs a rollback.

@@ -9,14 +9,14 @@ ghost use Rattle.node_rules.specs.Calls.{statement_at as statement_at_of};
 ghost use Rattle.node_rules.specs.Statement.{makes_changes};
 ghost use Rattle.node_state.specs.Changed.{change_item};
 ghost use Rattle.node_state.specs.Lives.{changed_by};
-ghost use Rattle.node_deeds.specs.Gives.{Gives};
+ghost use Rattle.node_drafts.specs.Gives.{Gives};
 ghost use Rattle.node_memory.specs.Parts.{kept_in};
 ghost use Rattle.node_calls.specs.Handled.{at_live, did_changes, TakesStatement};
 
 use crate::answering::answer;
 use crate::calling::{call_over, open_through};
 use dtx_values::{Answer, Duplicate, Table};
-use node_deeds::Deed;
+use node_drafts::TurnDraft;
 use node_memory::Memory;
 use node_state::Lives;
 use node_ways::{Way, passed_on, way_of};
@@ -36,14 +36,14 @@ pub(crate) fn statement_at(
     branch: &BranchId,
     statement: &Stmt,
     given: u16,
-) -> Result<Deed, AllocError>
+) -> Result<TurnDraft, AllocError>
     requires { TakesStatement memory.old branch.now statement.now }
-    ensures gives { IfOk result (λ deed.
-        Gives (at_live (kept_in memory.old) (λ x. statement_at_of memory.old.place (kept_in memory.old) x statement.now given) (branch_at (kept_in memory.old) branch.now)) (kept_in memory.new) deed) }
+    ensures gives { IfOk result (λ draft.
+        Gives (at_live (kept_in memory.old) (λ x. statement_at_of memory.old.place (kept_in memory.old) x statement.now given) (branch_at (kept_in memory.old) branch.now)) (kept_in memory.new) draft) }
     ensures place { memory.new.place ≡ memory.old.place }
 {
     let Some(live) = memory.lives.get(branch) else {
-        return Ok(Deed::nothing(alloc));
+        return Ok(TurnDraft::nothing(alloc));
     };
     match way_of(
         alloc,

@@ -1,7 +1,7 @@
 //! Messages of calls, by what their branch is at the node: live, kept or gone.
 ghost use Rattle.std.specs.Prelude.{◌≡◌, IfOk};
-ghost use Rattle.node_rules.specs.Turn.{exec_turn as exec_turn_of, opened_turn as opened_turn_of, reply_turn as reply_turn_of, stand_of};
-ghost use Rattle.node_deeds.specs.Gives.{Gives};
+ghost use Rattle.node_rules.specs.Turn.{exec_turn as exec_turn_of, opened_turn as opened_turn_of, reply_turn as reply_turn_of, status_of};
+ghost use Rattle.node_drafts.specs.Gives.{Gives};
 ghost use Rattle.node_memory.specs.Parts.{kept_in};
 ghost use Rattle.node_calls.specs.Handled.{HasFewWith, HasNumbers, HasRoom, TakesStatement};
 
@@ -9,8 +9,8 @@ use crate::executing::on_exec;
 use crate::opened::on_opened;
 use crate::replied::on_reply;
 use dtx_values::{Advice, Answer};
-use node_deeds::{Deed, gone_reply};
-use node_memory::{Memory, Stand};
+use node_drafts::{TurnDraft, gone_reply};
+use node_memory::{BranchStatus, Memory};
 use sql_statement::Stmt;
 use std::alloc::{AllocError, Global};
 use tran_ids::BranchId;
@@ -26,21 +26,21 @@ pub fn exec_turn(
     given: u16,
     advice: Option<Advice>,
     statement: &Stmt,
-) -> Result<Deed, AllocError>
+) -> Result<TurnDraft, AllocError>
     requires { TakesStatement memory.old to.now statement.now }
-    ensures gives { IfOk result (λ deed.
-        Gives (exec_turn_of memory.old.place (kept_in memory.old) from to.now call given advice statement.now (stand_of (kept_in memory.old) to.now)) (kept_in memory.new) deed) }
+    ensures gives { IfOk result (λ draft.
+        Gives (exec_turn_of memory.old.place (kept_in memory.old) from to.now call given advice statement.now (status_of (kept_in memory.old) to.now)) (kept_in memory.new) draft) }
     ensures place { memory.new.place ≡ memory.old.place }
 {
-    match memory.stand_of(to) {
-        Stand::Live(_) => {
-            let deed = on_exec(memory, alloc, from, to, call, given, advice, statement)?;
-            Ok(deed)
+    match memory.status_of(to) {
+        BranchStatus::Live(_) => {
+            let draft = on_exec(memory, alloc, from, to, call, given, advice, statement)?;
+            Ok(draft)
         }
-        Stand::Kept(_) => Ok(Deed::nothing(alloc)),
-        Stand::Gone => {
+        BranchStatus::Kept(_) => Ok(TurnDraft::nothing(alloc)),
+        BranchStatus::Gone => {
             let says = gone_reply(alloc, *to, from, call)?;
-            Ok(Deed::saying(alloc, says))
+            Ok(TurnDraft::saying(alloc, says))
         }
     }
 }
@@ -53,15 +53,15 @@ pub fn opened_turn(
     to: &BranchId,
     edge: u8,
     strength: u8,
-) -> Result<Deed, AllocError>
+) -> Result<TurnDraft, AllocError>
     requires room { HasRoom memory.old to.now }
     requires numbers { HasNumbers memory.old to.now }
-    ensures gives { IfOk result (λ deed.
-        Gives (opened_turn_of (kept_in memory.old) from edge strength (stand_of (kept_in memory.old) to.now)) (kept_in memory.new) deed) }
+    ensures gives { IfOk result (λ draft.
+        Gives (opened_turn_of (kept_in memory.old) from edge strength (status_of (kept_in memory.old) to.now)) (kept_in memory.new) draft) }
     ensures place { memory.new.place ≡ memory.old.place }
 {
-    let deed = on_opened(memory, alloc, from, to, edge, strength)?;
-    Ok(deed)
+    let draft = on_opened(memory, alloc, from, to, edge, strength)?;
+    Ok(draft)
 }
 
 /// Reply, which only a live branch hears.
@@ -74,12 +74,12 @@ pub fn reply_turn(
     weight: Option<u8>,
     count: u16,
     told: Answer,
-) -> Result<Deed, AllocError>
+) -> Result<TurnDraft, AllocError>
     requires { HasFewWith memory.old to.now weight count }
-    ensures gives { IfOk result (λ deed.
-        Gives (reply_turn_of (kept_in memory.old) from call weight count told (stand_of (kept_in memory.old) to.now)) (kept_in memory.new) deed) }
+    ensures gives { IfOk result (λ draft.
+        Gives (reply_turn_of (kept_in memory.old) from call weight count told (status_of (kept_in memory.old) to.now)) (kept_in memory.new) draft) }
     ensures place { memory.new.place ≡ memory.old.place }
 {
-    let deed = on_reply(memory, alloc, from, to, call, weight, count, told)?;
-    Ok(deed)
+    let draft = on_reply(memory, alloc, from, to, call, weight, count, told)?;
+    Ok(draft)
 }

@@ -9,7 +9,7 @@ use Rattle.session_tree.specs.declared.live.Live.{Live}
 use Rattle.session_tree.specs.declared.act.Act.{Act}
 use Rattle.session_tree.specs.declared.act.Act.TheVariants as acts
 use Rattle.prepare_phase.specs.Acts.{after_act}
-use Rattle.node_rules.specs.NodeState.{NodeState, Deed, live_id, with_live}
+use Rattle.node_rules.specs.NodeState.{NodeState, TurnDraft, live_id, with_live}
 use Rattle.node_rules.specs.Prepare.{ready, act_turn}
 
 module _ {A : Type 0} (id : A → BranchId) where
@@ -52,11 +52,11 @@ module _ {A : Type 0} (id : A → BranchId) where
   drop_put (y ∷ ys) x = drop_put_if y x ys (same (id y) (id x)) refl (drop_put ys x)
 
 -- what a turn does, with these live branches after it
-abbrev with_lives : Deed → List Live → Deed
+abbrev with_lives : TurnDraft → List Live → TurnDraft
 with_lives d ls = record d { after = record d.after { lives = ls } }
 
 -- a branch that leaves
-leaves_as : (k : NodeState) (l : Live) (d : Deed) → with_lives d (drop_item live_id (put_item live_id k.lives l) l.me) ≡ with_lives d (drop_item live_id k.lives l.me)
+leaves_as : (k : NodeState) (l : Live) (d : TurnDraft) → with_lives d (drop_item live_id (put_item live_id k.lives l) l.me) ≡ with_lives d (drop_item live_id k.lives l.me)
 leaves_as k l d = ap (with_lives d) (drop_put live_id k.lives l)
 
 -- What a branch does next is the same where it stands among the live branches already as it is from then on.

@@ -13,7 +13,7 @@ use Rattle.session_tree.specs.declared.live.Phase.TheVariants as phases
 use Rattle.prepare_phase.specs.Acts.{after_act, collecting, first_act, prepare_act_in, prepare_act, after_prepare_in, after_prepare, is_first_answer, voted, answer_act, heard_act_in, heard_act, after_answer_in, after_answer}
 use Rattle.node_state.specs.Changed.{with_item}
 use Rattle.node_state.specs.Lives.{prepared_in, prepared}
-use Rattle.node_rules.specs.NodeState.{NodeState, Deed, nothing, saying, live_id, live_at, with_live}
+use Rattle.node_rules.specs.NodeState.{NodeState, TurnDraft, nothing, saying, live_id, live_at, with_live}
 use Rattle.node_rules.specs.Prepare.{act_turn, collects, with_comment, without_read_keys, answer_in, on_answer}
 use Rattle.node_commit.specs.Branches.{where_live, at_live, phase_of, begun, answered}
 use Rattle.node_commit.proofs.LiveLemmas.{act_again, stays}
@@ -31,11 +31,11 @@ act_me l acts.Finish = refl
 act_me l acts.Abandon = refl
 
 -- what a branch does next, where it is live
-abbrev turned : NodeState → BranchId → Bool → Act → Deed
+abbrev turned : NodeState → BranchId → Bool → Act → TurnDraft
 turned k b site_below act = at_live k b (λ l. act_turn k l site_below act)
 
 -- where this branch was put in its place
-abbrev acted : NodeState → BranchId → Bool → Live → Act → Deed
+abbrev acted : NodeState → BranchId → Bool → Live → Act → TurnDraft
 acted k b site_below x act = turned (with_live k x) b site_below act
 
 acted_is : (k : NodeState) (b : BranchId) (site_below : Bool) (l : Live) (act : Act) → l.me ≡ b → acted k b site_below (after_act l act) act ≡ act_turn k l site_below act

@@ -6,7 +6,7 @@ use Rattle.row_store.specs.Store.{is_in_doubt}
 use Rattle.prepare_phase.specs.Acts.{after_answer}
 use Rattle.node_state.specs.Changed.{change_item}
 use Rattle.node_state.specs.Lives.{prepared}
-use Rattle.node_rules.specs.Data.{BranchId, Live, Vote, Phase, Standing, Decision, RedoRecord}
+use Rattle.node_rules.specs.Data.{BranchId, Live, Vote, Phase, KeptRow, Decision, RedoRecord}
 use Rattle.node_rules.specs.declared.session.Session.{Session}
 use Rattle.node_rules.specs.Data.answers
 use Rattle.node_rules.specs.Data.dones
@@ -15,18 +15,18 @@ use Rattle.node_rules.specs.Words.{one}
 use Rattle.node_rules.specs.Refusals.{dtx}
 use Rattle.node_rules.specs.Records.{with_record}
 use Rattle.node_rules.specs.Sessions.{commit_ended}
-use Rattle.node_rules.specs.NodeState.{NodeState, Deed, nothing, ending, live_id, live_at, standing_at, without_branch}
+use Rattle.node_rules.specs.NodeState.{NodeState, TurnDraft, nothing, ending, live_id, live_at, kept_row_at, without_branch}
 use Rattle.node_rules.specs.Prepare.{without_read_keys}
 use Rattle.node_memory.specs.declared.memory.Memory.{Memory}
 use Rattle.node_memory.specs.Parts.{kept_in}
 
 -- nothing where the branch is not live
-abbrev pub where_live : NodeState → (Live → Deed) → Option Live → Deed
+abbrev pub where_live : NodeState → (Live → TurnDraft) → Option Live → TurnDraft
 where_live k f None = nothing k
 where_live k f (Some l) = f l
 
 -- what is done at a branch where it is live
-abbrev pub at_live : NodeState → BranchId → (Live → Deed) → Deed
+abbrev pub at_live : NodeState → BranchId → (Live → TurnDraft) → TurnDraft
 at_live k b f = where_live k f (live_at k b)
 
 -- how far a live branch is in its transaction
@@ -42,13 +42,13 @@ abbrev pub answered : NodeState → BranchId → BranchId → Vote → NodeState
 answered k b from vote = record k { lives = change_item live_id (λ l. after_answer l from vote) k.lives b }
 
 -- nothing where the node keeps no row of the branch
-abbrev pub where_kept : NodeState → (Standing → Deed) → Option Standing → Deed
+abbrev pub where_kept : NodeState → (KeptRow → TurnDraft) → Option KeptRow → TurnDraft
 where_kept k f None = nothing k
 where_kept k f (Some s) = f s
 
 -- what is done at a branch where the node keeps a row of it
-abbrev pub at_kept : NodeState → BranchId → (Standing → Deed) → Deed
-at_kept k b f = where_kept k f (standing_at k b)
+abbrev pub at_kept : NodeState → BranchId → (KeptRow → TurnDraft) → TurnDraft
+at_kept k b f = where_kept k f (kept_row_at k b)
 
 -- the record of a decision that a kept branch learns: Met where it was forced, with whether the two differ
 abbrev pub learned : BranchId → Decision → Option Bool → RedoRecord
@@ -84,7 +84,7 @@ abbrev pub ended_if : Bool → List Session → BranchId → List Session
 ended_if alone ss b = if alone then commit_ended ss b else ss
 
 -- the row of this branch is hidden, or there is none that may be purged: DTX-06
-abbrev pub hides_named : NodeState → ℕ → List ℕ → Option BranchId → Deed
+abbrev pub hides_named : NodeState → ℕ → List ℕ → Option BranchId → TurnDraft
 hides_named k session id None = ending k session (answers.Refused (dtx 6 (one id)))
 hides_named k session id (Some b) = record {
   after = with_record k (records.Hidden b);

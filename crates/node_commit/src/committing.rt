@@ -6,15 +6,15 @@ ghost use Rattle.node_rules.specs.Data.records;
 ghost use Rattle.node_rules.specs.Sessions.{commit_answer as commit_answer_of, commit_complete as commit_complete_of, commit_ended};
 ghost use Rattle.node_memory.specs.Parts.{stored_in, kept_in};
 ghost use Rattle.node_ready_laws.specs.Following.{MayFollow};
-ghost use Rattle.node_deeds.specs.Gives.{Gives};
+ghost use Rattle.node_drafts.specs.Gives.{Gives};
 ghost use Rattle.node_commit.specs.Branches.{at_kept, learned as learned_of, with_wrote};
 
 use crate::session_ends::{decision_answers, end_decided};
 use commit_forget::Next;
-use node_deeds::{Deed, commit_complete, passes, post, to_beyond, to_one};
+use node_drafts::{TurnDraft, commit_complete, passes, post, to_beyond, to_one};
 use node_memory::Memory;
 use node_state::Sessions;
-use redo_record::{Decision, RedoRecord, Standing};
+use redo_record::{Decision, KeptRow, RedoRecord};
 use std::alloc::{AllocError, Global};
 use tran_ids::BranchId;
 use wire_msg::Kind;
@@ -37,43 +37,47 @@ fn learned(me: BranchId, decision: Decision, mixed: Option<bool>) -> RedoRecord
 fn learning(
     alloc: Global,
     sessions: &Sessions,
-    row: &Standing,
+    row: &KeptRow,
     decision: Decision,
     mixed: Option<bool>,
-) -> Result<Deed, AllocError>
-    ensures { IfOk result (λ deed.
-        deed ≡ record { wrote = Some (learned_of row.now.me decision mixed); says = passes_of row.now decision; ended = decision_answers_of sessions.now row.now.me decision }) }
+) -> Result<TurnDraft, AllocError>
+    ensures { IfOk result (λ draft.
+        draft ≡ record { wrote = Some (learned_of row.now.me decision mixed); says = passes_of row.now decision; ended = decision_answers_of sessions.now row.now.me decision }) }
 {
     let says = passes(alloc, row, decision)?;
     let ended = decision_answers(alloc, sessions, row.me, decision)?;
     let redo = learned(row.me, decision, mixed);
-    Ok(Deed::writing(redo, says, ended))
+    Ok(TurnDraft::writing(redo, says, ended))
 }
 
 // What a kept branch writes, says and answers that forgets.
-fn forgetting(alloc: Global, sessions: &Sessions, row: &Standing) -> Result<Deed, AllocError>
-    ensures { IfOk result (λ deed.
-        deed ≡ record { wrote = Some (records.Forgot row.now.me); says = to_beyond_of row.now kinds.Forgotten; ended = commit_answer_of sessions.now row.now.me commit_complete_of }) }
+fn forgetting(alloc: Global, sessions: &Sessions, row: &KeptRow) -> Result<TurnDraft, AllocError>
+    ensures { IfOk result (λ draft.
+        draft ≡ record { wrote = Some (records.Forgot row.now.me); says = to_beyond_of row.now kinds.Forgotten; ended = commit_answer_of sessions.now row.now.me commit_complete_of }) }
 {
     let says = to_beyond(alloc, row, &Kind::Forgotten)?;
     let ended = sessions.commit_answer(alloc, &row.me, commit_complete())?;
-    Ok(Deed::writing(RedoRecord::Forgot(row.me), says, ended))
+    Ok(TurnDraft::writing(RedoRecord::Forgot(row.me), says, ended))
 }
 
-/// The record of a deed becomes part of what the node keeps.
-pub(crate) fn taken_in(memory: &mut Memory, alloc: Global, deed: Deed) -> Result<Deed, AllocError>
-    requires { IfSome deed.wrote (MayFollow (stored_in memory.old)) }
-    ensures deed { IfOk result (λ same. same ≡ deed) }
-    ensures kept { OnOk result (kept_in memory.new ≡ with_wrote (kept_in memory.old) deed.wrote) }
+/// The record of a draft becomes part of what the node keeps.
+pub(crate) fn taken_in(
+    memory: &mut Memory,
+    alloc: Global,
+    draft: TurnDraft,
+) -> Result<TurnDraft, AllocError>
+    requires { IfSome draft.wrote (MayFollow (stored_in memory.old)) }
+    ensures draft { IfOk result (λ same. same ≡ draft) }
+    ensures kept { OnOk result (kept_in memory.new ≡ with_wrote (kept_in memory.old) draft.wrote) }
     ensures place { memory.new.place ≡ memory.old.place }
 {
-    if let Some(redo) = &deed.wrote
+    if let Some(redo) = &draft.wrote
         && let Err(error) = memory.take_in(alloc, redo)
     {
-        drop(deed);
+        drop(draft);
         return Err(error);
     }
-    Ok(deed)
+    Ok(draft)
 }
 
 // The decision's record stands, and the decision goes on.
@@ -82,15 +86,15 @@ fn learns(
     alloc: Global,
     branch: &BranchId,
     decision: Decision,
-    deed: Deed,
-) -> Result<Deed, AllocError>
-    requires { IfSome deed.wrote (MayFollow (stored_in memory.old)) }
-    ensures deed { IfOk result (λ same. same ≡ deed) }
-    ensures kept { OnOk result (kept_in memory.new ≡ with_wrote (record (kept_in memory.old) { sessions = decided_sessions memory.old.sessions branch.now decision }) deed.wrote) }
+    draft: TurnDraft,
+) -> Result<TurnDraft, AllocError>
+    requires { IfSome draft.wrote (MayFollow (stored_in memory.old)) }
+    ensures draft { IfOk result (λ same. same ≡ draft) }
+    ensures kept { OnOk result (kept_in memory.new ≡ with_wrote (record (kept_in memory.old) { sessions = decided_sessions memory.old.sessions branch.now decision }) draft.wrote) }
     ensures place { memory.new.place ≡ memory.old.place }
 {
     end_decided(&mut memory.sessions, branch, decision);
-    taken_in(memory, alloc, deed)
+    taken_in(memory, alloc, draft)
 }
 
 // Forgot stands, those beyond are told, and the COMMIT of a root is complete.
@@ -98,15 +102,15 @@ fn forgets(
     memory: &mut Memory,
     alloc: Global,
     branch: &BranchId,
-    deed: Deed,
-) -> Result<Deed, AllocError>
-    requires { IfSome deed.wrote (MayFollow (stored_in memory.old)) }
-    ensures deed { IfOk result (λ same. same ≡ deed) }
-    ensures kept { OnOk result (kept_in memory.new ≡ with_wrote (record (kept_in memory.old) { sessions = commit_ended memory.old.sessions branch.now }) deed.wrote) }
+    draft: TurnDraft,
+) -> Result<TurnDraft, AllocError>
+    requires { IfSome draft.wrote (MayFollow (stored_in memory.old)) }
+    ensures draft { IfOk result (λ same. same ≡ draft) }
+    ensures kept { OnOk result (kept_in memory.new ≡ with_wrote (record (kept_in memory.old) { sessions = commit_ended memory.old.sessions branch.now }) draft.wrote) }
     ensures place { memory.new.place ≡ memory.old.place }
 {
     memory.sessions.end_commit(branch);
-    taken_in(memory, alloc, deed)
+    taken_in(memory, alloc, draft)
 }
 
 /// What a kept branch does next.
@@ -116,39 +120,39 @@ pub(crate) fn next_turn(
     branch: &BranchId,
     from: BranchId,
     next: Next,
-) -> Result<Deed, AllocError>
-    ensures gives { IfOk result (λ deed. Gives (at_kept (kept_in memory.old) branch.now (λ s. next_turn_of (kept_in memory.old) s from next)) (kept_in memory.new) deed) }
+) -> Result<TurnDraft, AllocError>
+    ensures gives { IfOk result (λ draft. Gives (at_kept (kept_in memory.old) branch.now (λ s. next_turn_of (kept_in memory.old) s from next)) (kept_in memory.new) draft) }
     ensures place { memory.new.place ≡ memory.old.place }
 {
-    let Some(row) = memory.standing_at(branch) else {
-        return Ok(Deed::nothing(alloc));
+    let Some(row) = memory.kept_row_at(branch) else {
+        return Ok(TurnDraft::nothing(alloc));
     };
     let me = row.me;
     match next {
-        Next::Rest => Ok(Deed::nothing(alloc)),
+        Next::Rest => Ok(TurnDraft::nothing(alloc)),
         Next::End(decision) => {
-            let deed = learning(alloc, &memory.sessions, row, decision, None)?;
-            learns(memory, alloc, &me, decision, deed)
+            let draft = learning(alloc, &memory.sessions, row, decision, None)?;
+            learns(memory, alloc, &me, decision, draft)
         }
         Next::Meet { decision, mixed } => {
-            let deed = learning(alloc, &memory.sessions, row, decision, Some(mixed))?;
-            learns(memory, alloc, &me, decision, deed)
+            let draft = learning(alloc, &memory.sessions, row, decision, Some(mixed))?;
+            learns(memory, alloc, &me, decision, draft)
         }
         Next::AckToward => {
             let says = to_one(alloc, me, Kind::Ack, row.toward)?;
-            Ok(Deed::saying(alloc, says))
+            Ok(TurnDraft::saying(alloc, says))
         }
         Next::Forget => {
-            let deed = forgetting(alloc, &memory.sessions, row)?;
-            forgets(memory, alloc, &me, deed)
+            let draft = forgetting(alloc, &memory.sessions, row)?;
+            forgets(memory, alloc, &me, draft)
         }
         Next::SayForgotten => {
             let says = post(alloc, me, from, Kind::Forgotten)?;
-            Ok(Deed::saying(alloc, says))
+            Ok(TurnDraft::saying(alloc, says))
         }
         Next::SayAck => {
             let says = post(alloc, me, from, Kind::Ack)?;
-            Ok(Deed::saying(alloc, says))
+            Ok(TurnDraft::saying(alloc, says))
         }
     }
 }
@@ -159,12 +163,12 @@ pub(crate) fn on_ack(
     alloc: Global,
     branch: &BranchId,
     from: BranchId,
-) -> Result<Deed, AllocError>
-    ensures gives { IfOk result (λ deed. Gives (at_kept (kept_in memory.old) branch.now (λ s. on_ack_of (kept_in memory.old) s from)) (kept_in memory.new) deed) }
+) -> Result<TurnDraft, AllocError>
+    ensures gives { IfOk result (λ draft. Gives (at_kept (kept_in memory.old) branch.now (λ s. on_ack_of (kept_in memory.old) s from)) (kept_in memory.new) draft) }
     ensures place { memory.new.place ≡ memory.old.place }
 {
     match memory.hear_ack(alloc, branch, &from) {
-        None => Ok(Deed::nothing(alloc)),
+        None => Ok(TurnDraft::nothing(alloc)),
         Some(next) => next_turn(memory, alloc, branch, from, next),
     }
 }

@@ -8,12 +8,12 @@ ghost use Rattle.node_rules.specs.Prepare.{own_changes, decided_of, decides as d
 ghost use Rattle.node_rules.specs.Sessions.{commit_answer, commit_complete as commit_complete_of};
 ghost use Rattle.node_memory.specs.Parts.{kept_in};
 ghost use Rattle.node_memory.specs.Leaving.{IsOwnDecision};
-ghost use Rattle.node_deeds.specs.Gives.{Gives};
+ghost use Rattle.node_drafts.specs.Gives.{Gives};
 ghost use Rattle.node_commit.specs.Branches.{at_live, ended_if, left_by};
 
 use crate::looking::live_of;
 use dtx_values::Listing;
-use node_deeds::{Deed, commit_complete, decided_record, to_each};
+use node_drafts::{TurnDraft, commit_complete, decided_record, to_each};
 use node_memory::Memory;
 use node_rules::Ended;
 use node_state::Sessions;
@@ -69,9 +69,9 @@ fn deciding(
     live: &Live,
     scn: u64,
     redo: RedoRecord,
-) -> Result<Deed, AllocError>
-    ensures { IfOk result (λ deed.
-        deed ≡ record { wrote = Some redo; says = to_each_of live.now.me (kinds.Committed scn) (site_neighbors_of live.now); ended = if is_alone_of live.now then commit_answer sessions.now live.now.me commit_complete_of else [] }) }
+) -> Result<TurnDraft, AllocError>
+    ensures { IfOk result (λ draft.
+        draft ≡ record { wrote = Some redo; says = to_each_of live.now.me (kinds.Committed scn) (site_neighbors_of live.now); ended = if is_alone_of live.now then commit_answer sessions.now live.now.me commit_complete_of else [] }) }
 {
     match decision_says(alloc, live, scn) {
         Err(error) => {
@@ -84,7 +84,7 @@ fn deciding(
                 drop(says);
                 Err(error)
             }
-            Ok(ended) => Ok(Deed::writing(redo, says, ended)),
+            Ok(ended) => Ok(TurnDraft::writing(redo, says, ended)),
         },
     }
 }
@@ -94,20 +94,20 @@ fn decided(
     memory: &mut Memory,
     alloc: Global,
     branch: &BranchId,
-    deed: Deed,
-) -> Result<Deed, AllocError>
-    requires { IfSome deed.wrote (IsOwnDecision (kept_in memory.old) branch.now) }
-    ensures deed { IfOk result (λ same. same ≡ deed) }
-    ensures kept { OnOk result (kept_in memory.new ≡ left_by (kept_in memory.old) branch.now deed.wrote) }
+    draft: TurnDraft,
+) -> Result<TurnDraft, AllocError>
+    requires { IfSome draft.wrote (IsOwnDecision (kept_in memory.old) branch.now) }
+    ensures draft { IfOk result (λ same. same ≡ draft) }
+    ensures kept { OnOk result (kept_in memory.new ≡ left_by (kept_in memory.old) branch.now draft.wrote) }
     ensures place { memory.new.place ≡ memory.old.place }
 {
-    if let Some(redo) = &deed.wrote
+    if let Some(redo) = &draft.wrote
         && let Err(error) = memory.decide(alloc, branch, redo)
     {
-        drop(deed);
+        drop(draft);
         return Err(error);
     }
-    Ok(deed)
+    Ok(draft)
 }
 
 fn end_if(alone: bool, sessions: &mut Sessions, branch: &BranchId)
@@ -124,22 +124,22 @@ pub(crate) fn decides(
     memory: &mut Memory,
     alloc: Global,
     branch: &BranchId,
-) -> Result<Deed, AllocError>
+) -> Result<TurnDraft, AllocError>
     requires { memory.old.clock < 2 ^ 48 - 1 }
-    ensures gives { IfOk result (λ deed. Gives (at_live (kept_in memory.old) branch.now (λ l. decides_of (kept_in memory.old) l)) (kept_in memory.new) deed) }
+    ensures gives { IfOk result (λ draft. Gives (at_live (kept_in memory.old) branch.now (λ l. decides_of (kept_in memory.old) l)) (kept_in memory.new) draft) }
     ensures place { memory.new.place ≡ memory.old.place }
 {
     match live_of(memory, branch) {
-        None => Ok(Deed::nothing(alloc)),
+        None => Ok(TurnDraft::nothing(alloc)),
         Some(live) => {
             let me = live.me;
             let alone = is_alone(live);
             let scn = memory.clock.now() + 1;
             let redo = decision_record(memory, alloc, live, scn)?;
-            let deed = deciding(alloc, &memory.sessions, live, scn, redo)?;
+            let draft = deciding(alloc, &memory.sessions, live, scn, redo)?;
             end_if(alone, &mut memory.sessions, &me);
             memory.clock.next();
-            decided(memory, alloc, &me, deed)
+            decided(memory, alloc, &me, draft)
         }
     }
 }

@@ -3,13 +3,15 @@ ghost use Rattle.std.specs.Prelude.{◌≡◌, ◌-◌, ◌<◌, ◌^◌, ◌++�
 ghost use Rattle.node_rules.specs.Force.{branch_to_force as branch_to_force_of, forces as forces_of, force_commit as force_commit_of, force_rollback as force_rollback_of, purge as purge_of};
 ghost use Rattle.node_rules.specs.Sessions.{commit_answer as commit_answer_of, tran_refusal as tran_refusal_of};
 ghost use Rattle.node_memory.specs.Parts.{kept_in};
-ghost use Rattle.node_deeds.specs.Gives.{Gives};
+ghost use Rattle.node_drafts.specs.Gives.{Gives};
 ghost use Rattle.node_commit.specs.Branches.{hides_named};
 
 use crate::committing::taken_in;
 use dtx_values::{Answer, Done, Listing, Refusal};
 use force_cmds::may_purge;
-use node_deeds::{Deed, TRAN_IN_DOUBT, branch_to_force, ended, nothing_to_purge, tran_refusal};
+use node_drafts::{
+    TRAN_IN_DOUBT, TurnDraft, branch_to_force, ended, nothing_to_purge, tran_refusal,
+};
 use node_memory::Memory;
 use node_rules::{Ended, Finished};
 use node_state::Sessions;
@@ -56,8 +58,8 @@ fn forces(
     decision: Decision,
     given: bool,
     answer: Answer,
-) -> Result<Deed, AllocError>
-    ensures gives { IfOk result (λ deed. Gives (forces_of (kept_in memory.old) session branch decision given answer) (kept_in memory.new) deed) }
+) -> Result<TurnDraft, AllocError>
+    ensures gives { IfOk result (λ draft. Gives (forces_of (kept_in memory.old) session branch decision given answer) (kept_in memory.new) draft) }
     ensures place { memory.new.place ≡ memory.old.place }
 {
     let ends = forced_ends(alloc, &memory.sessions, session, &branch, answer)?;
@@ -67,8 +69,8 @@ fn forces(
         given,
     };
     memory.sessions.end_commit(&branch);
-    let deed = Deed::writing(redo, Listing::new(alloc), ends);
-    taken_in(memory, alloc, deed)
+    let draft = TurnDraft::writing(redo, Listing::new(alloc), ends);
+    taken_in(memory, alloc, draft)
 }
 
 // COMMIT FORCE of a branch.
@@ -78,9 +80,9 @@ fn force_committed(
     session: u32,
     scn: Option<u64>,
     branch: BranchId,
-) -> Result<Deed, AllocError>
+) -> Result<TurnDraft, AllocError>
     requires { memory.old.clock < 2 ^ 48 - 1 }
-    ensures gives { IfOk result (λ deed. Gives (force_commit_of (kept_in memory.old) session scn (Ok branch)) (kept_in memory.new) deed) }
+    ensures gives { IfOk result (λ draft. Gives (force_commit_of (kept_in memory.old) session scn (Ok branch)) (kept_in memory.new) draft) }
     ensures place { memory.new.place ≡ memory.old.place }
 {
     let answer = Answer::Did(Done::Committed, 0);
@@ -116,13 +118,13 @@ fn force_commit(
     session: u32,
     scn: Option<u64>,
     named: Result<BranchId, Refusal>,
-) -> Result<Deed, AllocError>
+) -> Result<TurnDraft, AllocError>
     requires { memory.old.clock < 2 ^ 48 - 1 }
-    ensures gives { IfOk result (λ deed. Gives (force_commit_of (kept_in memory.old) session scn named) (kept_in memory.new) deed) }
+    ensures gives { IfOk result (λ draft. Gives (force_commit_of (kept_in memory.old) session scn named) (kept_in memory.new) draft) }
     ensures place { memory.new.place ≡ memory.old.place }
 {
     match named {
-        Err(refusal) => Deed::ending(alloc, session, Answer::Refused(refusal)),
+        Err(refusal) => TurnDraft::ending(alloc, session, Answer::Refused(refusal)),
         Ok(branch) => force_committed(memory, alloc, session, scn, branch),
     }
 }
@@ -133,12 +135,12 @@ fn force_rollback(
     alloc: Global,
     session: u32,
     named: Result<BranchId, Refusal>,
-) -> Result<Deed, AllocError>
-    ensures gives { IfOk result (λ deed. Gives (force_rollback_of (kept_in memory.old) session named) (kept_in memory.new) deed) }
+) -> Result<TurnDraft, AllocError>
+    ensures gives { IfOk result (λ draft. Gives (force_rollback_of (kept_in memory.old) session named) (kept_in memory.new) draft) }
     ensures place { memory.new.place ≡ memory.old.place }
 {
     match named {
-        Err(refusal) => Deed::ending(alloc, session, Answer::Refused(refusal)),
+        Err(refusal) => TurnDraft::ending(alloc, session, Answer::Refused(refusal)),
         Ok(branch) => {
             let answer = Answer::Did(Done::RolledBack, 0);
             forces(
@@ -161,9 +163,9 @@ pub fn commit_force(
     session: u32,
     id: &[u8],
     scn: Option<u64>,
-) -> Result<Deed, AllocError>
+) -> Result<TurnDraft, AllocError>
     requires { memory.old.clock < 2 ^ 48 - 1 }
-    ensures gives { IfOk result (λ deed. Gives (force_commit_of (kept_in memory.old) session scn (branch_to_force_of memory.old.place.names memory.old.kept id.now)) (kept_in memory.new) deed) }
+    ensures gives { IfOk result (λ draft. Gives (force_commit_of (kept_in memory.old) session scn (branch_to_force_of memory.old.place.names memory.old.kept id.now)) (kept_in memory.new) draft) }
     ensures place { memory.new.place ≡ memory.old.place }
 {
     let names = memory.place.names.as_slice();
@@ -177,8 +179,8 @@ pub fn rollback_force(
     alloc: Global,
     session: u32,
     id: &[u8],
-) -> Result<Deed, AllocError>
-    ensures gives { IfOk result (λ deed. Gives (force_rollback_of (kept_in memory.old) session (branch_to_force_of memory.old.place.names memory.old.kept id.now)) (kept_in memory.new) deed) }
+) -> Result<TurnDraft, AllocError>
+    ensures gives { IfOk result (λ draft. Gives (force_rollback_of (kept_in memory.old) session (branch_to_force_of memory.old.place.names memory.old.kept id.now)) (kept_in memory.new) draft) }
     ensures place { memory.new.place ≡ memory.old.place }
 {
     let names = memory.place.names.as_slice();
@@ -193,19 +195,19 @@ fn hides(
     session: u32,
     id: &[u8],
     found: Option<BranchId>,
-) -> Result<Deed, AllocError>
-    ensures gives { IfOk result (λ deed. Gives (hides_named (kept_in memory.old) session id.now found) (kept_in memory.new) deed) }
+) -> Result<TurnDraft, AllocError>
+    ensures gives { IfOk result (λ draft. Gives (hides_named (kept_in memory.old) session id.now found) (kept_in memory.new) draft) }
     ensures place { memory.new.place ≡ memory.old.place }
 {
     match found {
         None => {
             let refusal = nothing_to_purge(alloc, id)?;
-            Deed::ending(alloc, session, Answer::Refused(refusal))
+            TurnDraft::ending(alloc, session, Answer::Refused(refusal))
         }
         Some(me) => {
             let ends = ended(alloc, session, Answer::Did(Done::Purged, 0))?;
-            let deed = Deed::writing(RedoRecord::Hidden(me), Listing::new(alloc), ends);
-            taken_in(memory, alloc, deed)
+            let draft = TurnDraft::writing(RedoRecord::Hidden(me), Listing::new(alloc), ends);
+            taken_in(memory, alloc, draft)
         }
     }
 }
@@ -218,8 +220,8 @@ pub fn purge(
     session: u32,
     mixed: bool,
     id: &[u8],
-) -> Result<Deed, AllocError>
-    ensures gives { IfOk result (λ deed. Gives (purge_of (kept_in memory.old) session mixed id.now) (kept_in memory.new) deed) }
+) -> Result<TurnDraft, AllocError>
+    ensures gives { IfOk result (λ draft. Gives (purge_of (kept_in memory.old) session mixed id.now) (kept_in memory.new) draft) }
     ensures place { memory.new.place ≡ memory.old.place }
 {
     let found = may_purge(alloc, memory.kept.as_slice(), id, mixed)?;

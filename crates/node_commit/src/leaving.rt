@@ -5,13 +5,13 @@ ghost use Rattle.node_rules.specs.NodeState.{saying, to_one as to_one_of, withou
 ghost use Rattle.node_rules.specs.Prepare.{drops as drops_of, root_drops as root_drops_of, to_children as to_children_of, abandons as abandons_of, finishes as finishes_of};
 ghost use Rattle.node_rules.specs.Sessions.{commit_answer as commit_answer_of};
 ghost use Rattle.node_memory.specs.Parts.{kept_in};
-ghost use Rattle.node_deeds.specs.Gives.{Gives};
+ghost use Rattle.node_drafts.specs.Gives.{Gives};
 ghost use Rattle.node_commit.specs.Branches.{at_live};
 
 use crate::looking::live_of;
 use crate::session_ends::{abandon_ends, end_abandoned};
 use dtx_values::{Answer, Listing};
-use node_deeds::{Deed, abandon_says, commit_complete, drop_says, to_children, to_one};
+use node_drafts::{TurnDraft, abandon_says, commit_complete, drop_says, to_children, to_one};
 use node_memory::Memory;
 use node_state::Sessions;
 use reco::Posts;
@@ -26,20 +26,20 @@ pub(crate) fn drops(
     alloc: Global,
     branch: &BranchId,
     first: Posts,
-) -> Result<Deed, AllocError>
-    ensures gives { IfOk result (λ deed. Gives (at_live (kept_in memory.old) branch.now (λ l. drops_of (kept_in memory.old) l first)) (kept_in memory.new) deed) }
+) -> Result<TurnDraft, AllocError>
+    ensures gives { IfOk result (λ draft. Gives (at_live (kept_in memory.old) branch.now (λ l. drops_of (kept_in memory.old) l first)) (kept_in memory.new) draft) }
     ensures place { memory.new.place ≡ memory.old.place }
 {
     match live_of(memory, branch) {
         None => {
             drop(first);
-            Ok(Deed::nothing(alloc))
+            Ok(TurnDraft::nothing(alloc))
         }
         Some(live) => {
             let me = live.me;
             let says = drop_says(alloc, live, first)?;
             memory.drop_branch(&me);
-            Ok(Deed::saying(alloc, says))
+            Ok(TurnDraft::saying(alloc, says))
         }
     }
 }
@@ -50,9 +50,9 @@ fn root_dropping(
     sessions: &Sessions,
     live: &Live,
     answer: Answer,
-) -> Result<Deed, AllocError>
-    ensures { IfOk result (λ deed.
-        deed ≡ record { wrote = None; says = to_children_of live.now kinds.Rollback; ended = commit_answer_of sessions.now live.now.me answer }) }
+) -> Result<TurnDraft, AllocError>
+    ensures { IfOk result (λ draft.
+        draft ≡ record { wrote = None; says = to_children_of live.now kinds.Rollback; ended = commit_answer_of sessions.now live.now.me answer }) }
 {
     let ended = sessions.commit_answer(alloc, &live.me, answer)?;
     match to_children(alloc, live, &Kind::Rollback) {
@@ -60,7 +60,7 @@ fn root_dropping(
             drop(ended);
             Err(error)
         }
-        Ok(says) => Ok(Deed {
+        Ok(says) => Ok(TurnDraft {
             wrote: None,
             says,
             ended,
@@ -74,21 +74,21 @@ pub(crate) fn root_drops(
     alloc: Global,
     branch: &BranchId,
     answer: Answer,
-) -> Result<Deed, AllocError>
-    ensures gives { IfOk result (λ deed. Gives (at_live (kept_in memory.old) branch.now (λ l. root_drops_of (kept_in memory.old) l answer)) (kept_in memory.new) deed) }
+) -> Result<TurnDraft, AllocError>
+    ensures gives { IfOk result (λ draft. Gives (at_live (kept_in memory.old) branch.now (λ l. root_drops_of (kept_in memory.old) l answer)) (kept_in memory.new) draft) }
     ensures place { memory.new.place ≡ memory.old.place }
 {
     match live_of(memory, branch) {
         None => {
             drop(answer);
-            Ok(Deed::nothing(alloc))
+            Ok(TurnDraft::nothing(alloc))
         }
         Some(live) => {
             let me = live.me;
-            let deed = root_dropping(alloc, &memory.sessions, live, answer)?;
+            let draft = root_dropping(alloc, &memory.sessions, live, answer)?;
             memory.sessions.end_commit(&me);
             memory.drop_branch(&me);
-            Ok(deed)
+            Ok(draft)
         }
     }
 }
@@ -98,12 +98,12 @@ pub(crate) fn abandons(
     memory: &mut Memory,
     alloc: Global,
     branch: &BranchId,
-) -> Result<Deed, AllocError>
-    ensures gives { IfOk result (λ deed. Gives (at_live (kept_in memory.old) branch.now (λ l. abandons_of (kept_in memory.old) l)) (kept_in memory.new) deed) }
+) -> Result<TurnDraft, AllocError>
+    ensures gives { IfOk result (λ draft. Gives (at_live (kept_in memory.old) branch.now (λ l. abandons_of (kept_in memory.old) l)) (kept_in memory.new) draft) }
     ensures place { memory.new.place ≡ memory.old.place }
 {
     match live_of(memory, branch) {
-        None => Ok(Deed::nothing(alloc)),
+        None => Ok(TurnDraft::nothing(alloc)),
         Some(live) => {
             let me = live.me;
             let parent = live.parent;
@@ -111,7 +111,7 @@ pub(crate) fn abandons(
             let ended = abandon_ends(alloc, &memory.sessions, live)?;
             end_abandoned(&mut memory.sessions, &me, parent);
             memory.drop_branch(&me);
-            Ok(Deed {
+            Ok(TurnDraft {
                 wrote: None,
                 says,
                 ended,
@@ -125,12 +125,12 @@ pub(crate) fn finishes(
     memory: &mut Memory,
     alloc: Global,
     branch: &BranchId,
-) -> Result<Deed, AllocError>
-    ensures gives { IfOk result (λ deed. Gives (at_live (kept_in memory.old) branch.now (λ l. finishes_of (kept_in memory.old) l)) (kept_in memory.new) deed) }
+) -> Result<TurnDraft, AllocError>
+    ensures gives { IfOk result (λ draft. Gives (at_live (kept_in memory.old) branch.now (λ l. finishes_of (kept_in memory.old) l)) (kept_in memory.new) draft) }
     ensures place { memory.new.place ≡ memory.old.place }
 {
     match live_of(memory, branch) {
-        None => Ok(Deed::nothing(alloc)),
+        None => Ok(TurnDraft::nothing(alloc)),
         Some(live) => {
             let me = live.me;
             let ended = memory
@@ -138,7 +138,7 @@ pub(crate) fn finishes(
                 .commit_answer(alloc, &me, commit_complete())?;
             memory.sessions.end_commit(&me);
             memory.drop_branch(&me);
-            Ok(Deed {
+            Ok(TurnDraft {
                 wrote: None,
                 says: Listing::new(alloc),
                 ended,
@@ -152,17 +152,17 @@ pub(crate) fn says_read_only(
     memory: &mut Memory,
     alloc: Global,
     branch: &BranchId,
-) -> Result<Deed, AllocError>
-    ensures gives { IfOk result (λ deed. Gives (at_live (kept_in memory.old) branch.now (λ l. saying (without_branch (kept_in memory.old) l.me) (to_one_of l.me kinds.ReadOnly l.parent))) (kept_in memory.new) deed) }
+) -> Result<TurnDraft, AllocError>
+    ensures gives { IfOk result (λ draft. Gives (at_live (kept_in memory.old) branch.now (λ l. saying (without_branch (kept_in memory.old) l.me) (to_one_of l.me kinds.ReadOnly l.parent))) (kept_in memory.new) draft) }
     ensures place { memory.new.place ≡ memory.old.place }
 {
     match live_of(memory, branch) {
-        None => Ok(Deed::nothing(alloc)),
+        None => Ok(TurnDraft::nothing(alloc)),
         Some(live) => {
             let me = live.me;
             let says = to_one(alloc, me, Kind::ReadOnly, live.parent)?;
             memory.drop_branch(&me);
-            Ok(Deed::saying(alloc, says))
+            Ok(TurnDraft::saying(alloc, says))
         }
     }
 }

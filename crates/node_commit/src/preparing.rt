@@ -8,7 +8,7 @@ ghost use Rattle.node_rules.specs.Data.acts as acts;
 ghost use Rattle.node_rules.specs.NodeState.{NodeState, live_at as live_at_of};
 ghost use Rattle.node_rules.specs.Prepare.{act_turn as act_turn_of, collects as collects_of, with_comment, on_answer as on_answer_of};
 ghost use Rattle.node_memory.specs.Parts.{kept_in};
-ghost use Rattle.node_deeds.specs.Gives.{Gives};
+ghost use Rattle.node_drafts.specs.Gives.{Gives};
 ghost use Rattle.node_commit.specs.Branches.{at_live, phase_of, begun, answered, MayCommit};
 
 use crate::deciding::decides;
@@ -16,7 +16,7 @@ use crate::leaving::{abandons, finishes, says_read_only};
 use crate::looking::live_of;
 use crate::sealing::{seals_and_passes, seals_prepared};
 use dtx_values::Bytes;
-use node_deeds::{Deed, prepares, to_one};
+use node_drafts::{TurnDraft, prepares, to_one};
 use node_memory::Memory;
 use session_tree::{Act, Vote};
 use std::alloc::{AllocError, Global};
@@ -24,10 +24,10 @@ use tran_ids::BranchId;
 use wire_msg::Kind;
 
 // A branch that waits stays as it is.
-fn rests(alloc: Global) -> Deed
+fn rests(alloc: Global) -> TurnDraft
     ensures { (k : NodeState) (b : BranchIdBy) (site_below : Bool) → Gives (at_live k b (λ l. act_turn_of k l site_below acts.Rest)) k result }
 {
-    Deed::nothing(alloc)
+    TurnDraft::nothing(alloc)
 }
 
 // Prepare goes to each child.
@@ -36,29 +36,33 @@ fn asks_down(
     alloc: Global,
     branch: &BranchId,
     site_below: bool,
-) -> Result<Deed, AllocError>
-    ensures { IfOk result (λ deed. Gives (at_live (kept_in memory.now) branch.now (λ l. act_turn_of (kept_in memory.now) l site_below acts.AskDown)) (kept_in memory.now) deed) }
+) -> Result<TurnDraft, AllocError>
+    ensures { IfOk result (λ draft. Gives (at_live (kept_in memory.now) branch.now (λ l. act_turn_of (kept_in memory.now) l site_below acts.AskDown)) (kept_in memory.now) draft) }
 {
     match live_of(memory, branch) {
-        None => Ok(Deed::nothing(alloc)),
+        None => Ok(TurnDraft::nothing(alloc)),
         Some(live) => {
             let says = prepares(alloc, live, site_below)?;
-            Ok(Deed::saying(alloc, says))
+            Ok(TurnDraft::saying(alloc, says))
         }
     }
 }
 
 // The branch answers Ready, and waits for CommitPoint.
-fn says_ready(memory: &mut Memory, alloc: Global, branch: &BranchId) -> Result<Deed, AllocError>
-    ensures gives { IfOk result (λ deed. (site_below : Bool) → Gives (at_live (kept_in memory.old) branch.now (λ l. act_turn_of (kept_in memory.old) l site_below acts.SayReady)) (kept_in memory.new) deed) }
+fn says_ready(
+    memory: &mut Memory,
+    alloc: Global,
+    branch: &BranchId,
+) -> Result<TurnDraft, AllocError>
+    ensures gives { IfOk result (λ draft. (site_below : Bool) → Gives (at_live (kept_in memory.old) branch.now (λ l. act_turn_of (kept_in memory.old) l site_below acts.SayReady)) (kept_in memory.new) draft) }
     ensures place { memory.new.place ≡ memory.old.place }
 {
     match live_of(memory, branch) {
-        None => Ok(Deed::nothing(alloc)),
+        None => Ok(TurnDraft::nothing(alloc)),
         Some(live) => {
             let says = to_one(alloc, live.me, Kind::Ready, live.parent)?;
             memory.lives.make_ready(branch);
-            Ok(Deed::saying(alloc, says))
+            Ok(TurnDraft::saying(alloc, says))
         }
     }
 }
@@ -70,9 +74,9 @@ pub(crate) fn act_turn(
     branch: &BranchId,
     site_below: bool,
     act: Act,
-) -> Result<Deed, AllocError>
+) -> Result<TurnDraft, AllocError>
     requires { MayCommit memory.old branch.now }
-    ensures gives { IfOk result (λ deed. Gives (at_live (kept_in memory.old) branch.now (λ l. act_turn_of (kept_in memory.old) l site_below act)) (kept_in memory.new) deed) }
+    ensures gives { IfOk result (λ draft. Gives (at_live (kept_in memory.old) branch.now (λ l. act_turn_of (kept_in memory.old) l site_below act)) (kept_in memory.new) draft) }
     ensures place { memory.new.place ≡ memory.old.place }
 {
     match act {
@@ -113,14 +117,14 @@ pub fn collects(
     branch: &BranchId,
     site_below: bool,
     comment: Bytes,
-) -> Result<Deed, AllocError>
+) -> Result<TurnDraft, AllocError>
     requires working { phase_of (kept_in memory.old) branch.now ≡ Some phases.Working }
     requires may { MayCommit memory.old branch.now }
-    ensures gives { IfOk result (λ deed. Gives (at_live (kept_in memory.old) branch.now (λ l. collects_of (kept_in memory.old) (with_comment l comment) site_below)) (kept_in memory.new) deed) }
+    ensures gives { IfOk result (λ draft. Gives (at_live (kept_in memory.old) branch.now (λ l. collects_of (kept_in memory.old) (with_comment l comment) site_below)) (kept_in memory.new) draft) }
     ensures place { memory.new.place ≡ memory.old.place }
 {
     match begins(memory, alloc, branch, site_below, comment) {
-        None => Ok(Deed::nothing(alloc)),
+        None => Ok(TurnDraft::nothing(alloc)),
         Some(act) => act_turn(memory, alloc, branch, site_below, act),
     }
 }
@@ -149,14 +153,14 @@ pub(crate) fn hears(
     site_below: bool,
     from: &BranchId,
     vote: Vote,
-) -> Result<Deed, AllocError>
+) -> Result<TurnDraft, AllocError>
     requires collecting { phase_of (kept_in memory.old) branch.now ≡ Some (phases.Collecting site_below) }
     requires may { MayCommit memory.old branch.now }
-    ensures gives { IfOk result (λ deed. Gives (at_live (kept_in memory.old) branch.now (λ l. on_answer_of (kept_in memory.old) l from.now vote)) (kept_in memory.new) deed) }
+    ensures gives { IfOk result (λ draft. Gives (at_live (kept_in memory.old) branch.now (λ l. on_answer_of (kept_in memory.old) l from.now vote)) (kept_in memory.new) draft) }
     ensures place { memory.new.place ≡ memory.old.place }
 {
     match counts(memory, alloc, branch, from, vote) {
-        None => Ok(Deed::nothing(alloc)),
+        None => Ok(TurnDraft::nothing(alloc)),
         Some(act) => act_turn(memory, alloc, branch, site_below, act),
     }
 }

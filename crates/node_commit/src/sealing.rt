@@ -8,12 +8,12 @@ ghost use Rattle.node_rules.specs.NodeState.{to_one as to_one_of};
 ghost use Rattle.node_rules.specs.Prepare.{seals as seals_of, sealed_record as sealed_record_of};
 ghost use Rattle.node_memory.specs.Parts.{kept_in};
 ghost use Rattle.node_memory.specs.Leaving.{IsOwnSeal};
-ghost use Rattle.node_deeds.specs.Gives.{Gives};
+ghost use Rattle.node_drafts.specs.Gives.{Gives};
 ghost use Rattle.node_commit.specs.Branches.{at_live, left_by};
 
 use crate::looking::live_of;
 use dtx_values::Listing;
-use node_deeds::{Deed, peer_of, sealed_record, to_one};
+use node_drafts::{TurnDraft, peer_of, sealed_record, to_one};
 use node_memory::Memory;
 use reco::Posts;
 use redo_record::RedoRecord;
@@ -42,21 +42,21 @@ fn sealed(
     memory: &mut Memory,
     alloc: Global,
     branch: &BranchId,
-    deed: Deed,
-) -> Result<Deed, AllocError>
+    draft: TurnDraft,
+) -> Result<TurnDraft, AllocError>
     requires apart { is_in_doubt memory.old.store.doubts branch.now ≡ false }
-    requires own { IfSome deed.wrote (IsOwnSeal (kept_in memory.old) branch.now) }
-    ensures deed { IfOk result (λ same. same ≡ deed) }
-    ensures kept { OnOk result (kept_in memory.new ≡ left_by (kept_in memory.old) branch.now deed.wrote) }
+    requires own { IfSome draft.wrote (IsOwnSeal (kept_in memory.old) branch.now) }
+    ensures draft { IfOk result (λ same. same ≡ draft) }
+    ensures kept { OnOk result (kept_in memory.new ≡ left_by (kept_in memory.old) branch.now draft.wrote) }
     ensures place { memory.new.place ≡ memory.old.place }
 {
-    if let Some(redo) = &deed.wrote
+    if let Some(redo) = &draft.wrote
         && let Err(error) = memory.seal(alloc, branch, redo)
     {
-        drop(deed);
+        drop(draft);
         return Err(error);
     }
-    Ok(deed)
+    Ok(draft)
 }
 
 // What a branch writes and says that becomes sealed.
@@ -66,17 +66,17 @@ fn sealing(
     live: &Live,
     path: Option<u8>,
     says: Posts,
-) -> Result<Deed, AllocError>
+) -> Result<TurnDraft, AllocError>
     requires { length live.now.edges ≤ branch_limit }
-    ensures deed { IfOk result (λ deed. deed ≡ record { wrote = Some (sealed_record_of (kept_in memory.now) live.now path); says = says; ended = [] }) }
-    ensures own { IfOk result (λ deed. IfSome deed.wrote (IsOwnSeal (kept_in memory.now) live.now.me)) }
+    ensures draft { IfOk result (λ draft. draft ≡ record { wrote = Some (sealed_record_of (kept_in memory.now) live.now path); says = says; ended = [] }) }
+    ensures own { IfOk result (λ draft. IfSome draft.wrote (IsOwnSeal (kept_in memory.now) live.now.me)) }
 {
     match seal_record(memory, alloc, live, path) {
         Err(error) => {
             drop(says);
             Err(error)
         }
-        Ok(redo) => Ok(Deed::writing(redo, says, Listing::new(alloc))),
+        Ok(redo) => Ok(TurnDraft::writing(redo, says, Listing::new(alloc))),
     }
 }
 
@@ -85,18 +85,18 @@ pub(crate) fn seals_prepared(
     memory: &mut Memory,
     alloc: Global,
     branch: &BranchId,
-) -> Result<Deed, AllocError>
+) -> Result<TurnDraft, AllocError>
     requires { is_in_doubt memory.old.store.doubts branch.now ≡ false }
-    ensures gives { IfOk result (λ deed. Gives (at_live (kept_in memory.old) branch.now (λ l. seals_of (kept_in memory.old) l None (to_one_of l.me kinds.Prepared l.parent))) (kept_in memory.new) deed) }
+    ensures gives { IfOk result (λ draft. Gives (at_live (kept_in memory.old) branch.now (λ l. seals_of (kept_in memory.old) l None (to_one_of l.me kinds.Prepared l.parent))) (kept_in memory.new) draft) }
     ensures place { memory.new.place ≡ memory.old.place }
 {
     match live_of(memory, branch) {
-        None => Ok(Deed::nothing(alloc)),
+        None => Ok(TurnDraft::nothing(alloc)),
         Some(live) => {
             let me = live.me;
             let says = to_one(alloc, me, Kind::Prepared, live.parent)?;
-            let deed = sealing(memory, alloc, live, None, says)?;
-            sealed(memory, alloc, &me, deed)
+            let draft = sealing(memory, alloc, live, None, says)?;
+            sealed(memory, alloc, &me, draft)
         }
     }
 }
@@ -107,18 +107,18 @@ pub(crate) fn seals_and_passes(
     alloc: Global,
     branch: &BranchId,
     number: u8,
-) -> Result<Deed, AllocError>
+) -> Result<TurnDraft, AllocError>
     requires { is_in_doubt memory.old.store.doubts branch.now ≡ false }
-    ensures gives { IfOk result (λ deed. Gives (at_live (kept_in memory.old) branch.now (λ l. seals_of (kept_in memory.old) l (Some number) (to_one_of l.me kinds.CommitPoint (peer_of_number l number)))) (kept_in memory.new) deed) }
+    ensures gives { IfOk result (λ draft. Gives (at_live (kept_in memory.old) branch.now (λ l. seals_of (kept_in memory.old) l (Some number) (to_one_of l.me kinds.CommitPoint (peer_of_number l number)))) (kept_in memory.new) draft) }
     ensures place { memory.new.place ≡ memory.old.place }
 {
     match live_of(memory, branch) {
-        None => Ok(Deed::nothing(alloc)),
+        None => Ok(TurnDraft::nothing(alloc)),
         Some(live) => {
             let me = live.me;
             let says = to_one(alloc, me, Kind::CommitPoint, peer_of(live, number))?;
-            let deed = sealing(memory, alloc, live, Some(number), says)?;
-            sealed(memory, alloc, &me, deed)
+            let draft = sealing(memory, alloc, live, Some(number), says)?;
+            sealed(memory, alloc, &me, draft)
         }
     }
 }

@@ -5,7 +5,7 @@ ghost use Rattle.node_commit.specs.Branches.{ended_where};
 ghost use Rattle.node_rules.specs.Commit.{decided_sessions, decision_answers as decision_answers_of};
 
 use dtx_values::Listing;
-use node_deeds::{TRAN_ROLLED_BACK, tran_refusal};
+use node_drafts::{TRAN_ROLLED_BACK, tran_refusal};
 use node_rules::Ended;
 use node_state::Sessions;
 use redo_record::Decision;

@@ -1,9 +1,9 @@
 //! Messages of the prepare, commit and forget phases and of recovery, by what their branch is at the node: live, kept or gone.
 ghost use Rattle.std.specs.Prelude.{◌≡◌, IfOk};
 ghost use Rattle.node_rules.specs.NodeState.{saying, post as post_of};
-ghost use Rattle.node_rules.specs.Turn.{stand_of, prepare_turn as prepare_turn_of, answer_turn as answer_turn_of, commit_point_turn as commit_point_turn_of, committed_turn as committed_turn_of, rollback_turn as rollback_turn_of, rolled_back_turn as rolled_back_turn_of, ack_turn as ack_turn_of, forgotten_turn as forgotten_turn_of, ask_turn as ask_turn_of};
+ghost use Rattle.node_rules.specs.Turn.{status_of, prepare_turn as prepare_turn_of, answer_turn as answer_turn_of, commit_point_turn as commit_point_turn_of, committed_turn as committed_turn_of, rollback_turn as rollback_turn_of, rolled_back_turn as rolled_back_turn_of, ack_turn as ack_turn_of, forgotten_turn as forgotten_turn_of, ask_turn as ask_turn_of};
 ghost use Rattle.node_memory.specs.Parts.{kept_in};
-ghost use Rattle.node_deeds.specs.Gives.{Gives};
+ghost use Rattle.node_drafts.specs.Gives.{Gives};
 ghost use Rattle.node_commit.specs.Branches.{MayCommitWhereLive};
 
 use crate::committing::{next_turn, on_ack};
@@ -12,8 +12,8 @@ use crate::preparing::{act_turn, collects, hears};
 use crate::recovery::on_ask;
 use commit_forget::{on_commit_point, on_decision, on_forgotten};
 use dtx_values::{Bytes, Listing};
-use node_deeds::{Deed, on_ask_kept, on_commit_point_kept, on_prepare_kept, post};
-use node_memory::{Memory, Stand};
+use node_drafts::{TurnDraft, on_ask_kept, on_commit_point_kept, on_prepare_kept, post};
+use node_memory::{BranchStatus, Memory};
 use reco::Told;
 use redo_record::Decision;
 use session_tree::{Phase, Vote};
@@ -28,11 +28,11 @@ fn answer(
     me: BranchId,
     to: BranchId,
     kind: Kind,
-) -> Result<Deed, AllocError>
-    ensures { IfOk result (λ deed. Gives (saying (kept_in memory.now) (post_of me to kind)) (kept_in memory.now) deed) }
+) -> Result<TurnDraft, AllocError>
+    ensures { IfOk result (λ draft. Gives (saying (kept_in memory.now) (post_of me to kind)) (kept_in memory.now) draft) }
 {
     let says = post(alloc, me, to, kind)?;
-    Ok(Deed::saying(alloc, says))
+    Ok(TurnDraft::saying(alloc, says))
 }
 
 /// Prepare: a working branch begins its collect, and one that comes again to a live branch changes nothing; a kept branch
@@ -44,18 +44,18 @@ pub fn prepare_turn(
     to: BranchId,
     site_below: bool,
     comment: Bytes,
-) -> Result<Deed, AllocError>
+) -> Result<TurnDraft, AllocError>
     requires { MayCommitWhereLive memory.old to }
-    ensures gives { IfOk result (λ deed. Gives (prepare_turn_of (kept_in memory.old) from to site_below comment (stand_of (kept_in memory.old) to)) (kept_in memory.new) deed) }
+    ensures gives { IfOk result (λ draft. Gives (prepare_turn_of (kept_in memory.old) from to site_below comment (status_of (kept_in memory.old) to)) (kept_in memory.new) draft) }
     ensures place { memory.new.place ≡ memory.old.place }
 {
-    match memory.stand_of(&to) {
-        Stand::Live(it) => match it.live.phase {
+    match memory.status_of(&to) {
+        BranchStatus::Live(it) => match it.live.phase {
             Phase::Working => collects(memory, alloc, &to, site_below, comment),
-            _ => Ok(Deed::nothing(alloc)),
+            _ => Ok(TurnDraft::nothing(alloc)),
         },
-        Stand::Kept(row) => on_prepare_kept(alloc, row, from),
-        Stand::Gone => answer(memory, alloc, to, from, Kind::Abort),
+        BranchStatus::Kept(row) => on_prepare_kept(alloc, row, from),
+        BranchStatus::Gone => answer(memory, alloc, to, from, Kind::Abort),
     }
 }
 
@@ -66,17 +66,17 @@ pub fn answer_turn(
     from: BranchId,
     to: BranchId,
     vote: Vote,
-) -> Result<Deed, AllocError>
+) -> Result<TurnDraft, AllocError>
     requires { MayCommitWhereLive memory.old to }
-    ensures gives { IfOk result (λ deed. Gives (answer_turn_of (kept_in memory.old) from vote (stand_of (kept_in memory.old) to)) (kept_in memory.new) deed) }
+    ensures gives { IfOk result (λ draft. Gives (answer_turn_of (kept_in memory.old) from vote (status_of (kept_in memory.old) to)) (kept_in memory.new) draft) }
     ensures place { memory.new.place ≡ memory.old.place }
 {
-    match memory.stand_of(&to) {
-        Stand::Live(it) => match it.live.phase {
+    match memory.status_of(&to) {
+        BranchStatus::Live(it) => match it.live.phase {
             Phase::Collecting { site_below } => hears(memory, alloc, &to, site_below, &from, vote),
-            _ => Ok(Deed::nothing(alloc)),
+            _ => Ok(TurnDraft::nothing(alloc)),
         },
-        Stand::Kept(_) | Stand::Gone => Ok(Deed::nothing(alloc)),
+        BranchStatus::Kept(_) | BranchStatus::Gone => Ok(TurnDraft::nothing(alloc)),
     }
 }
 
@@ -88,21 +88,21 @@ pub fn commit_point_turn(
     alloc: Global,
     from: BranchId,
     to: BranchId,
-) -> Result<Deed, AllocError>
+) -> Result<TurnDraft, AllocError>
     requires { MayCommitWhereLive memory.old to }
-    ensures gives { IfOk result (λ deed. Gives (commit_point_turn_of (kept_in memory.old) from to (stand_of (kept_in memory.old) to)) (kept_in memory.new) deed) }
+    ensures gives { IfOk result (λ draft. Gives (commit_point_turn_of (kept_in memory.old) from to (status_of (kept_in memory.old) to)) (kept_in memory.new) draft) }
     ensures place { memory.new.place ≡ memory.old.place }
 {
-    match memory.stand_of(&to) {
-        Stand::Live(it) => match it.live.phase {
+    match memory.status_of(&to) {
+        BranchStatus::Live(it) => match it.live.phase {
             Phase::Ready => {
                 let act = on_commit_point(it.live);
                 act_turn(memory, alloc, &to, true, act)
             }
-            _ => Ok(Deed::nothing(alloc)),
+            _ => Ok(TurnDraft::nothing(alloc)),
         },
-        Stand::Kept(row) => on_commit_point_kept(alloc, row, from),
-        Stand::Gone => answer(memory, alloc, to, from, Kind::RolledBack),
+        BranchStatus::Kept(row) => on_commit_point_kept(alloc, row, from),
+        BranchStatus::Gone => answer(memory, alloc, to, from, Kind::RolledBack),
     }
 }
 
@@ -114,17 +114,17 @@ pub fn committed_turn(
     from: BranchId,
     to: BranchId,
     scn: u64,
-) -> Result<Deed, AllocError>
-    ensures gives { IfOk result (λ deed. Gives (committed_turn_of (kept_in memory.old) from to scn (stand_of (kept_in memory.old) to)) (kept_in memory.new) deed) }
+) -> Result<TurnDraft, AllocError>
+    ensures gives { IfOk result (λ draft. Gives (committed_turn_of (kept_in memory.old) from to scn (status_of (kept_in memory.old) to)) (kept_in memory.new) draft) }
     ensures place { memory.new.place ≡ memory.old.place }
 {
-    match memory.stand_of(&to) {
-        Stand::Live(_) => Ok(Deed::nothing(alloc)),
-        Stand::Kept(row) => {
+    match memory.status_of(&to) {
+        BranchStatus::Live(_) => Ok(TurnDraft::nothing(alloc)),
+        BranchStatus::Kept(row) => {
             let next = on_decision(row, &from, Decision::Commit(scn));
             next_turn(memory, alloc, &to, from, next)
         }
-        Stand::Gone => answer(memory, alloc, to, from, Kind::Ack),
+        BranchStatus::Gone => answer(memory, alloc, to, from, Kind::Ack),
     }
 }
 
@@ -134,17 +134,17 @@ pub fn rollback_turn(
     alloc: Global,
     from: BranchId,
     to: BranchId,
-) -> Result<Deed, AllocError>
-    ensures gives { IfOk result (λ deed. Gives (rollback_turn_of (kept_in memory.old) from (stand_of (kept_in memory.old) to)) (kept_in memory.new) deed) }
+) -> Result<TurnDraft, AllocError>
+    ensures gives { IfOk result (λ draft. Gives (rollback_turn_of (kept_in memory.old) from (status_of (kept_in memory.old) to)) (kept_in memory.new) draft) }
     ensures place { memory.new.place ≡ memory.old.place }
 {
-    match memory.stand_of(&to) {
-        Stand::Live(_) => drops(memory, alloc, &to, Listing::new(alloc)),
-        Stand::Kept(row) => {
+    match memory.status_of(&to) {
+        BranchStatus::Live(_) => drops(memory, alloc, &to, Listing::new(alloc)),
+        BranchStatus::Kept(row) => {
             let next = on_decision(row, &from, Decision::Rollback);
             next_turn(memory, alloc, &to, from, next)
         }
-        Stand::Gone => Ok(Deed::nothing(alloc)),
+        BranchStatus::Gone => Ok(TurnDraft::nothing(alloc)),
     }
 }
 
@@ -154,20 +154,20 @@ pub fn rolled_back_turn(
     alloc: Global,
     from: BranchId,
     to: BranchId,
-) -> Result<Deed, AllocError>
-    ensures gives { IfOk result (λ deed. Gives (rolled_back_turn_of (kept_in memory.old) from (stand_of (kept_in memory.old) to)) (kept_in memory.new) deed) }
+) -> Result<TurnDraft, AllocError>
+    ensures gives { IfOk result (λ draft. Gives (rolled_back_turn_of (kept_in memory.old) from (status_of (kept_in memory.old) to)) (kept_in memory.new) draft) }
     ensures place { memory.new.place ≡ memory.old.place }
 {
-    match memory.stand_of(&to) {
-        Stand::Live(it) => match it.live.parent {
+    match memory.status_of(&to) {
+        BranchStatus::Live(it) => match it.live.parent {
             Some(parent) if parent.is(&from) => drops(memory, alloc, &to, Listing::new(alloc)),
-            _ => Ok(Deed::nothing(alloc)),
+            _ => Ok(TurnDraft::nothing(alloc)),
         },
-        Stand::Kept(row) => {
+        BranchStatus::Kept(row) => {
             let next = on_decision(row, &from, Decision::Rollback);
             next_turn(memory, alloc, &to, from, next)
         }
-        Stand::Gone => Ok(Deed::nothing(alloc)),
+        BranchStatus::Gone => Ok(TurnDraft::nothing(alloc)),
     }
 }
 
@@ -177,14 +177,14 @@ pub fn ack_turn(
     alloc: Global,
     from: BranchId,
     to: BranchId,
-) -> Result<Deed, AllocError>
-    ensures gives { IfOk result (λ deed. Gives (ack_turn_of (kept_in memory.old) from to (stand_of (kept_in memory.old) to)) (kept_in memory.new) deed) }
+) -> Result<TurnDraft, AllocError>
+    ensures gives { IfOk result (λ draft. Gives (ack_turn_of (kept_in memory.old) from to (status_of (kept_in memory.old) to)) (kept_in memory.new) draft) }
     ensures place { memory.new.place ≡ memory.old.place }
 {
-    match memory.stand_of(&to) {
-        Stand::Live(_) => Ok(Deed::nothing(alloc)),
-        Stand::Kept(_) => on_ack(memory, alloc, &to, from),
-        Stand::Gone => answer(memory, alloc, to, from, Kind::Forgotten),
+    match memory.status_of(&to) {
+        BranchStatus::Live(_) => Ok(TurnDraft::nothing(alloc)),
+        BranchStatus::Kept(_) => on_ack(memory, alloc, &to, from),
+        BranchStatus::Gone => answer(memory, alloc, to, from, Kind::Forgotten),
     }
 }
 
@@ -194,16 +194,16 @@ pub fn forgotten_turn(
     alloc: Global,
     from: BranchId,
     to: BranchId,
-) -> Result<Deed, AllocError>
-    ensures gives { IfOk result (λ deed. Gives (forgotten_turn_of (kept_in memory.old) from (stand_of (kept_in memory.old) to)) (kept_in memory.new) deed) }
+) -> Result<TurnDraft, AllocError>
+    ensures gives { IfOk result (λ draft. Gives (forgotten_turn_of (kept_in memory.old) from (status_of (kept_in memory.old) to)) (kept_in memory.new) draft) }
     ensures place { memory.new.place ≡ memory.old.place }
 {
-    match memory.stand_of(&to) {
-        Stand::Kept(row) => {
+    match memory.status_of(&to) {
+        BranchStatus::Kept(row) => {
             let next = on_forgotten(row, &from);
             next_turn(memory, alloc, &to, from, next)
         }
-        Stand::Live(_) | Stand::Gone => Ok(Deed::nothing(alloc)),
+        BranchStatus::Live(_) | BranchStatus::Gone => Ok(TurnDraft::nothing(alloc)),
     }
 }
 
@@ -213,13 +213,13 @@ pub fn ask_turn(
     alloc: Global,
     from: BranchId,
     to: BranchId,
-) -> Result<Deed, AllocError>
-    ensures gives { IfOk result (λ deed. Gives (ask_turn_of (kept_in memory.old) from to (stand_of (kept_in memory.old) to)) (kept_in memory.new) deed) }
+) -> Result<TurnDraft, AllocError>
+    ensures gives { IfOk result (λ draft. Gives (ask_turn_of (kept_in memory.old) from to (status_of (kept_in memory.old) to)) (kept_in memory.new) draft) }
     ensures place { memory.new.place ≡ memory.old.place }
 {
-    match memory.stand_of(&to) {
-        Stand::Live(_) => on_ask(memory, alloc, &to, from),
-        Stand::Kept(row) => on_ask_kept(alloc, row, from),
-        Stand::Gone => answer(memory, alloc, to, from, Told::RolledBack.kind()),
+    match memory.status_of(&to) {
+        BranchStatus::Live(_) => on_ask(memory, alloc, &to, from),
+        BranchStatus::Kept(row) => on_ask_kept(alloc, row, from),
+        BranchStatus::Gone => answer(memory, alloc, to, from, Told::RolledBack.kind()),
     }
 }

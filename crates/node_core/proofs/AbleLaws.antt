@@ -22,7 +22,7 @@ use Rattle.node_memory.specs.Parts.{stored_in, kept_in}
 use Rattle.node_commit.specs.Branches.{MayCommit, MayCommitWhereLive}
 use Rattle.node_calls.specs.Handled.{HasFewWith, HasNumbers, HasRoom, TakesStatement}
 use Rattle.node_calls.specs.Ready.{IsUsable, BranchesMayOpen, OpenedMayCome, RepliesMayCome, StatementsMayCome, TransactionsMayBegin}
-use Rattle.node_core.specs.declared.served.Served.{Served}
+use Rattle.node_core.specs.declared.served.StampedTurn.{StampedTurn}
 use Rattle.node_core.specs.Able.{given_limit, IsAble, MayTake}
 use Rattle.node_core.specs.Refused.{LeavesAll, IsRefused, RefusedCallsLeaveAll}
 use Rattle.node_core.specs.Serves.{Serves}
@@ -96,17 +96,17 @@ pub able_heard : (m n : Memory) (msg : Msg) → MayTake m.place (kept_in m) (inp
 able_heard m n msg may kept place =
     subst (λ (p : Place). IsAble p (kept_in n)) (sym place) (subst (λ (k : NodeState). IsAble m.place k) (sym kept) (raised_able m.place (kept_in m) msg may))
 
-pub ready_again : TurnsStayReady → (m n : Memory) (input : Input) (served : Served) → MayTake m.place (kept_in m) input → Serves (turn_of m.place (kept_in m) input) (kept_in n) served → n.place ≡ m.place
+pub ready_again : TurnsStayReady → (m n : Memory) (input : Input) (served : StampedTurn) → MayTake m.place (kept_in m) input → Serves (turn_of m.place (kept_in m) input) (kept_in n) served → n.place ≡ m.place
     → IsReady n.place (kept_in n)
 ready_again law m n input served may serves place =
     subst (λ (p : Place). IsReady p (kept_in n)) (sym place)
     (subst (λ (k : NodeState). IsReady m.place k) (sym serves.after) (law m.place (kept_in m) input may.expected may.able.ready).0)
 
-pub may_follow : TurnsStayReady → (m n : Memory) (input : Input) (served : Served) → MayTake m.place (kept_in m) input → Serves (turn_of m.place (kept_in m) input) (kept_in n) served
+pub may_follow : TurnsStayReady → (m n : Memory) (input : Input) (served : StampedTurn) → MayTake m.place (kept_in m) input → Serves (turn_of m.place (kept_in m) input) (kept_in n) served
     → IfSome served.wrote (IsNext (stored_in m))
 may_follow law m n input served may serves =
     subst (λ (wrote : Option RedoRecord). IfSome wrote (IsNext (stored_in m))) (sym serves.wrote) (law m.place (kept_in m) input may.expected may.able.ready).1
 
 -- a call that is refused
-pub refused_so : RefusedCallsLeaveAll → (p : Place) (k new : NodeState) (input : Input) (served : Served) → Serves (turn_of p k input) new served → IsRefused input served.ended → LeavesAll k (turn_of p k input)
+pub refused_so : RefusedCallsLeaveAll → (p : Place) (k new : NodeState) (input : Input) (served : StampedTurn) → Serves (turn_of p k input) new served → IsRefused input served.ended → LeavesAll k (turn_of p k input)
 refused_so law p k new input served serves refused = law p k input (subst (λ (ended : List Finished). IsRefused input ended) serves.ended refused)

@@ -4,7 +4,7 @@ use Rattle.tran_ids.specs.declared.branch.BranchId.{BranchId}
 use Rattle.node_rules.specs.Data.{Live}
 use Rattle.node_rules.specs.Data.phases
 use Rattle.node_rules.specs.declared.session.PendingCall.TheVariants as pending
-use Rattle.node_rules.specs.NodeState.{NodeState, Deed, live_at, with_work, branch_at}
+use Rattle.node_rules.specs.NodeState.{NodeState, TurnDraft, live_at, with_work, branch_at}
 use Rattle.node_rules.specs.Sessions.{with_call}
 use Rattle.node_rules.specs.Prepare.{collects, with_comment}
 use Rattle.node_rules.specs.Client.{commit_by}

@@ -1,7 +1,7 @@
 -- A call that is refused in the turn in which it came changes no row and no lock, and writes no record.
 use Rattle.std.proofs.Common.{◌≡◌, ℕ, Bool, true, false, if◌then◌else◌, List, [], ◌∷◌, ◌++◌, find, length, unwrap_or, Option, None, Some, refl, ap}
 use Rattle.std.specs.Prelude.{is_none, Result, Ok, Err}
-use Rattle.node_rules.specs.Data.{Table, Stmt, Answer, Done, Refusal, BranchId, RedoRecord, Standing, Edge, Live, Walk, Act, Place}
+use Rattle.node_rules.specs.Data.{Table, Stmt, Answer, Done, Refusal, BranchId, RedoRecord, KeptRow, Edge, Live, Walk, Act, Place}
 use Rattle.node_rules.specs.declared.session.Finished.{Finished}
 use Rattle.node_rules.specs.Data.answers
 use Rattle.node_rules.specs.Data.dones
@@ -13,8 +13,8 @@ use Rattle.node_rules.specs.declared.session.PendingCall.TheVariants as pending
 use Rattle.session_tree.specs.Tree.{step}
 use Rattle.prepare_phase.specs.Acts.{root_act, first_act_by}
 use Rattle.node_rules.specs.Names.{Way, Runs_here, Over, Through, Nowhere_to, way_of}
-use Rattle.node_rules.specs.Statement.{Ran, Refuses, Reads, Writes, node_after_run, after_run, answer_of_run, ran}
-use Rattle.node_rules.specs.NodeState.{NodeState, Deed, Branch}
+use Rattle.node_rules.specs.Statement.{StmtOutcome, Refuses, Reads, Writes, node_after_run, after_run, answer_of_run, ran}
+use Rattle.node_rules.specs.NodeState.{NodeState, TurnDraft, Branch}
 use Rattle.node_rules.specs.Sessions.{commit_is_pending, commit_complete, session_at, tran_refusal, with_call}
 use Rattle.node_rules.specs.Calls.{answer_ends, answered, goes}
 use Rattle.node_rules.specs.Prepare.{act_turn, is_alone, collecting, with_comment, without_read_keys}
@@ -27,7 +27,7 @@ use Rattle.node_core.specs.Refused.{LeavesAll, IsRefused, RefusedCallsLeaveAll}
 abbrev Says : ℕ → List Finished → Type 0
 Says n ended = (refusal : Refusal) × (ended ≡ (record { session = n; answer = answers.Refused refusal }) ∷ [])
 
-record Leaves (k : NodeState) (d : Deed) : Type 0 where
+record Leaves (k : NodeState) (d : TurnDraft) : Type 0 where
   stored : d.after.stored ≡ k.stored
   owns : d.after.owns ≡ k.owns
   locks : d.after.locks ≡ k.locks
@@ -74,7 +74,7 @@ none_ends n says = let is : None ≡ Some (answers.Refused says.0) = told n [] s
 
 -- ---- statements of a table
 
-run_leaves : (k : NodeState) (x : Branch) (t : Table) (r : Ran) (n : ℕ) → Says n (answered (node_after_run k x.live.me t r) (record x { live = after_run x.live r }) (answer_of_run r)).ended
+run_leaves : (k : NodeState) (x : Branch) (t : Table) (r : StmtOutcome) (n : ℕ) → Says n (answered (node_after_run k x.live.me t r) (record x { live = after_run x.live r }) (answer_of_run r)).ended
     → Leaves k (answered (node_after_run k x.live.me t r) (record x { live = after_run x.live r }) (answer_of_run r))
 run_leaves k x t (Refuses refusal) n says = record { stored = refl; owns = refl; locks = refl; wrote = refl }
 run_leaves k x t (Reads rows keys) n says = let is : answers.Found rows ≡ answers.Refused says.0 = ends_so (after_run x.live (Reads rows keys)) (answers.Found rows) x.live.parent n says in absurd cc
@@ -155,7 +155,7 @@ forces_rollback : (k : NodeState) (n : ℕ) (found : Result BranchId Refusal) �
 forces_rollback k n (Err refusal) says = record { stored = refl; owns = refl; locks = refl; wrote = refl }
 forces_rollback k n (Ok b) says = absurd (forced_not b.session n (tran_refusal 2054 b) dones.RolledBack (commit_is_pending k.sessions b) says)
 
-hides_leaves : (k : NodeState) (n : ℕ) (id : List ℕ) (found : Option Standing) → Says n (hides k n id found).ended → Leaves k (hides k n id found)
+hides_leaves : (k : NodeState) (n : ℕ) (id : List ℕ) (found : Option KeptRow) → Says n (hides k n id found).ended → Leaves k (hides k n id found)
 hides_leaves k n id None says = record { stored = refl; owns = refl; locks = refl; wrote = refl }
 hides_leaves k n id (Some s) says = absurd (did_not n n dones.Purged 0 says)
 

@@ -4,11 +4,11 @@ use Rattle.node_rules.specs.Data.{Refusal, RedoRecord, Place, Input}
 use Rattle.node_rules.specs.declared.session.Finished.{Finished}
 use Rattle.node_rules.specs.Data.answers
 use Rattle.node_rules.specs.Data.inputs
-use Rattle.node_rules.specs.NodeState.{NodeState, Outcome}
+use Rattle.node_rules.specs.NodeState.{NodeState, TurnOutput}
 use Rattle.node_rules.specs.Turn.{turn_of}
 
 -- A turn that changes no row and no lock, neither what is committed nor what a branch has changed, and writes no record.
-pub record LeavesAll (k : NodeState) (o : Outcome) : Type 0 where
+pub record LeavesAll (k : NodeState) (o : TurnOutput) : Type 0 where
   pub stored : o.after.stored ≡ k.stored
   pub owns : o.after.owns ≡ k.owns
   pub locks : o.after.locks ≡ k.locks

@@ -4,7 +4,7 @@ ghost use Rattle.node_rules.specs.Inputs.{IsSession};
 ghost use Rattle.node_rules.specs.Client.{refuses, begun, statement_call as statement_call_of, call_turn as call_turn_of, read_turn as read_turn_of};
 ghost use Rattle.node_rules.specs.Refusals.{ora};
 ghost use Rattle.node_memory.specs.Parts.{kept_in};
-ghost use Rattle.node_deeds.specs.Gives.{Gives};
+ghost use Rattle.node_drafts.specs.Gives.{Gives};
 ghost use Rattle.node_core.specs.Able.{IsAble, EndsWork};
 
 use crate::able::{may_begin, takes_statements};
@@ -14,7 +14,7 @@ use node_calls::{
     statement_call,
 };
 use node_commit::{commit_force, purge, rollback_force};
-use node_deeds::Deed;
+use node_drafts::TurnDraft;
 use node_memory::Memory;
 use sql_statement::Stmt;
 use std::alloc::{AllocError, Global};
@@ -25,10 +25,10 @@ fn table_call(
     alloc: Global,
     session: u32,
     statement: &Stmt,
-) -> Result<Deed, AllocError>
+) -> Result<TurnDraft, AllocError>
     requires able { IsAble memory.old.place (kept_in memory.old) }
     requires fit { IsSession session }
-    ensures gives { IfOk result (λ deed. Gives (statement_call_of memory.old.place (begun memory.old.place (kept_in memory.old) session) session statement.now) (kept_in memory.new) deed) }
+    ensures gives { IfOk result (λ draft. Gives (statement_call_of memory.old.place (begun memory.old.place (kept_in memory.old) session) session statement.now) (kept_in memory.new) draft) }
     ensures place { memory.new.place ≡ memory.old.place }
 {
     takes_statements(memory);
@@ -42,11 +42,11 @@ fn call_turn(
     alloc: Global,
     session: u32,
     statement: &Stmt,
-) -> Result<Deed, AllocError>
+) -> Result<TurnDraft, AllocError>
     requires able { IsAble memory.old.place (kept_in memory.old) }
     requires fit { IsSession session }
     requires commit { EndsWork (kept_in memory.old) session statement.now }
-    ensures gives { IfOk result (λ deed. Gives (call_turn_of memory.old.place (kept_in memory.old) session statement.now) (kept_in memory.new) deed) }
+    ensures gives { IfOk result (λ draft. Gives (call_turn_of memory.old.place (kept_in memory.old) session statement.now) (kept_in memory.new) draft) }
     ensures place { memory.new.place ≡ memory.old.place }
 {
     match statement {
@@ -68,11 +68,11 @@ fn call_turn(
 }
 
 // A text outside the grammar: ORA-00900.
-fn text_refused(memory: &Memory, alloc: Global, session: u32) -> Result<Deed, AllocError>
-    ensures gives { IfOk result (λ deed. Gives (refuses (kept_in memory.now) session (ora 900 [])) (kept_in memory.now) deed) }
+fn text_refused(memory: &Memory, alloc: Global, session: u32) -> Result<TurnDraft, AllocError>
+    ensures gives { IfOk result (λ draft. Gives (refuses (kept_in memory.now) session (ora 900 [])) (kept_in memory.now) draft) }
 {
-    let deed = refuse_text(alloc, session)?;
-    Ok(deed)
+    let draft = refuse_text(alloc, session)?;
+    Ok(draft)
 }
 
 /// A call of a client's session, ORA-00900 where its text is outside the grammar.
@@ -81,11 +81,11 @@ pub(crate) fn read_turn(
     alloc: Global,
     session: u32,
     statement: &Option<Stmt>,
-) -> Result<Deed, AllocError>
+) -> Result<TurnDraft, AllocError>
     requires able { IsAble memory.old.place (kept_in memory.old) }
     requires fit { IsSession session }
     requires commit { IfSome statement.now (EndsWork (kept_in memory.old) session) }
-    ensures gives { IfOk result (λ deed. Gives (read_turn_of memory.old.place (kept_in memory.old) session statement.now) (kept_in memory.new) deed) }
+    ensures gives { IfOk result (λ draft. Gives (read_turn_of memory.old.place (kept_in memory.old) session statement.now) (kept_in memory.new) draft) }
     ensures place { memory.new.place ≡ memory.old.place }
 {
     match statement {

@@ -4,7 +4,7 @@ ghost use Rattle.node_rules.specs.NodeState.{branch_at};
 ghost use Rattle.node_rules.specs.Sessions.{session_at};
 ghost use Rattle.node_rules.specs.Client.{commit_by, commit_call as commit_call_of};
 ghost use Rattle.node_memory.specs.Parts.{kept_in};
-ghost use Rattle.node_deeds.specs.Gives.{Gives};
+ghost use Rattle.node_drafts.specs.Gives.{Gives};
 ghost use Rattle.node_commit.specs.Branches.{phase_of};
 ghost use Rattle.node_core.specs.Able.{IsAble, EndsWork};
 ghost use Rattle.sql_statement.specs.declared.statement.Stmt.TheVariants as stmts;
@@ -13,7 +13,7 @@ ghost use Rattle.node_rules.specs.Data.phases as phases;
 use crate::able::may_commit;
 use dtx_values::{Answer, Bytes, Duplicate, Listing};
 use node_commit::collects;
-use node_deeds::{Deed, commit_complete, needs_rollback};
+use node_drafts::{TurnDraft, commit_complete, needs_rollback};
 use node_memory::Memory;
 use node_rules::PendingCall;
 use std::alloc::{AllocError, Global};
@@ -37,10 +37,10 @@ fn commit_live(
     session: u32,
     root: &BranchId,
     comment: Bytes,
-) -> Result<Deed, AllocError>
+) -> Result<TurnDraft, AllocError>
     requires able { IsAble memory.old.place (kept_in memory.old) }
     requires working { phase_of (kept_in memory.old) root.now ≡ Some phases.Working }
-    ensures gives { IfOk result (λ deed. Gives (commit_by (kept_in memory.old) session comment None (branch_at (kept_in memory.old) root.now)) (kept_in memory.new) deed) }
+    ensures gives { IfOk result (λ draft. Gives (commit_by (kept_in memory.old) session comment None (branch_at (kept_in memory.old) root.now)) (kept_in memory.new) draft) }
     ensures place { memory.new.place ≡ memory.old.place }
 {
     may_commit(memory, root);
@@ -56,14 +56,14 @@ fn commit_root(
     session: u32,
     root: &BranchId,
     comment: &Option<Bytes>,
-) -> Result<Deed, AllocError>
+) -> Result<TurnDraft, AllocError>
     requires able { IsAble memory.old.place (kept_in memory.old) }
     requires working { IfSome (branch_at (kept_in memory.old) root.now) (λ x. x.live.phase ≡ phases.Working) }
-    ensures gives { IfOk result (λ deed. Gives (commit_by (kept_in memory.old) session (unwrap_or comment.now []) (session_at memory.old.sessions session).code (branch_at (kept_in memory.old) root.now)) (kept_in memory.new) deed) }
+    ensures gives { IfOk result (λ draft. Gives (commit_by (kept_in memory.old) session (unwrap_or comment.now []) (session_at memory.old.sessions session).code (branch_at (kept_in memory.old) root.now)) (kept_in memory.new) draft) }
     ensures place { memory.new.place ≡ memory.old.place }
 {
     match memory.live_at(root) {
-        None => Deed::ending(alloc, session, commit_complete()),
+        None => TurnDraft::ending(alloc, session, commit_complete()),
         Some(_) => match memory.sessions.at(session).code {
             None => {
                 let comment = comment_text(alloc, comment)?;
@@ -71,7 +71,7 @@ fn commit_root(
             }
             Some(code) => {
                 let refusal = needs_rollback(alloc, code)?;
-                Deed::ending(alloc, session, Answer::Refused(refusal))
+                TurnDraft::ending(alloc, session, Answer::Refused(refusal))
             }
         },
     }
@@ -83,14 +83,14 @@ pub(crate) fn commit_call(
     alloc: Global,
     session: u32,
     comment: &Option<Bytes>,
-) -> Result<Deed, AllocError>
+) -> Result<TurnDraft, AllocError>
     requires able { IsAble memory.old.place (kept_in memory.old) }
     requires commit { EndsWork (kept_in memory.old) session (stmts.Commit comment.now) }
-    ensures gives { IfOk result (λ deed. Gives (commit_call_of (kept_in memory.old) session comment.now) (kept_in memory.new) deed) }
+    ensures gives { IfOk result (λ draft. Gives (commit_call_of (kept_in memory.old) session comment.now) (kept_in memory.new) draft) }
     ensures place { memory.new.place ≡ memory.old.place }
 {
     match memory.sessions.at(session).root {
-        None => Deed::ending(alloc, session, commit_complete()),
+        None => TurnDraft::ending(alloc, session, commit_complete()),
         Some(root) => commit_root(memory, alloc, session, &root, comment),
     }
 }

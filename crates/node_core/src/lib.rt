@@ -16,5 +16,5 @@ mod served;
 mod turns;
 
 pub use laws::refused_calls_leave_all;
-pub use served::Served;
+pub use served::StampedTurn;
 pub use turns::turn;

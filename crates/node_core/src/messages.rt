@@ -1,10 +1,10 @@
 //! Messages, by their kind.
 ghost use Rattle.std.specs.Prelude.{◌≡◌, ◌≤◌, IfOk};
 ghost use Rattle.node_rules.specs.Calls.{on_open as on_open_of};
-ghost use Rattle.node_rules.specs.Turn.{stand_of, exec_turn as exec_turn_of, opened_turn as opened_turn_of, reply_turn as reply_turn_of, prepare_turn as prepare_turn_of, answer_turn as answer_turn_of, commit_point_turn as commit_point_turn_of, kind_turn as kind_turn_of};
+ghost use Rattle.node_rules.specs.Turn.{status_of, exec_turn as exec_turn_of, opened_turn as opened_turn_of, reply_turn as reply_turn_of, prepare_turn as prepare_turn_of, answer_turn as answer_turn_of, commit_point_turn as commit_point_turn_of, kind_turn as kind_turn_of};
 ghost use Rattle.node_ready_laws.specs.Shapes.{count_limit, TellsFew};
 ghost use Rattle.node_memory.specs.Parts.{kept_in};
-ghost use Rattle.node_deeds.specs.Gives.{Gives};
+ghost use Rattle.node_drafts.specs.Gives.{Gives};
 ghost use Rattle.node_core.specs.Able.{IsAble};
 
 use crate::able::{may_commit, may_hear_opened, may_hear_reply, may_open, takes_statements};
@@ -14,7 +14,7 @@ use node_commit::{
     ack_turn, answer_turn, ask_turn, commit_point_turn, committed_turn, forgotten_turn,
     prepare_turn, rollback_turn, rolled_back_turn,
 };
-use node_deeds::Deed;
+use node_drafts::TurnDraft;
 use node_memory::Memory;
 use session_tree::Vote;
 use sql_statement::Stmt;
@@ -30,9 +30,9 @@ fn opens(
     edge: u8,
     root: BranchId,
     depth: u8,
-) -> Result<Deed, AllocError>
+) -> Result<TurnDraft, AllocError>
     requires { IsAble memory.old.place (kept_in memory.old) }
-    ensures gives { IfOk result (λ deed. Gives (on_open_of memory.old.place (kept_in memory.old) from edge root depth) (kept_in memory.new) deed) }
+    ensures gives { IfOk result (λ draft. Gives (on_open_of memory.old.place (kept_in memory.old) from edge root depth) (kept_in memory.new) draft) }
     ensures place { memory.new.place ≡ memory.old.place }
 {
     may_open(memory);
@@ -47,9 +47,9 @@ fn opened(
     to: &BranchId,
     edge: u8,
     strength: u8,
-) -> Result<Deed, AllocError>
+) -> Result<TurnDraft, AllocError>
     requires { IsAble memory.old.place (kept_in memory.old) }
-    ensures gives { IfOk result (λ deed. Gives (opened_turn_of (kept_in memory.old) from edge strength (stand_of (kept_in memory.old) to.now)) (kept_in memory.new) deed) }
+    ensures gives { IfOk result (λ draft. Gives (opened_turn_of (kept_in memory.old) from edge strength (status_of (kept_in memory.old) to.now)) (kept_in memory.new) draft) }
     ensures place { memory.new.place ≡ memory.old.place }
 {
     may_hear_opened(memory, to);
@@ -66,9 +66,9 @@ fn executes(
     room: u16,
     advice: Option<Advice>,
     statement: &Stmt,
-) -> Result<Deed, AllocError>
+) -> Result<TurnDraft, AllocError>
     requires { IsAble memory.old.place (kept_in memory.old) }
-    ensures gives { IfOk result (λ deed. Gives (exec_turn_of memory.old.place (kept_in memory.old) from to.now call room advice statement.now (stand_of (kept_in memory.old) to.now)) (kept_in memory.new) deed) }
+    ensures gives { IfOk result (λ draft. Gives (exec_turn_of memory.old.place (kept_in memory.old) from to.now call room advice statement.now (status_of (kept_in memory.old) to.now)) (kept_in memory.new) draft) }
     ensures place { memory.new.place ≡ memory.old.place }
 {
     takes_statements(memory);
@@ -85,10 +85,10 @@ fn replies(
     weight: Option<u8>,
     count: u16,
     told: &Answer,
-) -> Result<Deed, AllocError>
+) -> Result<TurnDraft, AllocError>
     requires able { IsAble memory.old.place (kept_in memory.old) }
     requires few { count ≤ count_limit }
-    ensures gives { IfOk result (λ deed. Gives (reply_turn_of (kept_in memory.old) from call weight count told.now (stand_of (kept_in memory.old) to.now)) (kept_in memory.new) deed) }
+    ensures gives { IfOk result (λ draft. Gives (reply_turn_of (kept_in memory.old) from call weight count told.now (status_of (kept_in memory.old) to.now)) (kept_in memory.new) draft) }
     ensures place { memory.new.place ≡ memory.old.place }
 {
     may_hear_reply(memory, to, weight, count);
@@ -104,9 +104,9 @@ fn prepares(
     to: BranchId,
     site_below: bool,
     comment: &Bytes,
-) -> Result<Deed, AllocError>
+) -> Result<TurnDraft, AllocError>
     requires { IsAble memory.old.place (kept_in memory.old) }
-    ensures gives { IfOk result (λ deed. Gives (prepare_turn_of (kept_in memory.old) from to site_below comment.now (stand_of (kept_in memory.old) to)) (kept_in memory.new) deed) }
+    ensures gives { IfOk result (λ draft. Gives (prepare_turn_of (kept_in memory.old) from to site_below comment.now (status_of (kept_in memory.old) to)) (kept_in memory.new) draft) }
     ensures place { memory.new.place ≡ memory.old.place }
 {
     may_commit(memory, &to);
@@ -121,9 +121,9 @@ fn votes(
     from: BranchId,
     to: BranchId,
     vote: Vote,
-) -> Result<Deed, AllocError>
+) -> Result<TurnDraft, AllocError>
     requires { IsAble memory.old.place (kept_in memory.old) }
-    ensures gives { IfOk result (λ deed. Gives (answer_turn_of (kept_in memory.old) from vote (stand_of (kept_in memory.old) to)) (kept_in memory.new) deed) }
+    ensures gives { IfOk result (λ draft. Gives (answer_turn_of (kept_in memory.old) from vote (status_of (kept_in memory.old) to)) (kept_in memory.new) draft) }
     ensures place { memory.new.place ≡ memory.old.place }
 {
     may_commit(memory, &to);
@@ -136,9 +136,9 @@ fn passes_on(
     alloc: Global,
     from: BranchId,
     to: BranchId,
-) -> Result<Deed, AllocError>
+) -> Result<TurnDraft, AllocError>
     requires { IsAble memory.old.place (kept_in memory.old) }
-    ensures gives { IfOk result (λ deed. Gives (commit_point_turn_of (kept_in memory.old) from to (stand_of (kept_in memory.old) to)) (kept_in memory.new) deed) }
+    ensures gives { IfOk result (λ draft. Gives (commit_point_turn_of (kept_in memory.old) from to (status_of (kept_in memory.old) to)) (kept_in memory.new) draft) }
     ensures place { memory.new.place ≡ memory.old.place }
 {
     may_commit(memory, &to);
@@ -152,10 +152,10 @@ pub(crate) fn kind_turn(
     from: BranchId,
     to: BranchId,
     kind: &Kind,
-) -> Result<Deed, AllocError>
+) -> Result<TurnDraft, AllocError>
     requires able { IsAble memory.old.place (kept_in memory.old) }
     requires few { TellsFew kind.now }
-    ensures gives { IfOk result (λ deed. Gives (kind_turn_of memory.old.place (kept_in memory.old) from to kind.now (stand_of (kept_in memory.old) to)) (kept_in memory.new) deed) }
+    ensures gives { IfOk result (λ draft. Gives (kind_turn_of memory.old.place (kept_in memory.old) from to kind.now (status_of (kept_in memory.old) to)) (kept_in memory.new) draft) }
     ensures place { memory.new.place ≡ memory.old.place }
 {
     match kind {
@@ -184,7 +184,7 @@ pub(crate) fn kind_turn(
         Kind::CommitPoint => passes_on(memory, alloc, from, to),
         Kind::Committed { scn } => committed_turn(memory, alloc, from, to, *scn),
         Kind::RolledBack => rolled_back_turn(memory, alloc, from, to),
-        Kind::InDoubt => Ok(Deed::nothing(alloc)),
+        Kind::InDoubt => Ok(TurnDraft::nothing(alloc)),
         Kind::Ack => ack_turn(memory, alloc, from, to),
         Kind::Forgotten => forgotten_turn(memory, alloc, from, to),
         Kind::Rollback => rollback_turn(memory, alloc, from, to),

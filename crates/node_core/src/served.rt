@@ -1,12 +1,12 @@
 //! What a turn does beside changing what the node keeps.
 ghost use Rattle.std.specs.Prelude.{◌≡◌, IfOk};
-ghost use Rattle.node_rules.specs.NodeState.{Deed as DeedByRules};
-ghost use Rattle.node_rules.specs.Turn.{outcome_of};
+ghost use Rattle.node_rules.specs.NodeState.{TurnDraft as DraftByRules};
+ghost use Rattle.node_rules.specs.Turn.{output_of};
 ghost use Rattle.node_memory.specs.Parts.{kept_in};
-ghost use Rattle.node_deeds.specs.Gives.{Gives};
+ghost use Rattle.node_drafts.specs.Gives.{Gives};
 ghost use Rattle.node_core.specs.Serves.{Serves};
 
-use node_deeds::{Deed, stamp};
+use node_drafts::{TurnDraft, stamp};
 use node_memory::Memory;
 use node_rules::Ended;
 use redo_record::RedoRecord;
@@ -15,7 +15,7 @@ use wire_msg::Msgs;
 
 /// What a turn does beside changing what the node keeps.
 #[derive(Drop)]
-pub struct Served {
+pub struct StampedTurn {
     /// The record that has to stand on the disk before the messages go out and the calls end, where there is one.
     pub wrote: Option<RedoRecord>,
     /// The messages that it sends, in order, with the node's clock on each.
@@ -27,16 +27,20 @@ pub struct Served {
 /// What a turn did, as it is told once its record stands: its messages get the clock of the node as it is now. Fails where memory
 /// runs out.
 #[tactic(auto, using(crate::proofs::ServedLaws::serves_so))]
-pub(crate) fn stamped(memory: &Memory, alloc: Global, deed: Deed) -> Result<Served, AllocError>
-    ensures { IfOk result (λ served. (d : DeedByRules) → Gives d (kept_in memory.now) deed → Serves (outcome_of d) (kept_in memory.now) served) }
+pub(crate) fn stamped(
+    memory: &Memory,
+    alloc: Global,
+    draft: TurnDraft,
+) -> Result<StampedTurn, AllocError>
+    ensures { IfOk result (λ served. (d : DraftByRules) → Gives d (kept_in memory.now) draft → Serves (output_of d) (kept_in memory.now) served) }
 {
-    let Deed { wrote, says, ended } = deed;
+    let TurnDraft { wrote, says, ended } = draft;
     match stamp(alloc, memory.clock.now(), says) {
         Err(error) => {
             drop(wrote);
             drop(ended);
             Err(error)
         }
-        Ok(sent) => Ok(Served { wrote, sent, ended }),
+        Ok(sent) => Ok(StampedTurn { wrote, sent, ended }),
     }
 }

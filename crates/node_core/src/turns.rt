@@ -1,23 +1,23 @@
 //! One turn.
 ghost use Rattle.std.specs.Prelude.{◌≡◌, IfOk, IfSome, OnOk};
-ghost use Rattle.node_rules.specs.Turn.{kind_scn as kind_scn_of, clock_raised_by, heard, deed_at, turn_of};
+ghost use Rattle.node_rules.specs.Turn.{kind_scn as kind_scn_of, clock_raised_by, heard, draft_at, turn_of};
 ghost use Rattle.node_ready_laws.specs.Ready.{IsReady};
 ghost use Rattle.node_ready_laws.specs.Sound.{IsNext};
 ghost use Rattle.wire_msg.specs.declared.input.Input.TheVariants as inputs;
 ghost use Rattle.node_memory.specs.Parts.{stored_in, kept_in};
-ghost use Rattle.node_deeds.specs.Gives.{Gives};
+ghost use Rattle.node_drafts.specs.Gives.{Gives};
 ghost use Rattle.node_core.specs.Able.{IsAble, MayTake};
 ghost use Rattle.node_core.specs.Refused.{IsRefused, LeavesAll};
 ghost use Rattle.node_core.specs.Serves.{Serves};
 
-use crate::Served;
+use crate::StampedTurn;
 use crate::calls::read_turn;
 use crate::giving_up::give_up_turn;
 use crate::laws::refused_calls_leave_all;
 use crate::messages::kind_turn;
 use crate::recovery::recovery;
 use crate::served::stamped;
-use node_deeds::Deed;
+use node_drafts::TurnDraft;
 use node_memory::Memory;
 use node_ready_laws::turns_stay_ready;
 use std::alloc::{AllocError, Global};
@@ -45,9 +45,9 @@ fn hear(memory: &mut Memory, msg: &Msg)
 }
 
 // A message: the clock meets its sender's first.
-fn message_turn(memory: &mut Memory, alloc: Global, msg: &Msg) -> Result<Deed, AllocError>
+fn message_turn(memory: &mut Memory, alloc: Global, msg: &Msg) -> Result<TurnDraft, AllocError>
     requires { MayTake memory.old.place (kept_in memory.old) (inputs.Message msg.now) }
-    ensures gives { IfOk result (λ deed. Gives (deed_at memory.old.place (heard (kept_in memory.old) (inputs.Message msg.now)) (inputs.Message msg.now)) (kept_in memory.new) deed) }
+    ensures gives { IfOk result (λ draft. Gives (draft_at memory.old.place (heard (kept_in memory.old) (inputs.Message msg.now)) (inputs.Message msg.now)) (kept_in memory.new) draft) }
     ensures place { memory.new.place ≡ memory.old.place }
 {
     hear(memory, msg);
@@ -56,23 +56,23 @@ fn message_turn(memory: &mut Memory, alloc: Global, msg: &Msg) -> Result<Deed, A
 
 // What comes to the node is done.
 #[tactic(auto, unfolding(node_rules::specs::Turn::turn_of))]
-fn take(memory: &mut Memory, alloc: Global, input: &Input) -> Result<Served, AllocError>
+fn take(memory: &mut Memory, alloc: Global, input: &Input) -> Result<StampedTurn, AllocError>
     requires { MayTake memory.old.place (kept_in memory.old) input.now }
     ensures serves { IfOk result (λ served. Serves (turn_of memory.old.place (kept_in memory.old) input.now) (kept_in memory.new) served) }
     ensures place { memory.new.place ≡ memory.old.place }
 {
     match input {
         Input::Call { session, statement } => {
-            let deed = read_turn(memory, alloc, *session, statement)?;
-            stamped(memory, alloc, deed)
+            let draft = read_turn(memory, alloc, *session, statement)?;
+            stamped(memory, alloc, draft)
         }
         Input::GiveUp { session } => {
-            let deed = give_up_turn(memory, alloc, *session)?;
-            stamped(memory, alloc, deed)
+            let draft = give_up_turn(memory, alloc, *session)?;
+            stamped(memory, alloc, draft)
         }
         Input::Message(msg) => {
-            let deed = message_turn(memory, alloc, msg)?;
-            stamped(memory, alloc, deed)
+            let draft = message_turn(memory, alloc, msg)?;
+            stamped(memory, alloc, draft)
         }
         Input::Reco => recovery(memory, alloc),
     }
@@ -82,7 +82,7 @@ fn take(memory: &mut Memory, alloc: Global, input: &Input) -> Result<Served, All
 /// that end. The node is ready again afterwards, and the record may stand next behind those that it has. Fails where memory runs
 /// out, and for no other reason; nothing is promised then of what the node keeps, except its place.
 #[tactic(auto, using(crate::proofs::AbleLaws::ready_again, crate::proofs::AbleLaws::may_follow, crate::proofs::AbleLaws::refused_so))]
-pub fn turn(memory: &mut Memory, alloc: Global, input: &Input) -> Result<Served, AllocError>
+pub fn turn(memory: &mut Memory, alloc: Global, input: &Input) -> Result<StampedTurn, AllocError>
     requires { MayTake memory.old.place (kept_in memory.old) input.now }
     ensures serves { IfOk result (λ served. Serves (turn_of memory.old.place (kept_in memory.old) input.now) (kept_in memory.new) served) }
     ensures ready { OnOk result (IsReady memory.new.place (kept_in memory.new)) }

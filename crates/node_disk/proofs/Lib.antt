@@ -2,10 +2,11 @@ mod ReadLaws
 mod StoreLaws
 mod MomentLaws
 mod PlanLaws
+mod WriteLaws
 mod TurnLaws
 mod StartLaws
 mod MakeLaws
 mod MailLaws
 mod PassLaws
-mod CutLaws
+pub mod CutLaws
 pub mod NeedLemmas

@@ -1,7 +1,7 @@
 -- A start: its record may stand next, and what the node keeps is what all its records say.
 use Rattle.std.proofs.Common.{◌≡◌, ℕ, ◌+◌, ◌<◌, ◌^◌, if◌then◌else◌, Bool, true, false, List, [], ◌∷◌, ◌++◌, Option, Some, None, inl, inr, refl, sym, subst, ap, ◌∙◌, arith}
 use Rattle.block_disk.specs.Images.{AtEachMoment}
-use Rattle.block_disk.specs.Plan.{Plan}
+use Rattle.block_disk.specs.Plan.{FaultPlan}
 use Rattle.redo_record.specs.Durable.{durable_after}
 use Rattle.redo_log.specs.Plans.{CallsGoByPlan, load_calls, plan_after, strikes_any}
 use Rattle.redo_log.specs.Stands.{stands_by as stands_by_plan, stands_after}
@@ -84,22 +84,22 @@ had_of content images disk found can only = subst MayBeHad (sym (only can.now.0 
 -- ---- what a fault leaves
 
 -- a record that is appended after these calls stands where no order strikes one of them, and it stands by the plan that they leave
-stands_behind : (calls : List Bool) (plan : Plan) (struck : Bool) → strikes_any calls plan ≡ struck → stands_after calls plan ≡ (if struck then false else stands_by_plan (plan_after calls plan))
+stands_behind : (calls : List Bool) (plan : FaultPlan) (struck : Bool) → strikes_any calls plan ≡ struck → stands_after calls plan ≡ (if struck then false else stands_by_plan (plan_after calls plan))
 stands_behind calls plan struck is = ap (λ (b : Bool). if b then false else stands_by_plan (plan_after calls plan)) is
 
 -- where the load met the fault, nothing is written
-pub left_loading : (plan now : Option Plan) (before after : List ℕ) → after ≡ before → CallsGoByPlan (load_calls before) plan now true → StartIsLeft plan before after
+pub left_loading : (plan now : Option FaultPlan) (before after : List ℕ) → after ≡ before → CallsGoByPlan (load_calls before) plan now true → StartIsLeft plan before after
 left_loading None now before after same goes = tt
 left_loading (Some plan) now before after same goes = λ rs hold.
     subst (λ (stands : Bool). HoldRecords (with_record_if stands rs (next_boot rs)) after) (sym (stands_behind (load_calls before) plan true goes.1)) (subst (λ (bytes : List ℕ). HoldRecords rs bytes) (sym same) hold)
 
 -- where the append met it, the record of the start stands by the plan
-pub left_writing : (plan mid : Option Plan) (before loaded after : List ℕ) (found : List RedoRecord) → ((rs : List RedoRecord) → HoldRecords rs before → found ≡ rs) → loaded ≡ before
+pub left_writing : (plan mid : Option FaultPlan) (before loaded after : List ℕ) (found : List RedoRecord) → ((rs : List RedoRecord) → HoldRecords rs before → found ≡ rs) → loaded ≡ before
     → CallsGoByPlan (load_calls before) plan mid false → GrowsByPlan mid (next_boot found) loaded after → StartIsLeft plan before after
 left_writing None mid before loaded after found only same goes grows = tt
 left_writing (Some plan) mid before loaded after found only same goes grows = λ rs hold.
     let calls = load_calls before in
-    let own : GrowsByPlan (Some (plan_after calls plan)) (next_boot found) loaded after = subst (λ (p : Option Plan). GrowsByPlan p (next_boot found) loaded after) goes.0 grows in
+    let own : GrowsByPlan (Some (plan_after calls plan)) (next_boot found) loaded after = subst (λ (p : Option FaultPlan). GrowsByPlan p (next_boot found) loaded after) goes.0 grows in
     let held = own rs (subst (λ (bytes : List ℕ). HoldRecords rs bytes) (sym same) hold) in
     subst (λ (stands : Bool). HoldRecords (with_record_if stands rs (next_boot rs)) after) (sym (stands_behind calls plan false goes.1))
     (subst (λ (xs : List RedoRecord). HoldRecords (with_record_if (stands_by_plan (plan_after calls plan)) rs (next_boot xs)) after) (only rs hold) held)

@@ -1,6 +1,6 @@
 -- What a node stores after a turn is what it stored before with the turn's record, but for Acks.
 use Rattle.std.proofs.Common.{◌≡◌, List, Option, None, Some, refl, sym, subst, ap, ◌∙◌}
-use Rattle.node_rules.specs.Data.{RedoRecord, Standing, Place, Input}
+use Rattle.node_rules.specs.Data.{RedoRecord, KeptRow, Place, Input}
 use Rattle.node_rules.specs.Data.records
 use Rattle.node_rules.specs.Data.params
 use Rattle.node_rules.specs.Data.acts
@@ -8,10 +8,10 @@ use Rattle.node_rules.specs.Data.inputs
 use Rattle.commit_forget.specs.declared.next.Next.TheVariants as nexts
 use Rattle.redo_record.specs.Durable.{durable_after}
 use Rattle.node_rules.specs.Words.{put_item}
-use Rattle.node_rules.specs.NodeState.{Stored, NodeState, Deed, standing_id}
+use Rattle.node_rules.specs.NodeState.{Stored, NodeState, TurnDraft, kept_row_id}
 use Rattle.node_rules.specs.Commit.{acked_by}
 use Rattle.node_rules.specs.Records.{applied}
-use Rattle.node_rules.specs.Turn.{heard, deed_of, turn_of}
+use Rattle.node_rules.specs.Turn.{heard, draft_of, turn_of}
 use Rattle.node_rules.proofs.Steps as steps
 use Rattle.node_rules.proofs.Steps.{Step}
 use Rattle.node_rules.proofs.TurnLemmas.{step_of}
@@ -20,7 +20,7 @@ use Rattle.node_disk.specs.Starts.{IsButForAcks, stored_next}
 use Rattle.node_disk.specs.Laws.{TurnsStoreTheirRecords}
 
 -- a record that stands next where Acks were noted
-pub applied_over : (s : Stored) (kept : List Standing) (r : RedoRecord) → applied (with_rows s kept) r ≡ with_rows (applied s r) (applied (with_rows s kept) r).durable.kept
+pub applied_over : (s : Stored) (kept : List KeptRow) (r : RedoRecord) → applied (with_rows s kept) r ≡ with_rows (applied s r) (applied (with_rows s kept) r).durable.kept
 unfolding applied durable_after
 applied_over s kept (records.Boot n) = refl
 applied_over s kept (records.Table t) = refl
@@ -37,7 +37,7 @@ applied_over s kept (records.Forgot b) = refl
 applied_over s kept (records.Hidden b) = refl
 
 -- the same where no record stands next
-pub next_over : (s : Stored) (kept : List Standing) (w : Option RedoRecord) → stored_next (with_rows s kept) w ≡ with_rows (stored_next s w) (stored_next (with_rows s kept) w).durable.kept
+pub next_over : (s : Stored) (kept : List KeptRow) (w : Option RedoRecord) → stored_next (with_rows s kept) w ≡ with_rows (stored_next s w) (stored_next (with_rows s kept) w).durable.kept
 next_over s kept None = refl
 next_over s kept (Some r) = applied_over s kept r
 
@@ -51,16 +51,16 @@ next_but_for s t w is = subst (λ (x : Stored). IsButForAcks (stored_next s w) (
 
 -- ---- steps
 
-Stores : NodeState → Deed → Type 0
+Stores : NodeState → TurnDraft → Type 0
 Stores k d = IsButForAcks (stored_next k.stored d.wrote) d.after.stored
 
-stores_on : (p : Place) (input : Input) {k : NodeState} {d : Deed} → Step p input k d → Stores k d
+stores_on : (p : Place) (input : Input) {k : NodeState} {d : TurnDraft} → Step p input k d → Stores k d
 unfolding Stores
 stores_on p input (steps.Begins n s call rows fit none step) = stores_on p input step
 stores_on p input (steps.Pends n l given call has live code step) = stores_on p input step
 stores_on p input (steps.Lets_reads_go l comment site_below live begins step) = stores_on p input step
 stores_on p input (steps.Counts_ack {k = k} {d = d} s from kept came counts step) =
-    let noted = put_item standing_id k.stored.durable.kept (acked_by s from) in
+    let noted = put_item kept_row_id k.stored.durable.kept (acked_by s from) in
     but_for_both (stored_next k.stored d.wrote) (stored_next (with_rows k.stored noted) d.wrote) d.after.stored (next_over k.stored noted d.wrote) (stores_on p input step)
 stores_on p input (steps.Acts l site_below acts.Rest why) = refl
 stores_on p input (steps.Acts l site_below acts.AskDown why) = refl
@@ -92,4 +92,4 @@ stored_heard k inputs.Reco = refl
 pub turns_store_their_records : TurnsStoreTheirRecords
 unfolding turn_of Stores
 turns_store_their_records p k input fit =
-    subst (λ (s : Stored). IsButForAcks (stored_next s (deed_of p k input).wrote) (deed_of p k input).after.stored) (stored_heard k input) (stores_on p input (step_of p k input fit))
+    subst (λ (s : Stored). IsButForAcks (stored_next s (draft_of p k input).wrote) (draft_of p k input).after.stored) (stored_heard k input) (stores_on p input (step_of p k input fit))

@@ -3,23 +3,25 @@
 use Rattle.std.proofs.Common.{◌≡◌, ℕ, List, [], ◌∷◌, ◌++◌, map, Option, None, Some, inl, inr, refl, sym, subst, ap, ◌∙◌}
 use Rattle.std.specs.Prelude.{◌↔◌, IfSome, OnOk, Result, Ok, Err}
 use Rattle.std.specs.List.{AllByRecursion}
-use Rattle.block_disk.specs.Images.{AtEachMoment, IsOnly, AddsNone}
+use Rattle.block_disk.specs.declared.disk.Disk.{Ghosts}
+use Rattle.block_disk.specs.Images.{AtEachMoment, AddsNone}
 use Rattle.node_spell_laws.specs.Record.{RecordHasBytes}
+use Rattle.record_log.specs.Calls.{IsReadyLog}
 use Rattle.record_log.specs.Held.{HoldRecords}
 use Rattle.record_log.specs.Log.{disk_of, IsIntact, IsUsable}
 use Rattle.record_log.specs.declared.log.RecordLog.{RecordLog}
 use Rattle.node_rules.specs.Data.{RedoRecord, Place, Input, Msg}
-use Rattle.node_rules.specs.NodeState.{Stored, NodeState, Outcome}
+use Rattle.node_rules.specs.NodeState.{Stored, NodeState, TurnOutput}
 use Rattle.node_rules.specs.Records.{nothing_stored, applied, stored_by}
 use Rattle.node_rules.specs.Turn.{turn_of}
 use Rattle.node_ready_laws.specs.Following.{MayFollow, MayAllFollow}
 use Rattle.node_ready_laws.specs.Sound.{IsSound, AreSound, IsNext, with_rows, RowsDoNotMatter}
 use Rattle.node_memory.specs.declared.memory.Memory.{Memory}
 use Rattle.node_memory.specs.Parts.{stored_in, kept_in}
-use Rattle.node_core.specs.declared.served.Served.{Served}
+use Rattle.node_core.specs.declared.served.StampedTurn.{StampedTurn}
 use Rattle.node_core.specs.Able.{MayTake}
 use Rattle.node_core.specs.Serves.{Serves}
-use Rattle.node_disk.specs.declared.effects.Effects.{Effects}
+use Rattle.node_disk.specs.declared.effects.DurableTurn.{DurableTurn}
 use Rattle.node_disk.specs.declared.incoming.Incoming.{Incoming}
 use Rattle.node_disk.specs.Incoming.{read_as, IsReadAs, record_of}
 use Rattle.node_disk.specs.Effects.{mailed, call_of, Tells}
@@ -32,16 +34,16 @@ use Rattle.node_disk.proofs.MomentLaws.{weaker}
 
 -- ---- one turn in memory
 
-pub stores_so : TurnsStoreTheirRecords → (m n : Memory) (input : Input) (served : Served) → MayTake m.place (kept_in m) input → Serves (turn_of m.place (kept_in m) input) (kept_in n) served
+pub stores_so : TurnsStoreTheirRecords → (m n : Memory) (input : Input) (served : StampedTurn) → MayTake m.place (kept_in m) input → Serves (turn_of m.place (kept_in m) input) (kept_in n) served
     → IsButForAcks (stored_next (stored_in m) served.wrote) (stored_in n)
 stores_so law m n input served may serves =
     subst (λ (w : Option RedoRecord). IsButForAcks (stored_next (stored_in m) w) (stored_in n)) (sym serves.wrote)
     (subst (λ (k : NodeState). IsButForAcks (stored_next (stored_in m) (turn_of m.place (kept_in m) input).wrote) k.stored) (sym serves.after) (law m.place (kept_in m) input may.expected.fit))
 
-pub sent_spelled : (o : Outcome) (k : NodeState) (served : Served) → Serves o k served → AllByRecursion MayBeMailed o.sent → AllByRecursion MayBeMailed served.sent
+pub sent_spelled : (o : TurnOutput) (k : NodeState) (served : StampedTurn) → Serves o k served → AllByRecursion MayBeMailed o.sent → AllByRecursion MayBeMailed served.sent
 sent_spelled o k served serves all = subst (λ (msgs : List Msg). AllByRecursion MayBeMailed msgs) (sym serves.sent) all
 
-pub tells_so : (o : Outcome) (k : NodeState) (served : Served) (e : Effects) → Serves o k served → e.wrote ≡ served.wrote → e.sent ≡ map mailed served.sent → map call_of e.ended ≡ served.ended → Tells o k e
+pub tells_so : (o : TurnOutput) (k : NodeState) (served : StampedTurn) (e : DurableTurn) → Serves o k served → e.wrote ≡ served.wrote → e.sent ≡ map mailed served.sent → map call_of e.ended ≡ served.ended → Tells o k e
 tells_so o k served e serves wrote sent ended = record {
   after = serves.after;
   wrote = wrote ∙ serves.wrote;
@@ -49,20 +51,20 @@ tells_so o k served e serves wrote sent ended = record {
   ended = ended ∙ serves.ended;
 }
 
-pub wrote_so : (o : Outcome) (k : NodeState) (served : Served) (e : Effects) → Serves o k served → e.wrote ≡ served.wrote → IsSpellable o → IfSome e.wrote RecordHasBytes
+pub wrote_so : (o : TurnOutput) (k : NodeState) (served : StampedTurn) (e : DurableTurn) → Serves o k served → e.wrote ≡ served.wrote → IsSpellable o → IfSome e.wrote RecordHasBytes
 wrote_so o k served e serves wrote spellable = subst (λ (w : Option RedoRecord). IfSome w RecordHasBytes) (sym (wrote ∙ serves.wrote)) spellable.wrote
 
-pub follows_so : (s : Stored) (served : Served) (e : Effects) → e.wrote ≡ served.wrote → IfSome served.wrote (IsNext s) → IfSome e.wrote (IsNext s)
+pub follows_so : (s : Stored) (served : StampedTurn) (e : DurableTurn) → e.wrote ≡ served.wrote → IfSome served.wrote (IsNext s) → IfSome e.wrote (IsNext s)
 follows_so s served e wrote next = subst (λ (w : Option RedoRecord). IfSome w (IsNext s)) (sym wrote) next
 
-pub stored_so : (s t : Stored) (served : Served) (e : Effects) → e.wrote ≡ served.wrote → IsButForAcks (stored_next s served.wrote) t → IsButForAcks (stored_next s e.wrote) t
+pub stored_so : (s t : Stored) (served : StampedTurn) (e : DurableTurn) → e.wrote ≡ served.wrote → IsButForAcks (stored_next s served.wrote) t → IsButForAcks (stored_next s e.wrote) t
 stored_so s t served e wrote stores = subst (λ (w : Option RedoRecord). IsButForAcks (stored_next s w) t) (sym wrote) stores
 
 -- what was read is what the turn is over
-pub tells_as : (p : Place) (k new : NodeState) (i : Input) (e : Effects) → e.input ≡ i → Tells (turn_of p k i) new e → Tells (turn_of p k e.input) new e
+pub tells_as : (p : Place) (k new : NodeState) (i : Input) (e : DurableTurn) → e.input ≡ i → Tells (turn_of p k i) new e → Tells (turn_of p k e.input) new e
 tells_as p k new i e is tells = subst (λ (j : Input). Tells (turn_of p k j) new e) (sym is) tells
 
-pub wrote_as : (p : Place) (k new : NodeState) (incoming : Incoming) (i : Input) (e : Effects) → IsReadAs incoming i → Tells (turn_of p k i) new e → e.wrote ≡ record_of p k (read_as incoming)
+pub wrote_as : (p : Place) (k new : NodeState) (incoming : Incoming) (i : Input) (e : DurableTurn) → IsReadAs incoming i → Tells (turn_of p k i) new e → e.wrote ≡ record_of p k (read_as incoming)
 wrote_as p k new incoming i e read tells = tells.wrote ∙ ap (record_of p k) (sym read)
 
 -- ---- records
@@ -145,10 +147,10 @@ module _ {D : Type 0} (moment : D → ℕ) (images_since : D → ℕ → List �
 -- ---- the next turn
 
 -- at Ok the node is running again
-pub opens_on : {T E D : Type 0} (content : D → List ℕ) (images : D → List ℕ → Type 0) (log : RecordLog D) (s : Stored) (r : Result T E) → OnOk r (IsUsable content images log) → OnOk r (IsIntact log)
-    → OnOk r (IsOnly (content (disk_of log)) (images (disk_of log))) → OnOk r (StandsOn (content (disk_of log)) s) → OnOk r (IsOpenFor content images log s)
-opens_on content images log s (Ok v) usable intact durable stands = record { usable = usable; intact = intact; durable = durable; stands = stands }
-opens_on content images log s (Err e) usable intact durable stands = tt
+pub opens_on : {T E D : Type 0} (d : Ghosts D) (log : RecordLog D) (s : Stored) (r : Result T E) → OnOk r (IsReadyLog d log) → OnOk r (StandsOn (d.content (disk_of log)) s)
+    → OnOk r (IsOpenFor d.content d.images log s)
+opens_on d log s (Ok v) ready stands = record { usable = ready.usable; intact = ready.intact; durable = ready.durable; stands = stands }
+opens_on d log s (Err e) ready stands = tt
 
 -- a disk that takes an order has no new image, and the node goes on as it was
 pub still_open : {D : Type 0} (content : D → List ℕ) (images : D → List ℕ → Type 0) (old new : RecordLog D) (s : Stored) → (IsUsable content images old → IsUsable content images new) → (IsIntact old ↔ IsIntact new)

@@ -1,9 +1,6 @@
 -- Where a turn is cut: before its record, in the append of its record, or after it; and what is so of its points and its disk there.
 use Rattle.std.specs.Prelude.{◌≡◌, ℕ, Bool, true, false, List, Option, Some, None, is_some}
-use Rattle.block_disk.specs.Plan.{Plan}
-use Rattle.dtx_ports.specs.Causes.{Rose}
-use Rattle.redo_log.specs.Loads.{IsAppendCount}
-use Rattle.redo_log.specs.Log.{count_after}
+use Rattle.block_disk.specs.Plan.{FaultPlan}
 use Rattle.redo_log.specs.Plans.{CallsGoByPlan, append_calls}
 use Rattle.record_log.specs.Held.{GrowsByPlan}
 use Rattle.node_rules.specs.Data.{RedoRecord}
@@ -13,14 +10,14 @@ use Rattle.node_points.specs.declared.point.Side.{Side}
 use Rattle.node_points.specs.declared.point.Side.TheVariants as sides
 use Rattle.node_points.specs.Passing.{passes_as}
 use Rattle.node_points.specs.Points.{numbers_on}
-use Rattle.node_disk.specs.declared.effects.Effects.{Effects}
+use Rattle.node_disk.specs.declared.effects.DurableTurn.{DurableTurn}
 use Rattle.node_disk.specs.declared.err.CutAt.{CutAt}
 use Rattle.node_disk.specs.declared.err.CutAt.TheVariants as cuts
 use Rattle.node_disk.specs.declared.err.TurnErr.{TurnErr}
 use Rattle.node_disk.specs.declared.err.TurnErr.TheVariants as errs
 use Rattle.node_disk.specs.declared.err.Unwritten.{Unwritten}
 use Rattle.node_disk.specs.declared.err.Unwritten.TheVariants as unwritten
-use Rattle.node_disk.specs.OnDisk.{HoldsNext, turn_calls, calls_of, writes_of}
+use Rattle.node_disk.specs.OnDisk.{HoldsNext, turn_calls}
 
 -- this is so of where a turn was cut, of its record and of the places that it passes
 abbrev pub AtCut : (CutAt → Option RedoRecord → Option Passes → Type 0) → TurnErr → Type 0
@@ -33,7 +30,7 @@ AtStop P (unwritten.Cut at) = P at
 AtStop P unwritten.NoMemory = Unit {0}
 
 -- a turn that was cut while this was to be told
-abbrev pub CutsShort : Effects → TurnErr → Type 0
+abbrev pub CutsShort : DurableTurn → TurnErr → Type 0
 CutsShort e (errs.Cut c) = (c.input ≡ e.input) × (c.tried ≡ e.wrote) × (c.passes ≡ e.passes)
 CutsShort e errs.NoMemory = Unit {0}
 
@@ -63,30 +60,13 @@ CutStores cuts.BeforeRecord wrote before now = now ≡ before
 CutStores cuts.InAppend wrote before now = Unit {0}
 CutStores cuts.AfterRecord wrote before now = HoldsNext wrote before now
 
--- only a disk that failed cuts an append
-abbrev pub CutFaults : CutAt → ℕ → ℕ → Type 0
-CutFaults cuts.InAppend before now = Rose before now
-CutFaults _ before now = now ≡ before
-
--- the disk calls that were made
-abbrev pub CutCalls : CutAt → Option RedoRecord → ℕ → ℕ → Type 0
-CutCalls cuts.BeforeRecord wrote before now = now ≡ before
-CutCalls cuts.InAppend wrote before now = IsAppendCount before now
-CutCalls cuts.AfterRecord wrote before now = now ≡ count_after (calls_of wrote) before
-
--- and how many of them were writes
-abbrev pub CutWrites : CutAt → Option RedoRecord → ℕ → ℕ → Type 0
-CutWrites cuts.BeforeRecord wrote before now = now ≡ before
-CutWrites cuts.InAppend wrote before now = Unit {0}
-CutWrites cuts.AfterRecord wrote before now = now ≡ count_after (writes_of wrote) before
-
 -- an append is cut where an order of the disk's plan strikes one of its calls, and nowhere else
-abbrev pub CutByPlan : CutAt → Option RedoRecord → Option Plan → Option Plan → Type 0
+abbrev pub CutByPlan : CutAt → Option RedoRecord → Option FaultPlan → Option FaultPlan → Type 0
 CutByPlan cuts.BeforeRecord wrote before now = now ≡ before
 CutByPlan cuts.InAppend wrote before now = CallsGoByPlan append_calls before now true
 CutByPlan cuts.AfterRecord wrote before now = CallsGoByPlan (turn_calls wrote) before now false
 
 -- the record of an append that failed stands where the plan says so, if the disk shows it
-abbrev pub CutStands : CutAt → Option RedoRecord → Option Plan → List ℕ → List ℕ → Type 0
+abbrev pub CutStands : CutAt → Option RedoRecord → Option FaultPlan → List ℕ → List ℕ → Type 0
 CutStands cuts.InAppend (Some r) plan before now = GrowsByPlan plan r before now
 CutStands _ wrote plan before now = Unit {0}

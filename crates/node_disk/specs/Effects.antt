@@ -4,13 +4,13 @@ use Rattle.std.specs.Prelude.{◌≡◌, false, List, map, option_map, Option, S
 use Rattle.msg_codec.specs.Message.{msg_format, message_of}
 use Rattle.node_rules.specs.Data.{Msg, Place}
 use Rattle.node_rules.specs.declared.session.Finished.{Finished as FinishedByRules}
-use Rattle.node_rules.specs.NodeState.{NodeState, Outcome}
+use Rattle.node_rules.specs.NodeState.{NodeState, TurnOutput}
 use Rattle.node_rules.specs.Turn.{turn_of}
 use Rattle.node_rules.specs.Points.{Point, Passes as PassesByRules, passes, reaches}
 use Rattle.node_points.specs.declared.places.Passes.{Passes}
 use Rattle.node_points.specs.Passing.{passes_as}
 use Rattle.node_disk.specs.declared.effects.Mailed.{Mailed}
-use Rattle.node_disk.specs.declared.effects.Effects.{Effects}
+use Rattle.node_disk.specs.declared.effects.DurableTurn.{DurableTurn}
 use Rattle.node_disk.specs.declared.finished.Finished.{Finished}
 use Rattle.node_disk.specs.declared.err.CutTurn.{CutTurn}
 use Rattle.node_disk.specs.declared.err.TurnErr.{TurnErr}
@@ -32,14 +32,14 @@ call_of f = f.call
 
 -- A turn tells what the rules say: its record, its messages with their bytes, and the calls that end; and the node keeps what
 -- they say.
-pub record Tells (o : Outcome) (new : NodeState) (e : Effects) : Type 0 where
+pub record Tells (o : TurnOutput) (new : NodeState) (e : DurableTurn) : Type 0 where
   pub after : new ≡ o.after
   pub wrote : e.wrote ≡ o.wrote
   pub sent : e.sent ≡ map mailed o.sent
   pub ended : map call_of e.ended ≡ o.ended
 
 -- and the places that it passed
-abbrev pub TellsPasses : NodeState → Outcome → Effects → Type 0
+abbrev pub TellsPasses : NodeState → TurnOutput → DurableTurn → Type 0
 TellsPasses k o e = option_map passes_as e.passes ≡ passes k e.input o
 
 -- no point was reached at these places

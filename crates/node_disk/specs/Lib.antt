@@ -5,3 +5,4 @@ pub mod Starts
 pub mod OnDisk
 pub mod Cuts
 pub mod Laws
+pub mod Calls

@@ -7,7 +7,7 @@ use Rattle.record_log.specs.Held.{HoldRecords, GrowsByRecord, HoldWithOrWithout}
 use Rattle.record_log.specs.Log.{disk_of as disk_of_log, IsIntact, IsUsable}
 use Rattle.record_log.specs.declared.log.RecordLog.{RecordLog}
 use Rattle.node_rules.specs.Data.{RedoRecord, Place, Input}
-use Rattle.node_rules.specs.NodeState.{Stored, NodeState, Outcome}
+use Rattle.node_rules.specs.NodeState.{Stored, NodeState, TurnOutput}
 use Rattle.node_rules.specs.Records.{nothing_stored, stored_by}
 use Rattle.node_rules.specs.Turn.{turn_of}
 use Rattle.node_memory.specs.Parts.{stored_in, kept_in}
@@ -29,7 +29,7 @@ abbrev pub disk_of : {D : Type 0} → Node D → D
 disk_of node = disk_of_log node.log
 
 -- what the rules say of its turn
-abbrev pub turn_at : {D : Type 0} → Node D → Input → Outcome
+abbrev pub turn_at : {D : Type 0} → Node D → Input → TurnOutput
 turn_at node input = turn_of (place_of node) (kept_of node) input
 
 -- the bytes hold records that a node may have, which say what is stored, but for Acks
@@ -61,16 +61,6 @@ MayStand rs (Some r) image = HoldWithOrWithout rs r image
 abbrev pub turn_calls : Option RedoRecord → List Bool
 turn_calls None = []
 turn_calls (Some r) = append_calls
-
--- how many disk calls an append makes
-abbrev pub calls_of : Option RedoRecord → ℕ
-calls_of None = 0
-calls_of (Some r) = 4
-
--- how many of them are writes
-abbrev pub writes_of : Option RedoRecord → ℕ
-writes_of None = 0
-writes_of (Some r) = 2
 
 -- the record that the turn of a node over this writes, where it writes one
 abbrev pub record_at : {D : Type 0} → Node D → Incoming → Option RedoRecord

@@ -11,7 +11,7 @@ use Rattle.sql_print.specs.Printing.{IsPrintable}
 use Rattle.msg_codec.specs.Fits.{is_change}
 use Rattle.node_rules.specs.Data.{Kind, Msg}
 use Rattle.node_rules.specs.Data.kinds
-use Rattle.node_rules.specs.NodeState.{Outcome}
+use Rattle.node_rules.specs.NodeState.{TurnOutput}
 
 -- bytes that are UTF-8
 abbrev pub IsUtf8 : List ℕ → Type 0
@@ -36,6 +36,6 @@ abbrev pub MayBeMailed : Msg → Type 0
 MayBeMailed m = KindMayBeMailed m.kind
 
 -- A turn whose record can be written and whose messages can be sent, however long they are.
-pub record IsSpellable (o : Outcome) : Type 0 where
+pub record IsSpellable (o : TurnOutput) : Type 0 where
   pub wrote : IfSome o.wrote RecordHasBytes
   pub sent : AllByRecursion MayBeMailed o.sent

@@ -1,6 +1,6 @@
 -- What a node can start from.
 use Rattle.std.specs.Prelude.{◌≡◌, ◌⊎◌, ◌+◌, ℕ, List, [], Option, Some, None}
-use Rattle.block_disk.specs.Plan.{Plan}
+use Rattle.block_disk.specs.Plan.{FaultPlan}
 use Rattle.redo_log.specs.Log.{MayBeBegun}
 use Rattle.redo_log.specs.Plans.{load_calls}
 use Rattle.redo_log.specs.Stands.{stands_after}
@@ -35,7 +35,7 @@ abbrev pub next_boot : List RedoRecord → RedoRecord
 next_boot rs = records.Boot (last_boot rs + 1)
 
 -- after a start that met a fault the record of the start stands where the plan says so, if the disk shows it
-abbrev pub StartIsLeft : Option Plan → List ℕ → List ℕ → Type 0
+abbrev pub StartIsLeft : Option FaultPlan → List ℕ → List ℕ → Type 0
 StartIsLeft None before now = Unit {0}
 StartIsLeft (Some plan) before now = (rs : List RedoRecord) → HoldRecords rs before → HoldRecords (with_record_if (stands_after (load_calls before) plan) rs (next_boot rs)) now
 

@@ -6,12 +6,12 @@ ghost use Rattle.node_disk.specs.Starts.{CanBeStarted};
 ghost use Rattle.node_disk.specs.OnDisk.{place_of, kept_of, disk_of, IsRunning};
 
 use crate::Node;
-use block_disk::{Armable, Order};
+use block_disk::{Armable, DiskFault};
 
 impl<D: Armable> Node<D> {
     /// Gives the disk an order to stop or to fail. The node stays as it is.
     #[tactic(auto, using(crate::proofs::TurnLaws::still_open, crate::proofs::CutLaws::starts_still))]
-    pub fn arm(&mut self, order: Order)
+    pub fn arm(&mut self, order: DiskFault)
         ensures plan { D.plan (disk_of self.new) ≡ ordered (D.plan (disk_of self.old)) order }
         ensures kept { kept_of self.new ≡ kept_of self.old }
         ensures place { place_of self.new ≡ place_of self.old }

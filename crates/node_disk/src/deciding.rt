@@ -19,12 +19,12 @@ ghost use Rattle.node_disk.specs.Effects.{mailed, IsMailed, call_of, Tells, Tell
 ghost use Rattle.node_disk.specs.Spellable.{MayBeMailed, IsSpellable};
 ghost use Rattle.node_disk.specs.Starts.{IsButForAcks, stored_next};
 
-use crate::effects::{Effects, Ends, Sent};
+use crate::effects::{DurableTurn, Ends, Sent};
 use crate::finished::finish;
 use crate::incoming::{Incoming, read};
 use crate::laws::turns_store_their_records;
 use crate::mailing::mail;
-use node_core::{Served, turn};
+use node_core::{StampedTurn, turn};
 use node_memory::Memory;
 use node_points::{Ahead, Passes, passed, turns_are_of_their_branch};
 use node_rules::Ended;
@@ -50,12 +50,12 @@ fn look(memory: &Memory, input: &Input) -> Ahead
 {
     match about(memory, input) {
         None => Ahead::nothing(),
-        Some(branch) => Ahead::of(memory.live_at(&branch), memory.standing_at(&branch)),
+        Some(branch) => Ahead::of(memory.live_at(&branch), memory.kept_row_at(&branch)),
     }
 }
 
 // The places that a turn passed, by what was ahead before it.
-fn passed_by(input: &Input, served: &Served, ahead: &Ahead) -> Option<Passes>
+fn passed_by(input: &Input, served: &StampedTurn, ahead: &Ahead) -> Option<Passes>
     ensures { (p : Place) (k new : NodeState) → IsFit input.now → Foresees k (concerned k input.now) ahead.now → Serves (turn_of p k input.now) new served.now
         → option_map passes_as result ≡ passes_of k input.now (turn_of p k input.now) }
 {
@@ -89,9 +89,9 @@ fn tell(alloc: Global, sent: Msgs, ended: Ended) -> Result<(Sent, Ends), AllocEr
 fn effects_of(
     alloc: Global,
     input: Input,
-    served: Served,
+    served: StampedTurn,
     passes: Option<Passes>,
-) -> Result<Effects, AllocError>
+) -> Result<DurableTurn, AllocError>
     requires { AllByRecursion MayBeMailed served.sent }
     ensures input { IfOk result (λ e. e.input ≡ input) }
     ensures wrote { IfOk result (λ e. e.wrote ≡ served.wrote) }
@@ -100,9 +100,9 @@ fn effects_of(
     ensures ended { IfOk result (λ e. map call_of e.ended ≡ served.ended) }
     ensures passes { IfOk result (λ e. e.passes ≡ passes) }
 {
-    let Served { wrote, sent, ended } = served;
+    let StampedTurn { wrote, sent, ended } = served;
     match tell(alloc, sent, ended) {
-        Ok((sent, ended)) => Ok(Effects {
+        Ok((sent, ended)) => Ok(DurableTurn {
             input,
             wrote,
             sent,
@@ -119,7 +119,7 @@ fn effects_of(
 
 // One turn in memory over what was read.
 #[tactic(auto, using(crate::proofs::TurnLaws::stores_so))]
-fn take(memory: &mut Memory, alloc: Global, input: &Input) -> Result<Served, AllocError>
+fn take(memory: &mut Memory, alloc: Global, input: &Input) -> Result<StampedTurn, AllocError>
     requires { MayTake memory.old.place (kept_in memory.old) input.now }
     ensures serves { IfOk result (λ served. Serves (turn_of memory.old.place (kept_in memory.old) input.now) (kept_in memory.new) served) }
     ensures ready { OnOk result (IsReady memory.new.place (kept_in memory.new)) }
@@ -137,7 +137,7 @@ fn take_on(
     memory: &mut Memory,
     alloc: Global,
     input: &Input,
-) -> Result<(Served, Option<Passes>), AllocError>
+) -> Result<(StampedTurn, Option<Passes>), AllocError>
     requires { MayTake memory.old.place (kept_in memory.old) input.now }
     ensures serves { IfOk result (λ taken. Serves (turn_of memory.old.place (kept_in memory.old) input.now) (kept_in memory.new) taken.0) }
     ensures passes { IfOk result (λ taken. option_map passes_as taken.1 ≡ passes_of (kept_in memory.old) input.now (turn_of memory.old.place (kept_in memory.old) input.now)) }
@@ -158,7 +158,7 @@ fn take_on(
 
 // One turn in memory over what was read: what it tells once its record stands. Fails where memory runs out.
 #[tactic(auto, using(crate::proofs::TurnLaws::sent_spelled, crate::proofs::TurnLaws::wrote_so, crate::proofs::TurnLaws::follows_so, crate::proofs::TurnLaws::stored_so, crate::proofs::TurnLaws::tells_so))]
-fn told(memory: &mut Memory, alloc: Global, input: Input) -> Result<Effects, AllocError>
+fn told(memory: &mut Memory, alloc: Global, input: Input) -> Result<DurableTurn, AllocError>
     requires takes { MayTake memory.old.place (kept_in memory.old) input }
     requires spellable { IsSpellable (turn_of memory.old.place (kept_in memory.old) input) }
     ensures input { IfOk result (λ e. e.input ≡ input) }
@@ -189,7 +189,7 @@ pub(crate) fn decide(
     memory: &mut Memory,
     alloc: Global,
     incoming: Incoming,
-) -> Result<Effects, AllocError>
+) -> Result<DurableTurn, AllocError>
     requires reads { (i : InputBy) × IsReadAs incoming i }
     requires takes { (i : InputBy) → IsReadAs incoming i → MayTake memory.old.place (kept_in memory.old) i }
     requires spellable { (i : InputBy) → IsReadAs incoming i → IsSpellable (turn_of memory.old.place (kept_in memory.old) i) }

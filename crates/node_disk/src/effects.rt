@@ -24,7 +24,7 @@ pub type Ends = Listing<Finished>;
 
 /// What a turn tells. Its record stands on the disk then.
 #[derive(Drop)]
-pub struct Effects {
+pub struct DurableTurn {
     /// What came, as it was read.
     pub input: Input,
     /// The record of the turn, where there is one.

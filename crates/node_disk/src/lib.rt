@@ -18,7 +18,7 @@ mod node;
 mod starting;
 mod writing;
 
-pub use effects::{Effects, Ends, Mailed, Sent};
+pub use effects::{DurableTurn, Ends, Mailed, Sent};
 pub use err::{CutAt, CutTurn, MakeErr, MakeWhy, TurnErr};
 pub use finished::Finished;
 pub use incoming::Incoming;

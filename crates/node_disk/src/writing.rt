@@ -1,14 +1,12 @@
 //! The record of a turn is written.
-ghost use Rattle.std.specs.Prelude.{◌≡◌, ◌≤◌, List, Option, true, false, is_some, IfErr, IfOk, IfSome, OnOk, IsErrOf};
-ghost use Rattle.dtx_ports.specs.Causes.{Rose};
+ghost use Rattle.std.specs.Prelude.{◌≡◌, List, Option, IfErr, IfOk, IfSome, OnOk, IsErrOf};
 ghost use Rattle.block_disk.specs.Images.{AtEachMoment, IsOnly};
-ghost use Rattle.redo_log.specs.Loads.{IsAppendCount};
-ghost use Rattle.redo_log.specs.Plans.{CallsGoByPlan, append_calls};
-ghost use Rattle.redo_log.specs.Log.{count_after};
+ghost use Rattle.redo_log.specs.Runs.{IsUntouched};
 ghost use Rattle.redo_record.specs.declared.record.RedoRecord.{RedoRecord as RedoRecordBy};
 ghost use Rattle.node_spell_laws.specs.Record.{RecordHasBytes};
+ghost use Rattle.record_log.specs.Calls.{IsReadyLog};
 ghost use Rattle.record_log.specs.Held.{HoldRecords};
-ghost use Rattle.record_log.specs.Log.{disk_of, IsIntact, IsUsable};
+ghost use Rattle.record_log.specs.Log.{disk_of};
 ghost use Rattle.record_log.specs.declared.err.AppendErr.TheVariants as appends;
 ghost use Rattle.node_rules.specs.NodeState.{Stored};
 ghost use Rattle.node_ready_laws.specs.Sound.{IsNext};
@@ -16,11 +14,12 @@ ghost use Rattle.node_disk.specs.declared.err.CutAt.TheVariants as cuts;
 ghost use Rattle.node_disk.specs.declared.err.TurnErr.TheVariants as turns;
 ghost use Rattle.node_disk.specs.declared.err.Unwritten.TheVariants as unwritten;
 ghost use Rattle.node_disk.specs.Effects.{GoesUncut};
-ghost use Rattle.node_disk.specs.Cuts.{AtCut, AtStop, CutsShort, stops as stops_by, Stops, IsTried, CutStores, CutFaults, CutCalls, CutWrites, CutByPlan, CutStands};
+ghost use Rattle.node_disk.specs.Cuts.{AtCut, AtStop, CutsShort, stops as stops_by, Stops};
 ghost use Rattle.node_disk.specs.Starts.{IsStartable, IsButForAcks, stored_next};
-ghost use Rattle.node_disk.specs.OnDisk.{StandsOn, HoldsNext, MayStand, turn_calls, calls_of, writes_of};
+ghost use Rattle.node_disk.specs.OnDisk.{StandsOn, MayStand};
+ghost use Rattle.node_disk.specs.Calls.{HasWritten, CutLeaves};
 
-use crate::effects::Effects;
+use crate::effects::DurableTurn;
 use crate::err::{CutAt, CutTurn, TurnErr, Unwritten};
 use block_disk::Disk;
 use node_points::{Passes, Point, Side, reaches};
@@ -61,43 +60,22 @@ pub(crate) fn unserved<D: Disk>(log: &RecordLog<D>) -> TurnErr
 
 // Appends this record, where there is one. Where there is none, or four bytes are too few to count its children or its changes, the
 // disk is not called.
-#[tactic(auto, using(crate::proofs::PlanLaws::no_calls, crate::proofs::TurnLaws::stand_still))]
+#[tactic(auto, using(crate::proofs::WriteLaws::none_written, crate::proofs::WriteLaws::written_by, crate::proofs::TurnLaws::stand_still))]
 fn append<D: Disk>(log: &mut RecordLog<D>, wrote: &Option<RedoRecord>) -> Result<(), AppendErr>
-    requires usable { IsUsable D.content D.images log.old }
-    requires intact { IsIntact log.old }
-    requires durable { IsOnly (D.content (disk_of log.old)) (D.images (disk_of log.old)) }
+    requires ready { IsReadyLog D.Disk log.old }
     requires has_bytes { IfSome wrote.now RecordHasBytes }
 
-    ensures stored { OnOk result (HoldsNext wrote.now (D.content (disk_of log.old)) (D.content (disk_of log.new))) }
-    ensures usable { OnOk result (IsUsable D.content D.images log.new) }
-    ensures intact { OnOk result (IsIntact log.new) }
-    ensures durable { OnOk result (IsOnly (D.content (disk_of log.new)) (D.images (disk_of log.new))) }
+    ensures written { OnOk result (HasWritten D.Disk wrote.now (disk_of log.old) (disk_of log.new)) }
+    ensures ready { OnOk result (IsReadyLog D.Disk log.new) }
 
     // A crash at any moment leaves the records from before, with this one or without.
     ensures any_moment { (rs : List RedoRecordBy) → HoldRecords rs (D.content (disk_of log.old))
         → AtEachMoment D.moment D.images_since (disk_of log.old) (disk_of log.new) (MayStand rs wrote.now) }
 
-    ensures tried { IsErrOf result appends.Fault → is_some wrote.now ≡ true }
-    ensures cause { IsErrOf result appends.Fault → Rose (D.faults (disk_of log.old)) (D.faults (disk_of log.new)) }
-    ensures later { D.faults (disk_of log.old) ≤ D.faults (disk_of log.new) }
-    ensures unfailed { OnOk result (D.faults (disk_of log.new) ≡ D.faults (disk_of log.old)) }
-    ensures calls { OnOk result (D.calls (disk_of log.new) ≡ count_after (calls_of wrote.now) (D.calls (disk_of log.old))) }
-    ensures writes { OnOk result (D.writes (disk_of log.new) ≡ count_after (writes_of wrote.now) (D.writes (disk_of log.old))) }
-    ensures fault_calls { IsErrOf result appends.Fault → IsAppendCount (D.calls (disk_of log.old)) (D.calls (disk_of log.new)) }
-
-    // Where the disk shows its plan, it is a fault exactly where an order strikes one of the calls.
-    ensures plan { OnOk result (CallsGoByPlan (turn_calls wrote.now) (D.plan (disk_of log.old)) (D.plan (disk_of log.new)) false) }
-    ensures fault_plan { IsErrOf result appends.Fault → CallsGoByPlan append_calls (D.plan (disk_of log.old)) (D.plan (disk_of log.new)) true }
-
-    // And after it the record stands, or not, as the plan says.
-    ensures stands { IsErrOf result appends.Fault → CutStands cuts.InAppend wrote.now (D.plan (disk_of log.old)) (D.content (disk_of log.old)) (D.content (disk_of log.new)) }
+    ensures failed { IsErrOf result appends.Fault → CutLeaves D.Disk cuts.InAppend wrote.now (disk_of log.old) (disk_of log.new) }
 
     // Where memory runs out, the disk was not called.
-    ensures untouched { IsErrOf result appends.NoMemory → D.content (disk_of log.new) ≡ D.content (disk_of log.old) }
-    ensures untouched_faults { IsErrOf result appends.NoMemory → D.faults (disk_of log.new) ≡ D.faults (disk_of log.old) }
-    ensures untouched_calls { IsErrOf result appends.NoMemory → D.calls (disk_of log.new) ≡ D.calls (disk_of log.old) }
-    ensures untouched_writes { IsErrOf result appends.NoMemory → D.writes (disk_of log.new) ≡ D.writes (disk_of log.old) }
-    ensures untouched_plan { IsErrOf result appends.NoMemory → D.plan (disk_of log.new) ≡ D.plan (disk_of log.old) }
+    ensures refused { IsErrOf result appends.NoMemory → IsUntouched D.Disk (disk_of log.old) (disk_of log.new) }
 {
     match wrote {
         None => {
@@ -134,42 +112,22 @@ fn put<D: Disk>(
     passes: Option<Passes>,
     points: &[Point],
 ) -> Result<(), Unwritten>
-    requires usable { IsUsable D.content D.images log.old }
-    requires intact { IsIntact log.old }
-    requires durable { IsOnly (D.content (disk_of log.old)) (D.images (disk_of log.old)) }
+    requires ready { IsReadyLog D.Disk log.old }
     requires has_bytes { IfSome wrote.now RecordHasBytes }
 
     ensures uncut { OnOk result (GoesUncut points.now passes) }
-    ensures stored { OnOk result (HoldsNext wrote.now (D.content (disk_of log.old)) (D.content (disk_of log.new))) }
-    ensures usable { OnOk result (IsUsable D.content D.images log.new) }
-    ensures intact { OnOk result (IsIntact log.new) }
-    ensures durable { OnOk result (IsOnly (D.content (disk_of log.new)) (D.images (disk_of log.new))) }
+    ensures written { OnOk result (HasWritten D.Disk wrote.now (disk_of log.old) (disk_of log.new)) }
+    ensures ready { OnOk result (IsReadyLog D.Disk log.new) }
 
     // A crash at any moment leaves the records from before, with this one or without.
     ensures any_moment { (rs : List RedoRecordBy) → HoldRecords rs (D.content (disk_of log.old))
         → AtEachMoment D.moment D.images_since (disk_of log.old) (disk_of log.new) (MayStand rs wrote.now) }
 
     ensures stops { IfErr result (AtStop (λ at. Stops points.now at passes)) }
-    ensures tried { IfErr result (AtStop (λ at. IsTried at wrote.now)) }
-    ensures cut_stored { IfErr result (AtStop (λ at. CutStores at wrote.now (D.content (disk_of log.old)) (D.content (disk_of log.new)))) }
-    ensures cut_faults { IfErr result (AtStop (λ at. CutFaults at (D.faults (disk_of log.old)) (D.faults (disk_of log.new)))) }
-    ensures cut_calls { IfErr result (AtStop (λ at. CutCalls at wrote.now (D.calls (disk_of log.old)) (D.calls (disk_of log.new)))) }
-    ensures cut_writes { IfErr result (AtStop (λ at. CutWrites at wrote.now (D.writes (disk_of log.old)) (D.writes (disk_of log.new)))) }
-    ensures cut_plan { IfErr result (AtStop (λ at. CutByPlan at wrote.now (D.plan (disk_of log.old)) (D.plan (disk_of log.new)))) }
-    ensures cut_stands { IfErr result (AtStop (λ at. CutStands at wrote.now (D.plan (disk_of log.old)) (D.content (disk_of log.old)) (D.content (disk_of log.new)))) }
-
-    ensures later { D.faults (disk_of log.old) ≤ D.faults (disk_of log.new) }
-    ensures unfailed { OnOk result (D.faults (disk_of log.new) ≡ D.faults (disk_of log.old)) }
-    ensures calls { OnOk result (D.calls (disk_of log.new) ≡ count_after (calls_of wrote.now) (D.calls (disk_of log.old))) }
-    ensures writes { OnOk result (D.writes (disk_of log.new) ≡ count_after (writes_of wrote.now) (D.writes (disk_of log.old))) }
-    ensures plan { OnOk result (CallsGoByPlan (turn_calls wrote.now) (D.plan (disk_of log.old)) (D.plan (disk_of log.new)) false) }
+    ensures leaves { IfErr result (AtStop (λ at. CutLeaves D.Disk at wrote.now (disk_of log.old) (disk_of log.new))) }
 
     // Where memory runs out, the disk was not called.
-    ensures untouched { IsErrOf result unwritten.NoMemory → D.content (disk_of log.new) ≡ D.content (disk_of log.old) }
-    ensures untouched_faults { IsErrOf result unwritten.NoMemory → D.faults (disk_of log.new) ≡ D.faults (disk_of log.old) }
-    ensures untouched_calls { IsErrOf result unwritten.NoMemory → D.calls (disk_of log.new) ≡ D.calls (disk_of log.old) }
-    ensures untouched_writes { IsErrOf result unwritten.NoMemory → D.writes (disk_of log.new) ≡ D.writes (disk_of log.old) }
-    ensures untouched_plan { IsErrOf result unwritten.NoMemory → D.plan (disk_of log.new) ≡ D.plan (disk_of log.old) }
+    ensures refused { IsErrOf result unwritten.NoMemory → IsUntouched D.Disk (disk_of log.old) (disk_of log.new) }
 {
     if stops(points, passes, Side::Before) {
         leave(log);
@@ -190,10 +148,10 @@ fn put<D: Disk>(
 }
 
 // A turn that was cut here: what it would have told is not told.
-fn cut(effects: Effects, at: CutAt) -> CutTurn
+fn cut(effects: DurableTurn, at: CutAt) -> CutTurn
     ensures { result ≡ record { input = effects.input; tried = effects.wrote; passes = effects.passes; at = at } }
 {
-    let Effects {
+    let DurableTurn {
         input,
         wrote,
         sent,
@@ -214,20 +172,16 @@ fn cut(effects: Effects, at: CutAt) -> CutTurn
 /// before the disk is called.
 pub(crate) fn write<D: Disk>(
     log: &mut RecordLog<D>,
-    effects: Effects,
+    effects: DurableTurn,
     points: &[Point],
-) -> Result<Effects, TurnErr>
-    requires usable { IsUsable D.content D.images log.old }
-    requires intact { IsIntact log.old }
-    requires durable { IsOnly (D.content (disk_of log.old)) (D.images (disk_of log.old)) }
+) -> Result<DurableTurn, TurnErr>
+    requires ready { IsReadyLog D.Disk log.old }
     requires has_bytes { IfSome effects.wrote RecordHasBytes }
 
     ensures same { IfOk result (λ e. e ≡ effects) }
     ensures uncut { OnOk result (GoesUncut points.now effects.passes) }
-    ensures stored { OnOk result (HoldsNext effects.wrote (D.content (disk_of log.old)) (D.content (disk_of log.new))) }
-    ensures usable { OnOk result (IsUsable D.content D.images log.new) }
-    ensures intact { OnOk result (IsIntact log.new) }
-    ensures durable { OnOk result (IsOnly (D.content (disk_of log.new)) (D.images (disk_of log.new))) }
+    ensures written { OnOk result (HasWritten D.Disk effects.wrote (disk_of log.old) (disk_of log.new)) }
+    ensures ready { OnOk result (IsReadyLog D.Disk log.new) }
 
     // A crash at any moment leaves the records from before, with this one or without.
     ensures any_moment { (rs : List RedoRecordBy) → HoldRecords rs (D.content (disk_of log.old))
@@ -241,26 +195,10 @@ pub(crate) fn write<D: Disk>(
 
     ensures cut { IfErr result (CutsShort effects) }
     ensures stops { IfErr result (AtCut (λ at wrote passes. Stops points.now at passes)) }
-    ensures tried { IfErr result (AtCut (λ at wrote passes. IsTried at wrote)) }
-    ensures cut_stored { IfErr result (AtCut (λ at wrote passes. CutStores at wrote (D.content (disk_of log.old)) (D.content (disk_of log.new)))) }
-    ensures cut_faults { IfErr result (AtCut (λ at wrote passes. CutFaults at (D.faults (disk_of log.old)) (D.faults (disk_of log.new)))) }
-    ensures cut_calls { IfErr result (AtCut (λ at wrote passes. CutCalls at wrote (D.calls (disk_of log.old)) (D.calls (disk_of log.new)))) }
-    ensures cut_writes { IfErr result (AtCut (λ at wrote passes. CutWrites at wrote (D.writes (disk_of log.old)) (D.writes (disk_of log.new)))) }
-    ensures cut_plan { IfErr result (AtCut (λ at wrote passes. CutByPlan at wrote (D.plan (disk_of log.old)) (D.plan (disk_of log.new)))) }
-    ensures cut_stands { IfErr result (AtCut (λ at wrote passes. CutStands at wrote (D.plan (disk_of log.old)) (D.content (disk_of log.old)) (D.content (disk_of log.new)))) }
-
-    ensures later { D.faults (disk_of log.old) ≤ D.faults (disk_of log.new) }
-    ensures unfailed { OnOk result (D.faults (disk_of log.new) ≡ D.faults (disk_of log.old)) }
-    ensures calls { OnOk result (D.calls (disk_of log.new) ≡ count_after (calls_of effects.wrote) (D.calls (disk_of log.old))) }
-    ensures writes { OnOk result (D.writes (disk_of log.new) ≡ count_after (writes_of effects.wrote) (D.writes (disk_of log.old))) }
-    ensures plan { OnOk result (CallsGoByPlan (turn_calls effects.wrote) (D.plan (disk_of log.old)) (D.plan (disk_of log.new)) false) }
+    ensures leaves { IfErr result (AtCut (λ at wrote passes. CutLeaves D.Disk at wrote (disk_of log.old) (disk_of log.new))) }
 
     // Where memory runs out, the disk was not called.
-    ensures untouched { IsErrOf result turns.NoMemory → D.content (disk_of log.new) ≡ D.content (disk_of log.old) }
-    ensures untouched_faults { IsErrOf result turns.NoMemory → D.faults (disk_of log.new) ≡ D.faults (disk_of log.old) }
-    ensures untouched_calls { IsErrOf result turns.NoMemory → D.calls (disk_of log.new) ≡ D.calls (disk_of log.old) }
-    ensures untouched_writes { IsErrOf result turns.NoMemory → D.writes (disk_of log.new) ≡ D.writes (disk_of log.old) }
-    ensures untouched_plan { IsErrOf result turns.NoMemory → D.plan (disk_of log.new) ≡ D.plan (disk_of log.old) }
+    ensures refused { IsErrOf result turns.NoMemory → IsUntouched D.Disk (disk_of log.old) (disk_of log.new) }
 {
     records_follow();
     match put(log, &effects.wrote, effects.passes, points) {

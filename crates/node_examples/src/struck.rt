@@ -5,7 +5,7 @@ use crate::lives::{goes_on, played};
 use crate::warehouse::{
     AT_WAREHOUSE, DECIDE, FORGET_WAREHOUSE, OLD_ROW_AT_WAREHOUSE, READY, ROW_AT_WAREHOUSE,
 };
-use block_disk::{How, Order, Stop};
+use block_disk::{DiskFault, How, Stop};
 use lone_node::{Comes, LoneNode, Says, Step, Wrote};
 use node_disk::CutAt;
 use std::alloc::Global;
@@ -66,13 +66,13 @@ const DECISION: &Strike = &Strike {
 };
 
 /// Whether the node is cut in the append of its record, once its disk has the order.
-fn is_struck(alloc: Global, node: &mut LoneNode, strike: &Strike, order: Order) -> bool {
+fn is_struck(alloc: Global, node: &mut LoneNode, strike: &Strike, order: DiskFault) -> bool {
     node.arm(order);
     node.cut(alloc, &strike.struck.0, &[]) == Some(CutAt::InAppend)
 }
 
 /// Whether the order strikes, and the node starts from what is left and goes on as it should: with the record or without it.
-fn goes_on_after(alloc: Global, strike: &Strike, order: Order, stands: bool) -> bool {
+fn goes_on_after(alloc: Global, strike: &Strike, order: DiskFault, stands: bool) -> bool {
     match played(alloc, strike.number, strike.before) {
         Some(mut node) => {
             let is_struck = is_struck(alloc, &mut node, strike, order);
@@ -93,7 +93,7 @@ fn parts_after(strike: &Strike, stands: bool) -> &'static [&'static [Step]] {
 /// The same where a write of the append keeps so many bytes.
 fn keeps(alloc: Global, strike: &Strike, write: u32, count: u32, stands: bool) -> bool {
     let how = How::Keep(count);
-    goes_on_after(alloc, strike, Order::Stop(Stop { write, how }), stands)
+    goes_on_after(alloc, strike, DiskFault::Stop(Stop { write, how }), stands)
 }
 
 /// The same where it leaves these bytes.
@@ -101,7 +101,7 @@ fn leaves(alloc: Global, strike: &Strike, write: u32, bytes: &[u8], stands: bool
     match bytes.to_vec(alloc) {
         Ok(bytes) => {
             let how = How::Leave(bytes);
-            goes_on_after(alloc, strike, Order::Stop(Stop { write, how }), stands)
+            goes_on_after(alloc, strike, DiskFault::Stop(Stop { write, how }), stands)
         }
         Err(_) => false,
     }
@@ -109,11 +109,11 @@ fn leaves(alloc: Global, strike: &Strike, write: u32, bytes: &[u8], stands: bool
 
 /// The same where a call of the append fails.
 fn fails(alloc: Global, strike: &Strike, call: u32, stands: bool) -> bool {
-    goes_on_after(alloc, strike, Order::Fault(call), stands)
+    goes_on_after(alloc, strike, DiskFault::Fault(call), stands)
 }
 
 /// Whether an order strikes the append of HQ's seal. None where HQ does not come to it.
-fn strikes(alloc: Global, order: Order) -> Option<bool> {
+fn strikes(alloc: Global, order: DiskFault) -> Option<bool> {
     match played(alloc, SEAL.number, SEAL.before) {
         Some(mut node) => {
             let is_struck = is_struck(alloc, &mut node, SEAL, order);
@@ -131,7 +131,12 @@ fn strikes(alloc: Global, order: Order) -> Option<bool> {
 fn length_at(alloc: Global, strike: &Strike, write: u32) -> Option<usize> {
     let mut node = played(alloc, strike.number, strike.before)?;
     let how = How::Keep(0);
-    let is_struck = is_struck(alloc, &mut node, strike, Order::Stop(Stop { write, how }));
+    let is_struck = is_struck(
+        alloc,
+        &mut node,
+        strike,
+        DiskFault::Stop(Stop { write, how }),
+    );
     let length = node.bytes().len();
     node.end();
     if is_struck { Some(length) } else { None }
@@ -146,7 +151,7 @@ fn length_of(alloc: Global, strike: &Strike) -> Option<usize> {
 const COUNTS: [u32; 12] = [0, 1, 3, 4, 5, 6, 9, 20, 30, 39, 80, 200];
 
 /// The first of these counts after which the node does not go on without the record.
-fn first_standing(alloc: Global, strike: &Strike) -> Option<u32> {
+fn first_kept_row(alloc: Global, strike: &Strike) -> Option<u32> {
     for count in &COUNTS {
         if !keeps(alloc, strike, 1, *count, false) {
             return Some(*count);
@@ -163,8 +168,8 @@ fn is_long(alloc: Global, strike: &Strike) -> bool {
 #[test]
 fn a_record_that_is_written_in_part_does_not_stand(rt: HostRuntime) {
     assert!(rt; is_long(rt.alloc(), SEAL) && is_long(rt.alloc(), DECISION));
-    assert!(rt; first_standing(rt.alloc(), SEAL).is_none());
-    assert!(rt; first_standing(rt.alloc(), DECISION).is_none());
+    assert!(rt; first_kept_row(rt.alloc(), SEAL).is_none());
+    assert!(rt; first_kept_row(rt.alloc(), DECISION).is_none());
 }
 
 /// Whether no bytes behind a closed gate are a record.
@@ -217,11 +222,11 @@ fn a_call_that_fails_writes_nothing(rt: HostRuntime) {
 
 #[test]
 fn an_order_past_the_calls_of_an_append_does_not_strike_it(rt: HostRuntime) {
-    assert!(rt; matches!(strikes(rt.alloc(), Order::Fault(5)), Some(false)));
+    assert!(rt; matches!(strikes(rt.alloc(), DiskFault::Fault(5)), Some(false)));
     let how = How::Keep(0);
     assert!(rt;
         matches!(
-            strikes(rt.alloc(), Order::Stop(Stop { write: 3, how })),
+            strikes(rt.alloc(), DiskFault::Stop(Stop { write: 3, how })),
             Some(false)
         )
     );

@@ -3,7 +3,7 @@ use Rattle.std.proofs.Common.{◌≡◌, ℕ, List, Option, Some, None, refl, sy
 use Rattle.catalog.specs.Catalog.{Listed}
 use Rattle.row_store.specs.declared.pending.Doubt.{Doubt}
 use Rattle.row_store.specs.Store.{Contents, held_back}
-use Rattle.node_rules.specs.Data.{RedoRecord, Standing, Durable}
+use Rattle.node_rules.specs.Data.{RedoRecord, KeptRow, Durable}
 use Rattle.node_rules.specs.Data.records
 use Rattle.node_rules.specs.Data.params
 use Rattle.redo_record.specs.Durable.{durable_after}
@@ -19,7 +19,7 @@ held_alike None = refl
 held_alike (Some d) = refl
 
 -- what records leave of a node but its rows, by the parts of memory
-abbrev pub durable_of : ℕ → Option ℕ → Listed → List Standing → Durable
+abbrev pub durable_of : ℕ → Option ℕ → Listed → List KeptRow → Durable
 durable_of boot strength c ks = record { boot = boot; recovery = c.recovery; tables = c.tables; links = c.links; synonyms = c.synonyms; kept = ks; strength = strength }
 
 durable_by_parts : (d : Durable) (r : RedoRecord) → durable_after d r ≡ durable_of (boot_after d.boot r) (strength_after d.strength r) (catalog_after (listed_in d) r) (kept_after d.kept r)
@@ -43,11 +43,11 @@ abbrev pub contents_in : NodeState → ℕ → Contents
 contents_in k extents = record { rows = k.stored.rows; owns = k.owns; doubts = k.stored.doubts; extents = extents }
 
 -- what a node keeps, with these parts
-abbrev pub with_all : NodeState → ℕ → Option ℕ → Listed → Contents → ℕ → List Standing → NodeState
+abbrev pub with_all : NodeState → ℕ → Option ℕ → Listed → Contents → ℕ → List KeptRow → NodeState
 with_all k boot strength c t scn ks = record k { stored = record { durable = durable_of boot strength c ks; rows = t.rows; doubts = t.doubts; scn = scn }; owns = t.owns }
 
 -- when each part has the record, so has what is stored
-pub applied_taken : (k : NodeState) (r : RedoRecord) (extents boot : ℕ) (strength : Option ℕ) (c : Listed) (t : Contents) (scn : ℕ) (ks : List Standing)
+pub applied_taken : (k : NodeState) (r : RedoRecord) (extents boot : ℕ) (strength : Option ℕ) (c : Listed) (t : Contents) (scn : ℕ) (ks : List KeptRow)
     → boot ≡ boot_after k.stored.durable.boot r → strength ≡ strength_after k.stored.durable.strength r → c ≡ catalog_after (listed_in k.stored.durable) r
     → t ≡ store_after (contents_in k extents) r → scn ≡ scn_after k.stored.scn r → ks ≡ kept_after k.stored.durable.kept r
     → with_all k boot strength c t scn ks ≡ with_stored k (applied k.stored r)

@@ -9,7 +9,7 @@ use Rattle.row_store.specs.Store.{Contents, own_id, doubt_from, sealed, committe
 use Rattle.row_store.specs.Tables.{apply_all}
 use Rattle.redo_record.specs.Durable.{durable_after, with_kept}
 use Rattle.redo_record.specs.Kept.{kept_after}
-use Rattle.node_rules.specs.Data.{Sealed, Decided, Standing, Owned}
+use Rattle.node_rules.specs.Data.{Sealed, Decided, KeptRow, Owned}
 use Rattle.node_rules.specs.Data.records
 use Rattle.node_rules.specs.NodeState.{NodeState, without_branch}
 use Rattle.node_rules.specs.Prepare.{own_changes}
@@ -35,11 +35,11 @@ pub owns_dropped_twice : (os : List Owned) (b : BranchId) → drop_item own_id (
 owns_dropped_twice os b = filter_twice (λ o. not (same (own_id o) b)) os
 
 -- the parts of memory before the branch is dropped
-abbrev pub with_parts : NodeState → Contents → List Standing → ℕ → NodeState
+abbrev pub with_parts : NodeState → Contents → List KeptRow → ℕ → NodeState
 with_parts k s ks scn = record k { stored = record k.stored { durable = with_kept k.stored.durable ks; rows = s.rows; doubts = s.doubts; scn = scn }; owns = s.owns }
 
 -- when a branch has become sealed, by the steps of the code
-abbrev pub after_seal : NodeState → BranchId → Sealed → Contents → List Standing → ℕ → NodeState
+abbrev pub after_seal : NodeState → BranchId → Sealed → Contents → List KeptRow → ℕ → NodeState
 after_seal k b r s ks scn = record (without_branch (with_parts k s ks scn) b) { locks = with_doubt (without k.locks b) b r.changes }
 
 -- with these changes left of others
@@ -58,7 +58,7 @@ seal_is k b r extents is own =
     ∙ ap (λ ls. record done { stored = record done.stored { doubts = k.stored.doubts ++ doubt_from k.stored.rows b (own_changes k b) ∷ [] }; locks = ls }) keys)
 
 -- a branch that becomes sealed
-pub sealed_taken : (k m : NodeState) (b : BranchId) (r : Sealed) (s : Contents) (extents : ℕ) (ks : List Standing) (scn : ℕ) (locks : List Lock) → r.me ≡ b → r.changes ≡ own_changes k b
+pub sealed_taken : (k m : NodeState) (b : BranchId) (r : Sealed) (s : Contents) (extents : ℕ) (ks : List KeptRow) (scn : ℕ) (locks : List Lock) → r.me ≡ b → r.changes ≡ own_changes k b
     → ks ≡ kept_after k.stored.durable.kept (records.Sealed r) → s ≡ sealed (contents_in k extents) b → scn ≡ max k.stored.scn r.scn
     → m ≡ without_branch (with_parts k s ks scn) b → locks ≡ with_doubt m.locks b r.changes → (record m { locks = locks }) ≡ with_record (without_branch k b) (records.Sealed r)
 sealed_taken k m b r s extents ks scn locks me own kept store number is now =
@@ -78,7 +78,7 @@ decision_is k b r extents own =
     ∙ sym (ap (λ cs. record done { stored = record done.stored { rows = apply_all k.stored.rows cs } }) own)
 
 -- a branch that decides
-pub decision_taken : (k m : NodeState) (b : BranchId) (r : Decided) (s : Contents) (extents : ℕ) (ks : List Standing) (scn : ℕ) → r.changes ≡ own_changes k b
+pub decision_taken : (k m : NodeState) (b : BranchId) (r : Decided) (s : Contents) (extents : ℕ) (ks : List KeptRow) (scn : ℕ) → r.changes ≡ own_changes k b
     → ks ≡ kept_after k.stored.durable.kept (records.Decided r) → s ≡ committed (contents_in k extents) b → scn ≡ max k.stored.scn r.scn
     → m ≡ without_branch (with_parts k s ks scn) b → m ≡ with_record (without_branch k b) (records.Decided r)
 decision_taken k m b r s extents ks scn own kept store number is =

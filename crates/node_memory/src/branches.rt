@@ -1,15 +1,15 @@
 //! What a node knows of a branch.
 ghost use Rattle.std.specs.Prelude.{◌≡◌, None, IfSome};
 ghost use Rattle.std.specs.Option.{option_copied, option_map};
-ghost use Rattle.node_rules.specs.NodeState.{live_at, work_or, work_at, branch_at, standing_at};
-ghost use Rattle.node_rules.specs.Turn.{stand_of, kept_or_gone as kept_or_gone_of};
+ghost use Rattle.node_rules.specs.NodeState.{live_at, work_or, work_at, branch_at, kept_row_at};
+ghost use Rattle.node_rules.specs.Turn.{status_of, kept_or_gone as kept_or_gone_of};
 ghost use Rattle.node_state.specs.Lives.{HasRoom};
 ghost use Rattle.node_memory.specs.Parts.{kept_in};
 ghost use Rattle.node_memory.specs.Branches.{branch_as, stand_as, live_in, HasRow, HasRoomIn};
 
 use crate::Memory;
 use node_rules::Work;
-use redo_record::Standing;
+use redo_record::KeptRow;
 use session_tree::Live;
 use tran_ids::BranchId;
 
@@ -24,11 +24,11 @@ pub struct LiveBranch<'a> {
 
 /// What a branch is at its node.
 #[derive(Clone, Copy)]
-pub enum Stand<'a> {
+pub enum BranchStatus<'a> {
     /// It takes part in its transaction.
     Live(LiveBranch<'a>),
     /// The node keeps a row of it.
-    Kept(&'a Standing),
+    Kept(&'a KeptRow),
     /// The node knows nothing of it.
     Gone,
 }
@@ -61,36 +61,36 @@ impl Memory {
     }
 
     /// The row of a kept branch.
-    pub fn standing_at(&self, branch: &BranchId) -> Option<&Standing>
-        ensures { option_copied result ≡ standing_at (kept_in self.now) branch.now }
+    pub fn kept_row_at(&self, branch: &BranchId) -> Option<&KeptRow>
+        ensures { option_copied result ≡ kept_row_at (kept_in self.now) branch.now }
     {
         self.kept.find(branch)
     }
 
     /// What the branch of an id is at the node: live, with no more children than a tree has branches, or else kept, or else
     /// gone.
-    #[tactic(auto, unfolding(node_rules::specs::Turn::stand_of))]
-    pub fn stand_of(&self, branch: &BranchId) -> Stand<'_>
-        ensures stand { stand_as result ≡ stand_of (kept_in self.now) branch.now }
+    #[tactic(auto, unfolding(node_rules::specs::Turn::status_of))]
+    pub fn status_of(&self, branch: &BranchId) -> BranchStatus<'_>
+        ensures stand { stand_as result ≡ status_of (kept_in self.now) branch.now }
         ensures live { live_in result ≡ live_at (kept_in self.now) branch.now }
-        ensures row { HasRow result (standing_at (kept_in self.now) branch.now) }
+        ensures row { HasRow result (kept_row_at (kept_in self.now) branch.now) }
         ensures room { HasRoomIn result }
     {
         match self.branch_at(branch) {
-            Some(it) => Stand::Live(it),
-            None => kept_or_gone(self.standing_at(branch)),
+            Some(it) => BranchStatus::Live(it),
+            None => kept_or_gone(self.kept_row_at(branch)),
         }
     }
 }
 
-fn kept_or_gone(row: Option<&Standing>) -> Stand<'_>
+fn kept_or_gone(row: Option<&KeptRow>) -> BranchStatus<'_>
     ensures stand { stand_as result ≡ kept_or_gone_of (option_copied row.entry) }
     ensures live { live_in result ≡ None }
     ensures row { HasRow result (option_copied row.entry) }
     ensures room { HasRoomIn result }
 {
     match row {
-        Some(row) => Stand::Kept(row),
-        None => Stand::Gone,
+        Some(row) => BranchStatus::Kept(row),
+        None => BranchStatus::Gone,
     }
 }

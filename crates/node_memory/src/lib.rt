@@ -1,6 +1,6 @@
 //! What a node keeps in memory: all that its records give, which a start makes again from the disk, and all that a stop loses.
 //!
-//! - Questions: `live_at`, `work_at`, `branch_at`, `standing_at`, `stand_of`. They lend what stands in memory. All live
+//! - Questions: `live_at`, `work_at`, `branch_at`, `kept_row_at`, `status_of`. They lend what stands in memory. All live
 //!   branches and all rows, in order, are `lives.as_slice()` and `kept.as_slice()`: recovery and the views go over these.
 //! - Changes without a record: `raise`, `drop_branch`, `hear_ack`.
 //! - Records: `take_in` for any record; `seal` and `decide` for that of a live branch, which leaves.
@@ -22,5 +22,5 @@ mod records;
 mod sealing;
 mod start;
 
-pub use branches::{LiveBranch, Stand};
+pub use branches::{BranchStatus, LiveBranch};
 pub use memory::Memory;

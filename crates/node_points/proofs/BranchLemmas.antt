@@ -15,7 +15,7 @@ use Rattle.reco.specs.Told.{told_kind, kept_told}
 use Rattle.prepare_phase.specs.Records.{path_of, site_neighbors}
 use Rattle.session_tree.specs.Live.{new_edge, children_of, peer_of}
 use Rattle.session_tree.specs.Tree.{step}
-use Rattle.node_rules.specs.Data.{Stmt, Answer, BranchId, Decision, RedoRecord, Done, Standing, Edge, Kind, Msg, Live, Act, Beyond, Place, Input, Post}
+use Rattle.node_rules.specs.Data.{Stmt, Answer, BranchId, Decision, RedoRecord, Done, KeptRow, Edge, Kind, Msg, Live, Act, Beyond, Place, Input, Post}
 use Rattle.node_rules.specs.Data.answers
 use Rattle.node_rules.specs.Data.decisions
 use Rattle.node_rules.specs.Data.records
@@ -26,7 +26,7 @@ use Rattle.node_rules.specs.Data.acts
 use Rattle.node_rules.specs.declared.session.PendingCall.TheVariants as pending
 use Rattle.node_rules.specs.declared.session.Session.{Session}
 use Rattle.node_rules.specs.Inputs.{Came, IsCall, Brings, Commit_came, Rollback_came, Rolled_back_came}
-use Rattle.node_rules.specs.NodeState.{NodeState, Deed, Branch, to_each, to_one}
+use Rattle.node_rules.specs.NodeState.{NodeState, TurnDraft, Branch, to_each, to_one}
 use Rattle.node_rules.specs.Points.{is_ready}
 use Rattle.node_rules.specs.Sessions.{session_at, with_call}
 use Rattle.node_rules.specs.Names.{passed_on}
@@ -35,7 +35,7 @@ use Rattle.node_rules.specs.Calls.{answer_says, exec_to, with_edge, hears_reply,
 use Rattle.node_rules.specs.Prepare.{prepares, to_children}
 use Rattle.node_rules.specs.Commit.{passes_commit, rollback_to, passes}
 use Rattle.node_rules.specs.Recovery.{askings}
-use Rattle.node_rules.specs.Turn.{heard, deed_of, turn_of}
+use Rattle.node_rules.specs.Turn.{heard, draft_of, turn_of}
 use Rattle.node_rules.proofs.Steps as steps
 use Rattle.node_rules.proofs.Steps.{Step, Says, Acting, Collects, Doing, Makes, IsOfRows, HasRoot}
 use Rattle.node_rules.proofs.StandLemmas.{call_set}
@@ -57,7 +57,7 @@ abbrev WroteFor : Option BranchId → Option RedoRecord → Type 0
 WroteFor o None = Unit {0}
 WroteFor o (Some r) = IfSome (branch_of r) (λ b. o ≡ Some b)
 
-abbrev DoneFor : Option BranchId → Deed → Type 0
+abbrev DoneFor : Option BranchId → TurnDraft → Type 0
 DoneFor o d = WroteFor o d.wrote × AllSaidFor o d.says
 
 module _ (o : Option BranchId) where
@@ -81,7 +81,7 @@ module _ (o : Option BranchId) where
 
   -- ---- decisions and recovery
 
-  commit_so : (s : Standing) (n : ℕ) (bs : List Beyond) → AllSaidFor o (passes_commit s n bs)
+  commit_so : (s : KeptRow) (n : ℕ) (bs : List Beyond) → AllSaidFor o (passes_commit s n bs)
   commit_so s n [] = to_one_so s.me kinds.Ack tt s.toward
   commit_so s n (b ∷ bs) = to_each_so s.me (kinds.Committed n) tt (map (λ c. c.branch) (b ∷ bs))
 
@@ -89,7 +89,7 @@ module _ (o : Option BranchId) where
   rollbacks_so me [] = tt
   rollbacks_so me (b ∷ bs) = (cond_both b.is_parent kinds.RolledBack kinds.Rollback (SaidFor o me) (λ parent. tt) (λ child. tt), rollbacks_so me bs)
 
-  passes_so : (s : Standing) (d : Decision) → AllSaidFor o (passes s d)
+  passes_so : (s : KeptRow) (d : Decision) → AllSaidFor o (passes s d)
   passes_so s (decisions.Commit n) = commit_so s n (beyond s)
   passes_so s decisions.Rollback = rollbacks_so s.me (beyond s)
 
@@ -99,7 +99,7 @@ module _ (o : Option BranchId) where
   told_so me tolds.RollBackFirst = tt
   told_so me tolds.InDoubt = tt
 
-  recovers_so : (s : Standing) (d : Option Decision) → AllSaidFor o (recovers s d)
+  recovers_so : (s : KeptRow) (d : Option Decision) → AllSaidFor o (recovers s d)
   recovers_so s None = to_one_so s.me kinds.Ask tt s.toward
   recovers_so s (Some (decisions.Commit n)) =
       both (missing s.me n (beyond s)) (acks_again s) (to_each_so s.me (kinds.Committed n) tt _) (cond_both _ (to_one s.me kinds.Ack s.toward) [] (AllSaidFor o) (λ all. to_one_so s.me kinds.Ack tt s.toward) (λ some. tt))
@@ -116,7 +116,7 @@ module _ (o : Option BranchId) where
   lives_ask [] = tt
   lives_ask (l ∷ ls) = (to_one_so l.me kinds.Ask tt l.parent, lives_ask ls)
 
-  kept_ask : (ss : List Standing) → EachSaidFor (map asks_kept ss)
+  kept_ask : (ss : List KeptRow) → EachSaidFor (map asks_kept ss)
   kept_ask [] = tt
   kept_ask (s ∷ ss) = (recovers_so s s.decision, kept_ask ss)
 
@@ -193,14 +193,14 @@ module _ (o : Option BranchId) where
     brings_of (Rollback_came came) = to_it _ _ _ came
     brings_of (Rolled_back_came came) = to_it _ _ _ came
 
-    ended_of : (s : Standing) (d : Decision) → o ≡ Some s.me → WroteFor o (Some (records.Ended s.me d))
+    ended_of : (s : KeptRow) (d : Decision) → o ≡ Some s.me → WroteFor o (Some (records.Ended s.me d))
     ended_of s (decisions.Commit n) is = is
     ended_of s decisions.Rollback is = tt
 
-    does_of : {clock : ℕ} {s : Standing} {from : BranchId} {d : Decision} → Doing clock input s from (nexts.End d) → o ≡ Some s.me
+    does_of : {clock : ℕ} {s : KeptRow} {from : BranchId} {d : Decision} → Doing clock input s from (nexts.End d) → o ≡ Some s.me
     does_of (steps.Ends_so d brings toward unknown sealed met) = brings_of brings
 
-    forgets_of : {clock : ℕ} {s : Standing} {from : BranchId} → Doing clock input s from nexts.Forget → o ≡ Some s.me
+    forgets_of : {clock : ℕ} {s : KeptRow} {from : BranchId} → Doing clock input s from nexts.Forget → o ≡ Some s.me
     forgets_of (steps.Forgets_first came knows still all root) = to_it _ _ _ came
     forgets_of (steps.Forgets_after came knows toward still) = to_it _ _ _ came
 
@@ -224,7 +224,7 @@ module _ (o : Option BranchId) where
 
     -- ---- steps
 
-    done_on : (p : Place) {k : NodeState} {d : Deed} → CommitOfIt k input → Step p input k d → DoneFor o d
+    done_on : (p : Place) {k : NodeState} {d : TurnDraft} → CommitOfIt k input → Step p input k d → DoneFor o d
     done_on p commit (steps.Begins n s call rows fit none step) =
         done_on p (λ m given b other has. absurd (no_commit s given rows (let it : inputs.Call n (Some s) ≡ inputs.Call m (Some (stmts.Commit given)) = sym call ∙ other in cc))) step
     done_on p commit (steps.Pends {k = k} n l given call has live code step) =
@@ -327,5 +327,5 @@ unfolding turn_of
 turns_are_of_their_branch p k input fit b is =
     let o = concerned k input in
     let done = done_on o input (message_of_it k input) p (commit_of_it k input) (step_of p k input fit) in
-    let d = deed_of p k input in
+    let d = draft_of p k input in
     turned_for o d.after.clock d.says d.wrote b done.0 done.1 is

@@ -2,14 +2,14 @@
 use Rattle.std.specs.Prelude.{◌≡◌, ◌++◌, Bool, if◌then◌else◌, List, [], ◌∷◌, option_to_list, option_map, Option, Some, None}
 use Rattle.crash_points.specs.Points.{numbers_at}
 use Rattle.crash_points.specs.declared.place.TurnPlace.TheVariants as places
-use Rattle.node_rules.specs.Data.{BranchId, RedoRecord, Msg, Live, Standing, Place, Input}
+use Rattle.node_rules.specs.Data.{BranchId, RedoRecord, Msg, Live, KeptRow, Place, Input}
 use Rattle.node_rules.specs.Data.inputs
 use Rattle.node_rules.specs.Data.records
 use Rattle.node_rules.specs.Data.decisions
 use Rattle.node_rules.specs.Words.{one}
 use Rattle.node_rules.specs.Inputs.{IsFit}
 use Rattle.node_rules.specs.Sessions.{session_at}
-use Rattle.node_rules.specs.NodeState.{NodeState, live_at, standing_at}
+use Rattle.node_rules.specs.NodeState.{NodeState, live_at, kept_row_at}
 use Rattle.node_rules.specs.Points.{Passes as PassesByRules, has_edges, is_ready, ready_points, ended_points, forgot_points}
 use Rattle.node_rules.specs.Turn.{turn_of}
 use Rattle.node_points.specs.declared.places.Passes.{Passes}
@@ -41,7 +41,7 @@ turns sent None = ready_sender sent
 turns sent (Some r) = branch_of r
 
 -- This is ahead of a branch that is live so, and whose row is this.
-pub record IsAhead (live : Option Live) (row : Option Standing) (a : Ahead) : Type 0 where
+pub record IsAhead (live : Option Live) (row : Option KeptRow) (a : Ahead) : Type 0 where
   pub ready : option_map passes_as a.ready ≡ ready_points live
   pub children : a.has_children ≡ has_edges live
   pub ended : option_map passes_as a.ended ≡ ended_points row
@@ -49,7 +49,7 @@ pub record IsAhead (live : Option Live) (row : Option Standing) (a : Ahead) : Ty
 
 -- this is ahead of the branch that a turn is of
 abbrev pub Foresees : NodeState → Option BranchId → Ahead → Type 0
-Foresees k b a = (c : BranchId) → b ≡ Some c → IsAhead (live_at k c) (standing_at k c) a
+Foresees k b a = (c : BranchId) → b ≡ Some c → IsAhead (live_at k c) (kept_row_at k c) a
 
 -- the branch that an input is about: the one that a message is for, or the root of the session that calls
 abbrev pub concerned : NodeState → Input → Option BranchId

@@ -7,7 +7,7 @@ ghost use Rattle.node_points.specs.Passing.{passes_as, IsAhead};
 
 use crate::Passes;
 use crash_points::TurnPlace;
-use redo_record::Standing;
+use redo_record::KeptRow;
 use session_tree::{Live, Walk, step};
 
 /// The places that a branch may pass in its next turn, as far as they depend on what its node keeps of it.
@@ -25,7 +25,7 @@ pub struct Ahead {
 
 impl Ahead {
     /// What is ahead of a branch that is live, or has a row, or neither.
-    pub fn of(live: Option<&Live>, row: Option<&Standing>) -> Ahead
+    pub fn of(live: Option<&Live>, row: Option<&KeptRow>) -> Ahead
         requires { IfSome live (λ l. length l.now.edges ≤ branch_limit) }
         ensures { IsAhead (option_copied live.entry) (option_copied row.entry) result }
     {
@@ -75,7 +75,7 @@ fn ready_points(live: Option<&Live>) -> Option<Passes>
     }
 }
 
-fn ended_points(row: Option<&Standing>) -> Option<Passes>
+fn ended_points(row: Option<&KeptRow>) -> Option<Passes>
     ensures { option_map passes_as result ≡ ended_points_of (option_copied row.entry) }
 {
     match row {
@@ -90,7 +90,7 @@ fn ended_points(row: Option<&Standing>) -> Option<Passes>
     }
 }
 
-fn forgot_points(row: Option<&Standing>) -> Option<Passes>
+fn forgot_points(row: Option<&KeptRow>) -> Option<Passes>
     ensures { option_map passes_as result ≡ forgot_points_of (option_copied row.entry) }
 {
     match row {

@@ -3,26 +3,26 @@ use Rattle.std.proofs.Common.{◌≡◌, ℕ, Bool, true, false, if◌then◌els
 use Rattle.redo_record.specs.Lists.{change_where}
 use Rattle.redo_record.specs.Kept.{stands_at, hidden_as, kept_after}
 use Rattle.redo_record.specs.Durable.{durable_after}
-use Rattle.node_rules.specs.Data.{BranchId, Msg, Place, Standing}
+use Rattle.node_rules.specs.Data.{BranchId, Msg, Place, KeptRow}
 use Rattle.node_rules.specs.Data.inputs
 use Rattle.node_rules.specs.Data.records
 use Rattle.node_rules.specs.Force.{may_purge, hides, purge}
-use Rattle.node_rules.specs.NodeState.{NodeState, Outcome}
+use Rattle.node_rules.specs.NodeState.{NodeState, TurnOutput}
 use Rattle.node_rules.specs.Records.{applied, with_record}
 use Rattle.node_rules.specs.Turn.{turn_of}
 use Rattle.node_purge_laws.specs.PurgeLaws.{RowsLike, rows_of, IsLike, ActsLike, PurgesHideAlone, Shows, shown, PurgesChangeNothingShown}
 use Rattle.node_purge_laws.proofs.LikeLemmas.{purges_change_no_message}
 use Rattle.node_purge_laws.proofs.RowLikeLemmas.{OneLike}
 
-rows_same : (xs : List Standing) → RowsLike xs xs
+rows_same : (xs : List KeptRow) → RowsLike xs xs
 rows_same [] = tt
 rows_same (x ∷ xs) = (refl, rows_same xs)
 
-hides_one : (q : Bool) (x : Standing) → OneLike x (if q then hidden_as x else x)
+hides_one : (q : Bool) (x : KeptRow) → OneLike x (if q then hidden_as x else x)
 hides_one true x = refl
 hides_one false x = refl
 
-rows_hidden : (b : BranchId) (xs : List Standing) → RowsLike xs (change_where (stands_at b) hidden_as xs)
+rows_hidden : (b : BranchId) (xs : List KeptRow) → RowsLike xs (change_where (stands_at b) hidden_as xs)
 rows_hidden b [] = tt
 rows_hidden b (x ∷ xs) = (hides_one (stands_at b x) x, rows_hidden b xs)
 
@@ -30,7 +30,7 @@ hidden_like : (k : NodeState) (b : BranchId) → IsLike k (with_record k (record
 unfolding applied durable_after kept_after
 hidden_like k b = record { same = refl; rows = rows_hidden b (rows_of k) }
 
-hides_like : (k : NodeState) (n : ℕ) (id : List ℕ) (o : Option Standing) → IsLike k (hides k n id o).after
+hides_like : (k : NodeState) (n : ℕ) (id : List ℕ) (o : Option KeptRow) → IsLike k (hides k n id o).after
 hides_like k n id None = record { same = refl; rows = rows_same (rows_of k) }
 hides_like k n id (Some s) = hidden_like k s.me
 
@@ -42,7 +42,7 @@ pub purges_hide_alone : PurgesHideAlone
 unfolding turn_of
 purges_hide_alone p k n id = (purge_like k n true id, purge_like k n false id)
 
-one_shown : (o other : Outcome) (rest more : List Shows) → ActsLike o other → rest ≡ more
+one_shown : (o other : TurnOutput) (rest more : List Shows) → ActsLike o other → rest ≡ more
     → (record { wrote = other.wrote; sent = other.sent; ended = other.ended }) ∷ more ≡ (record { wrote = o.wrote; sent = o.sent; ended = o.ended }) ∷ rest
 one_shown o other rest more acts same = (let wrote = acts.wrote in let sent = acts.sent in let ended = acts.ended in cc)
 

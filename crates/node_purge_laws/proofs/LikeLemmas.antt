@@ -14,7 +14,7 @@ use Rattle.session_tree.specs.Tree.{step}
 use Rattle.link_session.specs.Opens.{opening_of}
 use Rattle.reco.specs.Asks.{to_each, to_one}
 use Rattle.reco.specs.Told.{live_told}
-use Rattle.node_rules.specs.Data.{Advice, Answer, Stmt, Table, TableRef, BranchId, Decision, RedoRecord, Durable, Standing, Live, Kind, Msg, Place, Vote, Phase, Act, Edge, Opening, Admit, Beyond, Post, Kid}
+use Rattle.node_rules.specs.Data.{Advice, Answer, Stmt, Table, TableRef, BranchId, Decision, RedoRecord, Durable, KeptRow, Live, Kind, Msg, Place, Vote, Phase, Act, Edge, Opening, Admit, Beyond, Post, Kid}
 use Rattle.node_rules.specs.declared.work.Going.{Going}
 use Rattle.node_rules.specs.declared.work.Waits.{Waits}
 use Rattle.node_rules.specs.declared.work.Waits.TheVariants as waiting
@@ -28,7 +28,7 @@ use Rattle.node_rules.specs.Data.votes
 use Rattle.node_rules.specs.Data.phases
 use Rattle.node_rules.specs.Data.acts
 use Rattle.node_rules.specs.Data.admits
-use Rattle.node_rules.specs.NodeState.{NodeState, Deed, Branch, nothing, saying, post, branch_at, standing_at, standing_id, with_standing, without_branch}
+use Rattle.node_rules.specs.NodeState.{NodeState, TurnDraft, Branch, nothing, saying, post, branch_at, kept_row_at, kept_row_id, with_kept_row, without_branch}
 use Rattle.node_rules.specs.Records.{applied, with_record}
 use Rattle.node_rules.specs.Names.{Named, A_table, Behind, Unknown, Way, Runs_here, Over, Through, Nowhere_to, way_of, way_named, named_by, ref_named, table_named, table_of, ref_of}
 use Rattle.node_rules.specs.Statement.{ran}
@@ -36,13 +36,13 @@ use Rattle.node_rules.specs.Calls.{goes, statement_at, open_by, opened_waits, op
 use Rattle.node_rules.specs.Prepare.{drops, act_turn, sealed_record, decided_record, without_read_keys, collecting, with_comment, prepare_in, answer_in, commit_point_in, voted, commit_point_act}
 use Rattle.node_rules.specs.Commit.{beyond, parent_beyond, kid_beyond, next_on_decision, next_on_ack, next_on_forgotten, known_decision, decision_at, knows_commit, all_acked, passes, passes_commit, rollback_to, next_turn, on_decision, ack_counts, acked_by, counts_ack, on_ack, on_forgotten, commit_point_known, is_asked_again}
 use Rattle.node_rules.specs.Recovery.{on_ask_told, ask_answer}
-use Rattle.node_rules.specs.Turn.{Stand, Is_live, Is_kept, Is_gone, kept_or_gone, live_or, stand_of, kind_turn, clock_raised_by, deed_of, turn_of, stamped, outcome_of}
+use Rattle.node_rules.specs.Turn.{BranchStatus, Is_live, Is_kept, Is_gone, kept_or_gone, live_or, status_of, kind_turn, clock_raised_by, draft_of, turn_of, stamped, output_of}
 use Rattle.node_purge_laws.specs.PurgeLaws.{row_as, RowsLike, rows_of, with_rows, IsLike, ActsLike, PurgesChangeNoMessage}
 use Rattle.node_purge_laws.proofs.RowLikeLemmas.{FoundLike, found_like, put_like, kept_like}
 
 -- ---- one row, hidden or not
 
-module _ (s : Standing) (h : Bool) where
+module _ (s : KeptRow) (h : Bool) where
   parents_same : (o : Option BranchId) → parent_beyond (row_as s h) o ≡ parent_beyond s o
   parents_same None = refl
   parents_same (Some b) = refl
@@ -88,7 +88,7 @@ module _ (s : Standing) (h : Bool) where
 
 -- ---- names of tables
 
-module _ (d : Durable) (ks : List Standing) where
+module _ (d : Durable) (ks : List KeptRow) where
   abbrev e : Durable
   e = record d { kept = ks }
 
@@ -109,10 +109,10 @@ module _ (d : Durable) (ks : List Standing) where
   unfolding way_of
   way_same p l given s = way_named_same p l given (named_by e (ref_of s)) ∙ ap (way_named p d l given) (named_same (ref_of s) (ref_of s).link)
 
--- ---- deeds
+-- ---- drafts
 
--- Deeds that write, say and answer the same, and leave nodes that differ so.
-record DeedsLike (d other : Deed) : Type 0 where
+-- Drafts that write, say and answer the same, and leave nodes that differ so.
+record DraftsLike (d other : TurnDraft) : Type 0 where
   wrote : d.wrote ≡ other.wrote
   says : d.says ≡ other.says
   ended : d.ended ≡ other.ended
@@ -121,7 +121,7 @@ record DeedsLike (d other : Deed) : Type 0 where
 sessions_like : {k other : NodeState} (ss : List Session) → IsLike k other → IsLike (record k { sessions = ss }) (record other { sessions = ss })
 sessions_like ss like = record { same = ap (λ (z : NodeState). record z { sessions = ss }) like.same; rows = like.rows }
 
-module _ (k : NodeState) (ks : List Standing) (like : RowsLike (rows_of k) ks) where
+module _ (k : NodeState) (ks : List KeptRow) (like : RowsLike (rows_of k) ks) where
   recorded : (r : RedoRecord) → IsLike (with_record k r) (with_record (with_rows k ks) r)
   unfolding applied durable_after
   recorded (records.Boot n) = record { same = refl; rows = like }
@@ -138,12 +138,12 @@ module _ (k : NodeState) (ks : List Standing) (like : RowsLike (rows_of k) ks) w
   recorded (records.Forgot b) = record { same = refl; rows = kept_like (rows_of k) ks (records.Forgot b) like }
   recorded (records.Hidden b) = record { same = refl; rows = kept_like (rows_of k) ks (records.Hidden b) like }
 
-module _ (k : NodeState) (ks : List Standing) (like : RowsLike (rows_of k) ks) where
+module _ (k : NodeState) (ks : List KeptRow) (like : RowsLike (rows_of k) ks) where
   abbrev other : NodeState
   other = with_rows k ks
 
-  abbrev So : (NodeState → Deed) → Type 0
-  So f = DeedsLike (f k) (f other)
+  abbrev So : (NodeState → TurnDraft) → Type 0
+  So f = DraftsLike (f k) (f other)
 
   rests : So nothing
   rests = record { wrote = refl; says = refl; ended = refl; after = record { same = refl; rows = like } }
@@ -154,7 +154,7 @@ module _ (k : NodeState) (ks : List Standing) (like : RowsLike (rows_of k) ks) w
   said : (ps : List Post) → So (λ z. saying z ps)
   said ps = record { wrote = refl; says = refl; ended = refl; after = record { same = refl; rows = like } }
 
-  either : (q : Bool) (f g : NodeState → Deed) → So f → So g → So (λ z. if q then f z else g z)
+  either : (q : Bool) (f g : NodeState → TurnDraft) → So f → So g → So (λ z. if q then f z else g z)
   either true f g one two = one
   either false f g one two = two
 
@@ -210,7 +210,7 @@ module _ (k : NodeState) (ks : List Standing) (like : RowsLike (rows_of k) ks) w
 
   statement_like : (p : Place) (x : Branch) (s : Stmt) (given : ℕ) → So (λ z. statement_at p z x s given)
   statement_like p x s given =
-      subst (λ w. DeedsLike (statement_at p k x s given) (goes p other x s given w)) (sym (way_same k.stored.durable ks p x.live given s)) (goes_like p x s given (way_of p k.stored.durable x.live given s))
+      subst (λ w. DraftsLike (statement_at p k x s given) (goes p other x s given w)) (sym (way_same k.stored.durable ks p x.live given s)) (goes_like p x s given (way_of p k.stored.durable x.live given s))
 
   exec_like : (p : Place) (x : Branch) (from : BranchId) (call given : ℕ) (advice : Option Advice) (s : Stmt) (a : Admit) → So (λ z. exec_by p z x from call given advice s a)
   exec_like p x from call given advice s admits.Ignore = rests
@@ -218,13 +218,13 @@ module _ (k : NodeState) (ks : List Standing) (like : RowsLike (rows_of k) ks) w
   exec_like p x from call given advice s admits.Run = statement_like p (takes_call x call advice) s given
 
 -- it begins its collect where it works
-prepare_like : (k : NodeState) (ks : List Standing) → RowsLike (rows_of k) ks → (l : Live) (below : Bool) (comment : List ℕ) (phase : Phase) → DeedsLike (prepare_in k l below comment phase) (prepare_in (with_rows k ks) l below comment phase)
+prepare_like : (k : NodeState) (ks : List KeptRow) → RowsLike (rows_of k) ks → (l : Live) (below : Bool) (comment : List ℕ) (phase : Phase) → DraftsLike (prepare_in k l below comment phase) (prepare_in (with_rows k ks) l below comment phase)
 prepare_like k ks like l below comment phases.Working = act_like (without_read_keys k l.me) ks like (collecting (with_comment l comment) below) below (first_act (collecting (with_comment l comment) below) below)
 prepare_like k ks like l below comment _ = rests k ks like
 
 -- ---- kept branches
 
-next_like : (k : NodeState) (ks : List Standing) → RowsLike (rows_of k) ks → (s : Standing) (h : Bool) (from : BranchId) (n : Next) → DeedsLike (next_turn k s from n) (next_turn (with_rows k ks) (row_as s h) from n)
+next_like : (k : NodeState) (ks : List KeptRow) → RowsLike (rows_of k) ks → (s : KeptRow) (h : Bool) (from : BranchId) (n : Next) → DraftsLike (next_turn k s from n) (next_turn (with_rows k ks) (row_as s h) from n)
 next_like k ks like s h from nexts.Rest = rests k ks like
 next_like k ks like s h from (nexts.End d) = record { wrote = refl; says = sym (passes_same s h d); ended = refl; after = sessions_like (next_turn k s from (nexts.End d)).after.sessions (recorded k ks like (records.Ended s.me d)) }
 next_like k ks like s h from (nexts.Meet d mixed) = record { wrote = refl; says = sym (passes_same s h d); ended = refl; after = sessions_like (next_turn k s from (nexts.Meet d mixed)).after.sessions (recorded k ks like (records.Met s.me d mixed)) }
@@ -238,29 +238,29 @@ next_like k ks like s h from nexts.Forget = record {
 next_like k ks like s h from nexts.SayForgotten = said k ks like (post s.me from kinds.Forgotten)
 next_like k ks like s h from nexts.SayAck = said k ks like (post s.me from kinds.Ack)
 
-decides_like : (k : NodeState) (ks : List Standing) → RowsLike (rows_of k) ks → (s : Standing) (h : Bool) (from : BranchId) (d : Decision) → DeedsLike (on_decision k s from d) (on_decision (with_rows k ks) (row_as s h) from d)
+decides_like : (k : NodeState) (ks : List KeptRow) → RowsLike (rows_of k) ks → (s : KeptRow) (h : Bool) (from : BranchId) (d : Decision) → DraftsLike (on_decision k s from d) (on_decision (with_rows k ks) (row_as s h) from d)
 decides_like k ks like s h from d =
-    subst (λ n. DeedsLike (on_decision k s from d) (next_turn (with_rows k ks) (row_as s h) from n)) (sym (next_same s h from d)) (next_like k ks like s h from (next_on_decision s from d))
+    subst (λ n. DraftsLike (on_decision k s from d) (next_turn (with_rows k ks) (row_as s h) from n)) (sym (next_same s h from d)) (next_like k ks like s h from (next_on_decision s from d))
 
-forgets_like : (k : NodeState) (ks : List Standing) → RowsLike (rows_of k) ks → (s : Standing) (h : Bool) (from : BranchId) → DeedsLike (on_forgotten k s from) (on_forgotten (with_rows k ks) (row_as s h) from)
+forgets_like : (k : NodeState) (ks : List KeptRow) → RowsLike (rows_of k) ks → (s : KeptRow) (h : Bool) (from : BranchId) → DraftsLike (on_forgotten k s from) (on_forgotten (with_rows k ks) (row_as s h) from)
 forgets_like k ks like s h from =
-    subst (λ n. DeedsLike (on_forgotten k s from) (next_turn (with_rows k ks) (row_as s h) from n)) (sym (forgotten_same s h from)) (next_like k ks like s h from (next_on_forgotten s from))
+    subst (λ n. DraftsLike (on_forgotten k s from) (next_turn (with_rows k ks) (row_as s h) from n)) (sym (forgotten_same s h from)) (next_like k ks like s h from (next_on_forgotten s from))
 
 -- an Ack that counts is noted in the row
-counts_like : (k : NodeState) (ks : List Standing) → RowsLike (rows_of k) ks → (s : Standing) (h : Bool) (from : BranchId) → DeedsLike (counts_ack k s from) (counts_ack (with_rows k ks) (row_as s h) from)
+counts_like : (k : NodeState) (ks : List KeptRow) → RowsLike (rows_of k) ks → (s : KeptRow) (h : Bool) (from : BranchId) → DraftsLike (counts_ack k s from) (counts_ack (with_rows k ks) (row_as s h) from)
 counts_like k ks like s h from =
-    subst (λ n. DeedsLike (counts_ack k s from) (next_turn (with_standing (with_rows k ks) (row_as s h)) (row_as s h) from n)) (sym (ack_same s h))
-    (next_like (with_standing k s) (put_item standing_id ks (row_as s h)) (put_like (rows_of k) ks s (row_as s h) refl like) s h from (next_on_ack s))
+    subst (λ n. DraftsLike (counts_ack k s from) (next_turn (with_kept_row (with_rows k ks) (row_as s h)) (row_as s h) from n)) (sym (ack_same s h))
+    (next_like (with_kept_row k s) (put_item kept_row_id ks (row_as s h)) (put_like (rows_of k) ks s (row_as s h) refl like) s h from (next_on_ack s))
 
-ack_like : (k : NodeState) (ks : List Standing) → RowsLike (rows_of k) ks → (s : Standing) (h : Bool) (from : BranchId) → DeedsLike (on_ack k s from) (on_ack (with_rows k ks) (row_as s h) from)
+ack_like : (k : NodeState) (ks : List KeptRow) → RowsLike (rows_of k) ks → (s : KeptRow) (h : Bool) (from : BranchId) → DraftsLike (on_ack k s from) (on_ack (with_rows k ks) (row_as s h) from)
 ack_like k ks like s h from =
-    subst (λ q. DeedsLike (on_ack k s from) (if q then counts_ack (with_rows k ks) (acked_by (row_as s h) from) from else nothing (with_rows k ks))) (sym (counts_same s h from)) (by (ack_counts s from))
+    subst (λ q. DraftsLike (on_ack k s from) (if q then counts_ack (with_rows k ks) (acked_by (row_as s h) from) from else nothing (with_rows k ks))) (sym (counts_same s h from)) (by (ack_counts s from))
   where
-    by : (q : Bool) → DeedsLike (if q then counts_ack k (acked_by s from) from else nothing k) (if q then counts_ack (with_rows k ks) (acked_by (row_as s h) from) from else nothing (with_rows k ks))
+    by : (q : Bool) → DraftsLike (if q then counts_ack k (acked_by s from) from else nothing k) (if q then counts_ack (with_rows k ks) (acked_by (row_as s h) from) from else nothing (with_rows k ks))
     by true = counts_like k ks like (acked_by s from) h from
     by false = rests k ks like
 
-known_like : (k : NodeState) (ks : List Standing) → RowsLike (rows_of k) ks → (s : Standing) (h : Bool) (from : BranchId) (o : Option Decision) → DeedsLike (commit_point_known k s from o) (commit_point_known (with_rows k ks) (row_as s h) from o)
+known_like : (k : NodeState) (ks : List KeptRow) → RowsLike (rows_of k) ks → (s : KeptRow) (h : Bool) (from : BranchId) (o : Option Decision) → DraftsLike (commit_point_known k s from o) (commit_point_known (with_rows k ks) (row_as s h) from o)
 known_like k ks like s h from None = rests k ks like
 known_like k ks like s h from (Some (decisions.Commit n)) = said k ks like (post s.me from (kinds.Committed n))
 known_like k ks like s h from (Some decisions.Rollback) = said k ks like (post s.me from kinds.RolledBack)
@@ -268,16 +268,16 @@ known_like k ks like s h from (Some decisions.Rollback) = said k ks like (post s
 -- ---- each message
 
 -- a branch is the same at both nodes, but for whether its row is hidden
-data StandsLike : Stand → Stand → Type 0 where
+data StandsLike : BranchStatus → BranchStatus → Type 0 where
   Both_live : (x : Branch) → StandsLike (Is_live x) (Is_live x)
-  Both_kept : (s : Standing) (h : Bool) → StandsLike (Is_kept s) (Is_kept (row_as s h))
+  Both_kept : (s : KeptRow) (h : Bool) → StandsLike (Is_kept s) (Is_kept (row_as s h))
   Both_gone : StandsLike Is_gone Is_gone
 
-module _ (p : Place) (k : NodeState) (ks : List Standing) (like : RowsLike (rows_of k) ks) (from to : BranchId) where
-  abbrev KindLike : Kind → Stand → Stand → Type 0
-  KindLike kind a b = DeedsLike (kind_turn p k from to kind a) (kind_turn p (with_rows k ks) from to kind b)
+module _ (p : Place) (k : NodeState) (ks : List KeptRow) (like : RowsLike (rows_of k) ks) (from to : BranchId) where
+  abbrev KindLike : Kind → BranchStatus → BranchStatus → Type 0
+  KindLike kind a b = DraftsLike (kind_turn p k from to kind a) (kind_turn p (with_rows k ks) from to kind b)
 
-  kind_like : (kind : Kind) {a b : Stand} → StandsLike a b → KindLike kind a b
+  kind_like : (kind : Kind) {a b : BranchStatus} → StandsLike a b → KindLike kind a b
   kind_like (kinds.Open edge root depth) stands = open_like k ks like p from edge root depth (opening_of k.opens from edge)
   kind_like (kinds.Opened edge strength) (Both_live x) = going_like k ks like x from edge strength x.work.going
   kind_like (kinds.Opened edge strength) (Both_kept s h) = rests k ks like
@@ -328,26 +328,26 @@ module _ (p : Place) (k : NodeState) (ks : List Standing) (like : RowsLike (rows
 
 -- ---- where it stands
 
-rows_stand : (o r : Option Standing) → FoundLike o r → StandsLike (kept_or_gone o) (kept_or_gone r)
+rows_stand : (o r : Option KeptRow) → FoundLike o r → StandsLike (kept_or_gone o) (kept_or_gone r)
 rows_stand None None found = Both_gone
 rows_stand None (Some y) found = absurd found
 rows_stand (Some x) None found = absurd found
 rows_stand (Some x) (Some y) found = subst (λ z. StandsLike (Is_kept x) (Is_kept z)) (sym found) (Both_kept x y.hidden)
 
-live_stand : (b : Option Branch) (o r : Option Standing) → FoundLike o r → StandsLike (live_or b o) (live_or b r)
+live_stand : (b : Option Branch) (o r : Option KeptRow) → FoundLike o r → StandsLike (live_or b o) (live_or b r)
 live_stand (Some x) o r found = Both_live x
 live_stand None o r found = rows_stand o r found
 
-stand_like : (k : NodeState) (ks : List Standing) → RowsLike (rows_of k) ks → (b : BranchId) → StandsLike (stand_of k b) (stand_of (with_rows k ks) b)
-unfolding stand_of
-stand_like k ks like b = live_stand (branch_at k b) (standing_at k b) (item_at standing_id ks b) (found_like (rows_of k) ks b like)
+stand_like : (k : NodeState) (ks : List KeptRow) → RowsLike (rows_of k) ks → (b : BranchId) → StandsLike (status_of k b) (status_of (with_rows k ks) b)
+unfolding status_of
+stand_like k ks like b = live_stand (branch_at k b) (kept_row_at k b) (item_at kept_row_id ks b) (found_like (rows_of k) ks b like)
 
 -- ---- turns
 
 clock_same : {k other : NodeState} → IsLike k other → k.clock ≡ other.clock
 clock_same like = sym (ap (λ (z : NodeState). z.clock) like.same)
 
-acts_like : (d e : Deed) → DeedsLike d e → ActsLike (outcome_of d) (outcome_of e)
+acts_like : (d e : TurnDraft) → DraftsLike d e → ActsLike (output_of d) (output_of e)
 acts_like d e like = record {
   wrote = like.wrote;
   sent = subst₂ (λ c ps. map (stamped d.after.clock) d.says ≡ map (stamped c) ps) (clock_same like.after) like.says refl;
@@ -355,10 +355,10 @@ acts_like d e like = record {
   after = like.after;
 }
 
-turn_like : (p : Place) (k : NodeState) (ks : List Standing) → RowsLike (rows_of k) ks → (m : Msg) → ActsLike (turn_of p k (inputs.Message m)) (turn_of p (with_rows k ks) (inputs.Message m))
+turn_like : (p : Place) (k : NodeState) (ks : List KeptRow) → RowsLike (rows_of k) ks → (m : Msg) → ActsLike (turn_of p k (inputs.Message m)) (turn_of p (with_rows k ks) (inputs.Message m))
 unfolding turn_of
 turn_like p k ks like m =
-    acts_like (deed_of p k (inputs.Message m)) (deed_of p (with_rows k ks) (inputs.Message m)) (kind_like p (clock_raised_by k m) ks like m.from m.to m.kind (stand_like (clock_raised_by k m) ks like m.to))
+    acts_like (draft_of p k (inputs.Message m)) (draft_of p (with_rows k ks) (inputs.Message m)) (kind_like p (clock_raised_by k m) ks like m.from m.to m.kind (stand_like (clock_raised_by k m) ks like m.to))
 
 pub purges_change_no_message : PurgesChangeNoMessage
 purges_change_no_message p k other like m =

@@ -6,9 +6,9 @@ use Rattle.tran_ids.proofs.ListedLemmas.{item_is}
 use Rattle.tran_ids.proofs.BranchLemmas.{equal_from_same, same_from_equal}
 use Rattle.redo_record.specs.Kept.{add_kept, keep_decided}
 use Rattle.redo_record.specs.Rows.{has_neighbors}
-use Rattle.node_rules.specs.Data.{BranchId, Standing, Live, Doubt}
+use Rattle.node_rules.specs.Data.{BranchId, KeptRow, Live, Doubt}
 use Rattle.node_rules.specs.Words.{same, is_item_of, item_at, put_item, drop_item}
-use Rattle.node_rules.specs.NodeState.{live_id, standing_id, doubt_id}
+use Rattle.node_rules.specs.NodeState.{live_id, kept_row_id, doubt_id}
 use Rattle.node_ready_laws.specs.Ids.{last_seq, IsGiven, IsFree, AreApart}
 use Rattle.node_ready_laws.proofs.ListLemmas.{all_last, all_weaker, all_found, all_put, all_dropped, all_left, all_placed, none_of, not_found, new_id}
 use Rattle.node_ready_laws.proofs.GivenLemmas.{given_still}
@@ -25,7 +25,7 @@ other_way a b other = by (same b a) refl
     by true is = let one : same a b ≡ true = same_from_equal a b (sym (equal_from_same b a is)) in absurd cc
     by false is = refl
 
-module _ (boot : ℕ) (seqs : List ℕ) (opened : ℕ) (lives : List Live) (kept : List Standing) (doubts : List Doubt) (now : AreApart boot seqs opened lives kept doubts) where
+module _ (boot : ℕ) (seqs : List ℕ) (opened : ℕ) (lives : List Live) (kept : List KeptRow) (doubts : List Doubt) (now : AreApart boot seqs opened lives kept doubts) where
   -- a branch that is live
   pub live_given : (b : BranchId) (l : Live) → item_at live_id lives b ≡ Some l → IsGiven boot seqs opened b
   live_given b l found = subst (IsGiven boot seqs opened) (item_is live_id lives b l found) (all_found (λ x. IsGiven boot seqs opened x.me) (is_item_of live_id b) lives l now.live_given found)
@@ -35,7 +35,7 @@ module _ (boot : ℕ) (seqs : List ℕ) (opened : ℕ) (lives : List Live) (kept
 
   -- an id that was not given out is of no branch
   pub unused : (b : BranchId) → (IsGiven boot seqs opened b → ⊥) → IsFree kept doubts b
-  unused b new = (new_id standing_id b (IsGiven boot seqs opened) kept now.kept_given new, new_id doubt_id b (IsGiven boot seqs opened) doubts now.doubts_given new)
+  unused b new = (new_id kept_row_id b (IsGiven boot seqs opened) kept now.kept_given new, new_id doubt_id b (IsGiven boot seqs opened) doubts now.doubts_given new)
 
   -- a live branch is changed
   pub changed : (l : Live) → IsGiven boot seqs opened l.me → IsFree kept doubts l.me → AreApart boot seqs opened (put_item live_id lives l) kept doubts
@@ -69,28 +69,28 @@ module _ (boot : ℕ) (seqs : List ℕ) (opened : ℕ) (lives : List Live) (kept
   }
 
   -- rows and doubts are of branches that had such before
-  pub fewer : (less : List Standing) (few : List Doubt) → AreAmong standing_id kept less → AreAmong doubt_id doubts few → AreApart boot seqs opened lives less few
+  pub fewer : (less : List KeptRow) (few : List Doubt) → AreAmong kept_row_id kept less → AreAmong doubt_id doubts few → AreApart boot seqs opened lives less few
   fewer less few rows held = record {
     sessions = now.sessions;
     live_given = now.live_given;
     kept_given = rows (IsGiven boot seqs opened) now.kept_given;
     doubts_given = held (IsGiven boot seqs opened) now.doubts_given;
     free = all_weaker (λ l. IsFree kept doubts l.me) (λ l. IsFree less few l.me)
-        (λ l is. (not_found standing_id l.me less (rows (λ b. same b l.me ≡ false) (none_of standing_id l.me kept is.0)), not_found doubt_id l.me few (held (λ b. same b l.me ≡ false) (none_of doubt_id l.me doubts is.1))))
+        (λ l is. (not_found kept_row_id l.me less (rows (λ b. same b l.me ≡ false) (none_of kept_row_id l.me kept is.0)), not_found doubt_id l.me few (held (λ b. same b l.me ≡ false) (none_of doubt_id l.me doubts is.1))))
         lives now.free;
   }
 
-  module _ (s : Standing) (given : IsGiven boot seqs opened s.me) where
+  module _ (s : KeptRow) (given : IsGiven boot seqs opened s.me) where
     -- a row of one branch is of no other
-    row_free : (b : BranchId) → item_at standing_id kept b ≡ None → same b s.me ≡ false → item_at standing_id (add_kept kept s) b ≡ None
-    row_free b none other = not_found standing_id b (add_kept kept s) (all_placed (λ x. same x.me b ≡ false) standing_id kept s (none_of standing_id b kept none) (other_way b s.me other))
+    row_free : (b : BranchId) → item_at kept_row_id kept b ≡ None → same b s.me ≡ false → item_at kept_row_id (add_kept kept s) b ≡ None
+    row_free b none other = not_found kept_row_id b (add_kept kept s) (all_placed (λ x. same x.me b ≡ false) kept_row_id kept s (none_of kept_row_id b kept none) (other_way b s.me other))
 
     -- a live branch leaves, and is kept from now on
     gets_row : AreApart boot seqs opened (drop_item live_id lives s.me) (add_kept kept s) doubts
     gets_row = record {
       sessions = now.sessions;
       live_given = all_dropped (λ x. IsGiven boot seqs opened x.me) live_id lives s.me now.live_given;
-      kept_given = all_placed (λ x. IsGiven boot seqs opened x.me) standing_id kept s now.kept_given given;
+      kept_given = all_placed (λ x. IsGiven boot seqs opened x.me) kept_row_id kept s now.kept_given given;
       doubts_given = now.doubts_given;
       free = all_weaker (λ l. IsFree kept doubts l.me × (same l.me s.me ≡ false)) (λ l. IsFree (add_kept kept s) doubts l.me) (λ l is. (row_free l.me is.0.0 is.1, is.0.1)) (drop_item live_id lives s.me)
           (all_left (λ l. IsFree kept doubts l.me) live_id lives s.me now.free);

@@ -7,7 +7,7 @@ use Rattle.node_rules.specs.Data.inputs
 use Rattle.node_rules.specs.Data.acts
 use Rattle.commit_forget.specs.declared.next.Next.TheVariants as nexts
 use Rattle.node_rules.specs.Words.{numbered, set_numbered, put_item, drop_item, item_at}
-use Rattle.node_rules.specs.NodeState.{NodeState, Deed, Branch, work_id, work_at, work_or, with_work, live_at, branch_at}
+use Rattle.node_rules.specs.NodeState.{NodeState, TurnDraft, Branch, work_id, work_at, work_or, with_work, live_at, branch_at}
 use Rattle.node_rules.specs.Calls.{next_call}
 use Rattle.node_rules.specs.Turn.{heard, turn_of}
 use Rattle.node_rules.proofs.Steps as steps
@@ -83,7 +83,7 @@ module _ (n : ℕ) (k : NodeState) (all : WorksBelow n k.works) where
   left : (b : BranchId) → WorksBelow (n + 1) (drop_item work_id k.works b)
   left b = all_dropped (λ x. Below (n + 1) x.calls) work_id k.works b more
 
-calls_on : (p : Place) (input : Input) (n : ℕ) {k : NodeState} {d : Deed} → Step p input k d → WorksBelow n k.works → WorksBelow (n + 1) d.after.works
+calls_on : (p : Place) (input : Input) (n : ℕ) {k : NodeState} {d : TurnDraft} → Step p input k d → WorksBelow n k.works → WorksBelow (n + 1) d.after.works
 calls_on p input n (steps.Begins m s call rows fit none step) all = calls_on p input n step all
 calls_on p input n (steps.Pends m l given call has live code step) all = calls_on p input n step all
 calls_on p input n (steps.Lets_reads_go l comment site_below live begins step) all = calls_on p input n step all

@@ -2,7 +2,7 @@
 use Rattle.std.proofs.Common.{◌≡◌, ℕ, ◌||◌, ◌≤◌, Bool, true, false, if◌then◌else◌, List, [], ◌∷◌, find, Option, Some, None, refl, ap, subst, ◌∙◌}
 use Rattle.std.specs.Prelude.{IfSome, is_some}
 use Rattle.std.specs.List.{list_any}
-use Rattle.node_rules.specs.Data.{Change, RedoRecord, Done, Stmt, Standing, Live, Place, Input}
+use Rattle.node_rules.specs.Data.{Change, RedoRecord, Done, Stmt, KeptRow, Live, Place, Input}
 use Rattle.node_rules.specs.Data.acts
 use Rattle.node_rules.specs.Data.records
 use Rattle.node_rules.specs.Data.inputs
@@ -10,7 +10,7 @@ use Rattle.node_rules.specs.declared.session.PendingCall.TheVariants as pending
 use Rattle.commit_forget.specs.declared.next.Next.TheVariants as nexts
 use Rattle.row_store.specs.Store.{AreOfTables, has_table}
 use Rattle.node_rules.specs.Words.{same_text, put_item}
-use Rattle.node_rules.specs.NodeState.{NodeState, Stored, Deed, standing_id}
+use Rattle.node_rules.specs.NodeState.{NodeState, Stored, TurnDraft, kept_row_id}
 use Rattle.node_rules.specs.Commit.{acked_by}
 use Rattle.node_rules.specs.Prepare.{own_changes, sealed_record, decided_record}
 use Rattle.node_rules.specs.Sessions.{with_call}
@@ -78,7 +78,7 @@ module _ (k : NodeState) (now : HasRows k) where
 
 -- ---- records do not hang on the rows of kept branches
 
-sound_still : (s : Stored) (kept : List Standing) (r : RedoRecord) → IsSound s r → IsSound (with_rows s kept) r
+sound_still : (s : Stored) (kept : List KeptRow) (r : RedoRecord) → IsSound s r → IsSound (with_rows s kept) r
 sound_still s kept (records.Boot n) is = is
 sound_still s kept (records.Table t) is = is
 sound_still s kept (records.Link l) is = is
@@ -91,17 +91,17 @@ pub rows_do_not_matter : RowsDoNotMatter
 rows_do_not_matter s kept r is = (record { listed = is.0.listed; stored = is.0.stored }, sound_still s kept r is.1)
 
 -- before an Ack was noted
-unnoted : (s : Stored) (kept : List Standing) (w : Option RedoRecord) → IfSome w (IsNext (with_rows s kept)) → IfSome w (IsNext s)
+unnoted : (s : Stored) (kept : List KeptRow) (w : Option RedoRecord) → IfSome w (IsNext (with_rows s kept)) → IfSome w (IsNext s)
 unnoted s kept None is = tt
 unnoted s kept (Some r) is = rows_do_not_matter (with_rows s kept) s.durable.kept r is
 
 -- ---- steps
 
-next_on : (p : Place) (input : Input) → BringsWhole input → BringsNamed input → {k : NodeState} {d : Deed} → Step p input k d → HasRows k → HasOwnIds k → IfSome d.wrote (IsNext k.stored)
+next_on : (p : Place) (input : Input) → BringsWhole input → BringsNamed input → {k : NodeState} {d : TurnDraft} → Step p input k d → HasRows k → HasOwnIds k → IfSome d.wrote (IsNext k.stored)
 next_on p input whole named (steps.Begins {k = k} n s call rows fit none step) now ids = next_on p input whole named step now (begun_ids k ids p n fit)
 next_on p input whole named (steps.Pends {k = k} n l given call has live code step) now ids = next_on p input whole named step now (still k ids (with_call k.sessions n pending.Commit) (call_seqs k.sessions n pending.Commit))
 next_on p input whole named (steps.Lets_reads_go l comment site_below live begins step) now ids = next_on p input whole named step now ids
-next_on p input whole named (steps.Counts_ack {k = k} {d = d} s from kept came counts step) now ids = unnoted k.stored (put_item standing_id k.stored.durable.kept (acked_by s from)) d.wrote (next_on p input whole named step now (with_ack k ids s from kept))
+next_on p input whole named (steps.Counts_ack {k = k} {d = d} s from kept came counts step) now ids = unnoted k.stored (put_item kept_row_id k.stored.durable.kept (acked_by s from)) d.wrote (next_on p input whole named step now (with_ack k ids s from kept))
 next_on p input whole named (steps.Acts {k = k} l site_below acts.Seal why) now ids = sealed_next k now ids l (acting_live why) None
 next_on p input whole named (steps.Acts {k = k} l site_below (acts.SealAndPass i) why) now ids = sealed_next k now ids l (acting_live why) (Some i)
 next_on p input whole named (steps.Acts {k = k} l site_below acts.Decide why) now ids = decided_next k now ids l (acting_live why)

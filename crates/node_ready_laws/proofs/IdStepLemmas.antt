@@ -5,7 +5,7 @@ use Rattle.tran_ids.proofs.NumberedLemmas.{set_length}
 use Rattle.redo_record.specs.Kept.{kept_after}
 use Rattle.redo_record.specs.Durable.{durable_after}
 use Rattle.redo_record.specs.Rows.{sealed_as, decided_as}
-use Rattle.node_rules.specs.Data.{BranchId, RedoRecord, Standing, Sealed, Live, Place, Input}
+use Rattle.node_rules.specs.Data.{BranchId, RedoRecord, KeptRow, Sealed, Live, Place, Input}
 use Rattle.node_rules.specs.Data.acts
 use Rattle.node_rules.specs.Data.decisions
 use Rattle.node_rules.specs.Data.records
@@ -16,7 +16,7 @@ use Rattle.commit_forget.specs.declared.next.Next.TheVariants as nexts
 use Rattle.session_tree.specs.Live.{new_edge}
 use Rattle.node_rules.specs.Words.{is_item_of, put_item, drop_item, set_numbered}
 use Rattle.node_rules.specs.Refusals.{dtx}
-use Rattle.node_rules.specs.NodeState.{NodeState, Deed, live_id, standing_id, live_at}
+use Rattle.node_rules.specs.NodeState.{NodeState, TurnDraft, live_id, kept_row_id, live_at}
 use Rattle.node_rules.specs.Records.{applied, doubt_over, stored_by}
 use Rattle.node_rules.specs.Sessions.{session_at, with_call, with_root, no_transaction}
 use Rattle.node_rules.specs.Statement.{ran, after_run}
@@ -80,10 +80,10 @@ module _ (k : NodeState) (now : HasOwnIds k) where
         (live_given k.stored.durable.boot (seqs ss) (length k.opens) k.lives k.stored.durable.kept k.stored.doubts here l.me live.0 live.1)
 
   -- an Ack is noted
-  pub with_ack : (s : Standing) (from : BranchId) → IsKept k s → AreApart k.stored.durable.boot (seqs k.sessions) (length k.opens) k.lives (put_item standing_id k.stored.durable.kept (acked_by s from)) k.stored.doubts
+  pub with_ack : (s : KeptRow) (from : BranchId) → IsKept k s → AreApart k.stored.durable.boot (seqs k.sessions) (length k.opens) k.lives (put_item kept_row_id k.stored.durable.kept (acked_by s from)) k.stored.doubts
   with_ack s from kept =
-      fewer k.stored.durable.boot (seqs k.sessions) (length k.opens) k.lives k.stored.durable.kept k.stored.doubts now (put_item standing_id k.stored.durable.kept (acked_by s from)) k.stored.doubts
-      (λ P all. all_put (λ x. P x.me) standing_id k.stored.durable.kept (acked_by s from) all (all_found (λ x. P x.me) (is_item_of standing_id s.me) k.stored.durable.kept s all kept)) (λ P all. all)
+      fewer k.stored.durable.boot (seqs k.sessions) (length k.opens) k.lives k.stored.durable.kept k.stored.doubts now (put_item kept_row_id k.stored.durable.kept (acked_by s from)) k.stored.doubts
+      (λ P all. all_put (λ x. P x.me) kept_row_id k.stored.durable.kept (acked_by s from) all (all_found (λ x. P x.me) (is_item_of kept_row_id s.me) k.stored.durable.kept s all kept)) (λ P all. all)
 
   -- ---- new ids
 
@@ -122,7 +122,7 @@ module _ (k : NodeState) (now : HasOwnIds k) where
       (free (next_child p k) (child_is_new p), λ n fit. free (new_root p k n) (root_is_new p n fit.1))
 
 -- each step leaves them so
-pub ids_on : (p : Place) (input : Input) {k : NodeState} {d : Deed} → Step p input k d → HasOwnIds k → HasOwnIds d.after
+pub ids_on : (p : Place) (input : Input) {k : NodeState} {d : TurnDraft} → Step p input k d → HasOwnIds k → HasOwnIds d.after
 ids_on p input (steps.Begins {k = k} n s call rows fit none step) now = ids_on p input step (begun_ids k now p n fit)
 ids_on p input (steps.Pends {k = k} n l given call has live code step) now = ids_on p input step (still k now (with_call k.sessions n pending.Commit) (call_seqs k.sessions n pending.Commit))
 ids_on p input (steps.Lets_reads_go l comment site_below live begins step) now = ids_on p input step now

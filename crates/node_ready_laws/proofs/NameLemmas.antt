@@ -11,7 +11,7 @@ use Rattle.node_rules.specs.Data.params
 use Rattle.node_rules.specs.Data.inputs
 use Rattle.node_rules.specs.Data.acts
 use Rattle.commit_forget.specs.declared.next.Next.TheVariants as nexts
-use Rattle.node_rules.specs.NodeState.{NodeState, Deed}
+use Rattle.node_rules.specs.NodeState.{NodeState, TurnDraft}
 use Rattle.node_rules.specs.Records.{applied}
 use Rattle.node_rules.specs.Inputs.{IsCall}
 use Rattle.node_rules.specs.Turn.{heard, turn_of}
@@ -78,7 +78,7 @@ makes_names named call (steps.Sets_recovery on) = tt
 
 -- ---- steps
 
-names_on : (p : Place) (input : Input) → BringsNamed input → {k : NodeState} {d : Deed} → Step p input k d → HasNames k → HasNames d.after
+names_on : (p : Place) (input : Input) → BringsNamed input → {k : NodeState} {d : TurnDraft} → Step p input k d → HasNames k → HasNames d.after
 unfolding applied durable_after
 names_on p input named (steps.Begins n s call rows fit none step) now = names_on p input named step now
 names_on p input named (steps.Pends n l given call has live code step) now = names_on p input named step now

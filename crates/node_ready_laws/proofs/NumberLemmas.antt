@@ -5,9 +5,9 @@ use Rattle.node_rules.specs.Data.{Place, Input}
 use Rattle.node_rules.specs.Data.inputs
 use Rattle.node_rules.specs.Data.acts
 use Rattle.commit_forget.specs.declared.next.Next.TheVariants as nexts
-use Rattle.node_rules.specs.NodeState.{NodeState, Deed}
+use Rattle.node_rules.specs.NodeState.{NodeState, TurnDraft}
 use Rattle.node_rules.specs.Calls.{new_opening}
-use Rattle.node_rules.specs.Turn.{heard, deed_of, turn_of}
+use Rattle.node_rules.specs.Turn.{heard, draft_of, turn_of}
 use Rattle.node_rules.proofs.Steps as steps
 use Rattle.node_rules.proofs.Steps.{Step}
 use Rattle.node_rules.proofs.TurnLemmas.{step_of}
@@ -17,7 +17,7 @@ use Rattle.node_ready_laws.specs.Numbers.{ClocksRiseByOne, OneOpenATurn}
 abbrev Rises : NodeState → NodeState → Type 0
 Rises k x = (x.clock ≤ k.clock + 1) × (length x.opens ≤ length k.opens + 1)
 
-rises_on : (p : Place) (input : Input) {k : NodeState} {d : Deed} → Step p input k d → Rises k d.after
+rises_on : (p : Place) (input : Input) {k : NodeState} {d : TurnDraft} → Step p input k d → Rises k d.after
 rises_on p input (steps.Begins n s call rows fit none step) = rises_on p input step
 rises_on p input (steps.Pends n l given call has live code step) = rises_on p input step
 rises_on p input (steps.Lets_reads_go l comment site_below live begins step) = rises_on p input step
@@ -55,4 +55,4 @@ clocks_rise_by_one p k input fit = (rises_on p input (step_of p k input fit)).0
 
 pub one_open_a_turn : OneOpenATurn
 unfolding turn_of
-one_open_a_turn p k input fit = subst (λ os. length (deed_of p k input).after.opens ≤ length os + 1) (opens_heard k input) (rises_on p input (step_of p k input fit)).1
+one_open_a_turn p k input fit = subst (λ os. length (draft_of p k input).after.opens ≤ length os + 1) (opens_heard k input) (rises_on p input (step_of p k input fit)).1

@@ -6,7 +6,7 @@ use Rattle.node_rules.specs.Data.{Value, Change, Table, Refusal, Done, BranchId,
 use Rattle.node_rules.specs.Words.{item_at}
 use Rattle.node_rules.specs.Rows.{rows_of_table, changes_of, set_over}
 use Rattle.node_rules.specs.NodeState.{NodeState, own_id, sets_of, sets_at}
-use Rattle.node_rules.specs.Statement.{Ran, Refuses, Reads, Writes, view, ground_of, ran, owns_after}
+use Rattle.node_rules.specs.Statement.{StmtOutcome, Refuses, Reads, Writes, view, ground_of, ran, owns_after}
 use Rattle.sql_check.specs.Checks.{checked}
 use Rattle.sql_check.specs.Refusals.{else_refuse}
 use Rattle.sql_eval.specs.declared.meant.Meant.{Meant}
@@ -16,17 +16,17 @@ use Rattle.sql_eval.specs.Laws.{has_one_key, AreRowsOf, IsChangeOf}
 use Rattle.sql_eval.proofs.RowLaws.{rows_stay, changes_are_of_table}
 use Rattle.sql_eval.proofs.TableLaws.{whole_tables_have_one_key}
 use Rattle.row_locks.specs.Locks.{keys_held}
-use Rattle.stmt_run.specs.Run.{Ground, in_doubt_refusal, locked_refusal, space_refusal, ran_within, ran_meant, ran_locked, ran_checked, ran_over}
+use Rattle.stmt_run.specs.Run.{StmtContext, in_doubt_refusal, locked_refusal, space_refusal, ran_within, ran_meant, ran_locked, ran_checked, ran_over}
 use Rattle.node_ready_laws.specs.Rows.{table_named, IsChangeAt, AreChangesAt, HasRows}
 use Rattle.node_ready_laws.proofs.ListLemmas.{all_append, all_weaker, all_found, all_put}
 use Rattle.node_ready_laws.proofs.TableLemmas.{named_changes}
 
 -- what a run changes is such
-abbrev Changes : (Change → Type 0) → Ran → Type 0
+abbrev Changes : (Change → Type 0) → StmtOutcome → Type 0
 Changes P (Writes d cs keys undo) = AllByRecursion P cs
 Changes P _ = Unit {0}
 
-module _ (P : Change → Type 0) (g : Ground) (s : Stmt) (t : Table) where
+module _ (P : Change → Type 0) (g : StmtContext) (s : Stmt) (t : Table) where
   within : (o : Option Refusal) (d : Done) (cs : List Change) (keys : List Value) → AllByRecursion P cs → Changes P (ran_within g o d cs keys)
   within (Some r) d cs keys new = tt
   within None d cs keys new = new
@@ -74,7 +74,7 @@ module _ (k : NodeState) (now : HasRows k) (b : BranchId) (t : Table) (there : t
   seen = rows_stay t _ (changes_of (sets_at k.owns b)) (all_found (λ x. AreRowsOf x (rows_of_table k.stored.rows x.name)) _ k.stored.durable.tables t now.fit there)
       (named_changes k.stored.durable.tables t (changes_of (sets_at k.owns b)) there own)
 
-  changed : (r : Ran) → Changes (IsChangeAt k.stored.durable.tables) r → AllByRecursion (λ o. AreChangesAt k.stored.durable.tables (changes_of o.sets)) (owns_after k.owns b (view k b t.name) r)
+  changed : (r : StmtOutcome) → Changes (IsChangeAt k.stored.durable.tables) r → AllByRecursion (λ o. AreChangesAt k.stored.durable.tables (changes_of o.sets)) (owns_after k.owns b (view k b t.name) r)
   changed (Refuses r) new = now.own
   changed (Reads rows keys) new = now.own
   changed (Writes d cs keys undo) new =

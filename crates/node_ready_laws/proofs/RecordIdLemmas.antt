@@ -8,7 +8,7 @@ use Rattle.node_rules.specs.Data.decisions
 use Rattle.node_rules.specs.Data.records
 use Rattle.node_rules.specs.Data.params
 use Rattle.node_rules.specs.Rows.{TableRows}
-use Rattle.node_rules.specs.NodeState.{Stored, standing_id, doubt_id}
+use Rattle.node_rules.specs.NodeState.{Stored, kept_row_id, doubt_id}
 use Rattle.node_rules.specs.Records.{doubts_after, applied}
 use Rattle.node_ready_laws.specs.Ids.{AreApart}
 use Rattle.node_ready_laws.proofs.ListLemmas.{all_dropped, all_filtered, all_changed}
@@ -39,7 +39,7 @@ boot_still d (records.Forgot b) none = refl
 boot_still d (records.Hidden b) none = refl
 
 -- rows are of branches that were kept
-pub rows_among : (d : Durable) (r : RedoRecord) → AddsNone r → AreAmong standing_id d.kept (durable_after d r).kept
+pub rows_among : (d : Durable) (r : RedoRecord) → AddsNone r → AreAmong kept_row_id d.kept (durable_after d r).kept
 unfolding durable_after kept_after
 rows_among d (records.Boot n) none P all = all
 rows_among d (records.Param (params.Recovery on)) none P all = all

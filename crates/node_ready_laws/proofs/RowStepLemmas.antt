@@ -8,7 +8,7 @@ use Rattle.commit_forget.specs.declared.next.Next.TheVariants as nexts
 use Rattle.node_rules.specs.Words.{same_text, drop_item}
 use Rattle.node_rules.specs.Rows.{changes_of}
 use Rattle.node_rules.specs.Names.{Runs_here, Through, Nowhere_to, synonym_named, table_named as named_as, table_of, ref_named, ref_of, target_of, way_edge, way_target, way_named, way_of}
-use Rattle.node_rules.specs.NodeState.{NodeState, Deed, own_id}
+use Rattle.node_rules.specs.NodeState.{NodeState, TurnDraft, own_id}
 use Rattle.node_rules.specs.Prepare.{sealed_record, decided_record}
 use Rattle.node_rules.specs.Statement.{view, ran, owns_after}
 use Rattle.node_rules.specs.Records.{applied, stored_by}
@@ -100,7 +100,7 @@ module _ (k : NodeState) (now : HasRows k) where
       → AreRows k.stored.durable.tables k.stored.rows (owns_after k.owns b (view k b t.name) (ran p k b s t)) k.stored.doubts
   run p b s t there = record { whole = now.whole; own_names = now.own_names; fit = now.fit; names = now.names; own = own_ran k now b t there p s; held_back = now.held_back }
 
-rows_on : (p : Place) (input : Input) → BringsWhole input → {k : NodeState} {d : Deed} → Step p input k d → HasRows k → HasRows d.after
+rows_on : (p : Place) (input : Input) → BringsWhole input → {k : NodeState} {d : TurnDraft} → Step p input k d → HasRows k → HasRows d.after
 rows_on p input whole (steps.Begins n s call rows fit none step) now = rows_on p input whole step now
 rows_on p input whole (steps.Pends n l given call has live code step) now = rows_on p input whole step now
 rows_on p input whole (steps.Lets_reads_go l comment site_below live begins step) now = rows_on p input whole step now

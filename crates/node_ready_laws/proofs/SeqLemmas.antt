@@ -10,7 +10,7 @@ use Rattle.commit_forget.specs.declared.next.Next.TheVariants as nexts
 use Rattle.node_rules.specs.Words.{numbered, set_numbered}
 use Rattle.node_rules.specs.Refusals.{dtx}
 use Rattle.node_rules.specs.Sessions.{session_at, with_call, no_transaction}
-use Rattle.node_rules.specs.NodeState.{NodeState, Deed, Branch}
+use Rattle.node_rules.specs.NodeState.{NodeState, TurnDraft, Branch}
 use Rattle.node_rules.specs.Calls.{with_edge, hears_reply, heard_sessions}
 use Rattle.session_tree.specs.Live.{new_edge}
 use Rattle.node_rules.specs.Prepare.{is_alone}
@@ -98,7 +98,7 @@ pends input n m l s k call has (inr low) = inr (
       (l.me, subst (λ j. HasRoot (record k { sessions = with_call k.sessions m pending.Commit }) j l.me) here (ap (λ (x : Session). x.root) (call_set k.sessions m l.me pending.Commit has) ∙ has))),
 )
 
-seqs_on : (p : Place) (input : Input) (n : ℕ) {k : NodeState} {d : Deed} → Step p input k d → Lows input n k → Low (n + 1) (seqs d.after.sessions)
+seqs_on : (p : Place) (input : Input) (n : ℕ) {k : NodeState} {d : TurnDraft} → Step p input k d → Lows input n k → Low (n + 1) (seqs d.after.sessions)
 seqs_on p input n (steps.Begins {k = k} m s call rows fit none step) (inl low) = seqs_on p input n step (begins p input n m s k (numbered k.sessions m) call refl low)
 seqs_on p input n (steps.Begins {k = k} m s call rows fit none step) (inr low) = let has = low.1 m s call in let clash : None ≡ Some has.0 = sym none ∙ has.1 in absurd cc
 seqs_on p input n (steps.Pends {k = k} m l given call has live code step) now = seqs_on p input n step (pends input n m l _ k call has now)

@@ -19,7 +19,7 @@ use Rattle.session_tree.specs.Live.{new_edge, edge_by_link}
 use Rattle.node_rules.specs.Refusals.{ora, dtx}
 use Rattle.node_rules.specs.Words.{set_numbered}
 use Rattle.node_rules.specs.Names.{Through, Nowhere_to, synonym_named, table_named, table_of, ref_named, ref_of, target_of, way_edge, way_target, way_named, way_of}
-use Rattle.node_rules.specs.NodeState.{NodeState, Deed, Branch, live_id, branch_at, with_branch, with_live, without_branch}
+use Rattle.node_rules.specs.NodeState.{NodeState, TurnDraft, Branch, live_id, branch_at, with_branch, with_live, without_branch}
 use Rattle.node_rules.specs.LiveBranches.{works_of, EachLive}
 use Rattle.node_rules.specs.Statement.{ran, after_run}
 use Rattle.node_rules.specs.Calls.{with_answer, called, with_edge, hears_reply, next_call}
@@ -166,7 +166,7 @@ module _ (links : ℕ) (k : NodeState) (now : EachLive (IsShaped links) k.lives 
   stays l is = each_changed (IsShaped links) (IsShaped links) k.lives k.works now l is (λ y v live other so. so)
 
 -- each step keeps them
-shapes_on : (p : Place) (input : Input) → BringsFew input → {k : NodeState} {d : Deed} → Step p input k d → HasShape p k → HasShape p d.after
+shapes_on : (p : Place) (input : Input) → BringsFew input → {k : NodeState} {d : TurnDraft} → Step p input k d → HasShape p k → HasShape p d.after
 shapes_on p input few (steps.Begins {k = k} n s call rows fit none step) now =
     shapes_on p input few step (each_begun (IsShaped p.links) (IsShaped p.links) k.lives k.works now _ (record { room = omega arith; counts = tt; numbers = refl }) (λ y v live any so. so))
 shapes_on p input few (steps.Pends n l given call has live code step) now = shapes_on p input few step now

@@ -5,9 +5,9 @@ use Rattle.std.proofs.lemmas.Bool.{cond_both}
 use Rattle.redo_record.specs.Durable.{durable_after}
 use Rattle.redo_record.specs.Kept.{kept_after, add_kept}
 use Rattle.redo_record.specs.Rows.{sealed_as, decided_as, has_neighbors}
-use Rattle.node_rules.specs.Data.{RedoRecord, Standing, Doubt, Place}
+use Rattle.node_rules.specs.Data.{RedoRecord, KeptRow, Doubt, Place}
 use Rattle.node_rules.specs.Data.records
-use Rattle.node_rules.specs.NodeState.{Stored, standing_id}
+use Rattle.node_rules.specs.NodeState.{Stored, kept_row_id}
 use Rattle.node_rules.specs.Records.{nothing_stored, doubts_after, applied, stored_by}
 use Rattle.node_rules.specs.Turn.{start_of, kept_by}
 use Rattle.node_rules.proofs.LiveLemmas.{none_live}
@@ -24,7 +24,7 @@ use Rattle.node_ready_laws.proofs.RecordLemmas.{KeepsRows, rows_applied}
 use Rattle.node_ready_laws.proofs.RecordIdLemmas.{AddsNone, boot_still, rows_among, doubts_among}
 
 -- the branches of these are of starts up to this one
-abbrev Rows_to : ℕ → List Standing → Type 0
+abbrev Rows_to : ℕ → List KeptRow → Type 0
 Rows_to n kept = AllByRecursion (λ s. s.me.boot ≤ n) kept
 
 abbrev Doubts_to : ℕ → List Doubt → Type 0
@@ -72,14 +72,14 @@ left_with s (records.Boot boot) may sound now = record {
 left_with s (records.Sealed r) may sound now = record {
   rows = rows_applied s [] (records.Sealed r) now.rows sound.0;
   names = now.names;
-  kept = all_placed (λ x. x.me.boot ≤ s.durable.boot) standing_id s.durable.kept (sealed_as r) now.kept sound.1;
+  kept = all_placed (λ x. x.me.boot ≤ s.durable.boot) kept_row_id s.durable.kept (sealed_as r) now.kept sound.1;
   doubts = all_last (λ d. d.branch.boot ≤ s.durable.boot) s.doubts _ now.doubts sound.1;
 }
 left_with s (records.Decided r) may sound now = record {
   rows = rows_applied s [] (records.Decided r) now.rows sound.0;
   names = now.names;
   kept = cond_both (has_neighbors (decided_as r)) (add_kept s.durable.kept (decided_as r)) s.durable.kept (Rows_to s.durable.boot)
-      (λ some. all_placed (λ x. x.me.boot ≤ s.durable.boot) standing_id s.durable.kept (decided_as r) now.kept sound.1) (λ none. now.kept);
+      (λ some. all_placed (λ x. x.me.boot ≤ s.durable.boot) kept_row_id s.durable.kept (decided_as r) now.kept sound.1) (λ none. now.kept);
   doubts = now.doubts;
 }
 left_with s (records.Table t) may sound now = none_left s (records.Table t) may sound tt now

@@ -1,9 +1,9 @@
 -- Which branch ids a node has given out, and that a live branch is neither kept nor in doubt.
 use Rattle.std.specs.Prelude.{◌≡◌, ℕ, ◌+◌, ◌<◌, ◌≤◌, List, length, map, unwrap_or, Some, None}
 use Rattle.std.specs.List.{AllByRecursion}
-use Rattle.node_rules.specs.Data.{BranchId, Standing, Live, Doubt, Place, Input}
+use Rattle.node_rules.specs.Data.{BranchId, KeptRow, Live, Doubt, Place, Input}
 use Rattle.node_rules.specs.Words.{item_at, numbered}
-use Rattle.node_rules.specs.NodeState.{NodeState, standing_id, doubt_id, live_at}
+use Rattle.node_rules.specs.NodeState.{NodeState, kept_row_id, doubt_id, live_at}
 use Rattle.node_rules.specs.Calls.{next_child}
 use Rattle.node_rules.specs.Client.{new_root}
 use Rattle.node_rules.specs.Inputs.{IsSession, IsFit}
@@ -20,11 +20,11 @@ pub data IsGiven (boot : ℕ) (seqs : List ℕ) (opened : ℕ) (b : BranchId) : 
   Over_link : b.boot ≡ boot → 65 ≤ b.session → b.session < 65 + opened → IsGiven boot seqs opened b
 
 -- neither kept nor in doubt
-abbrev pub IsFree : List Standing → List Doubt → BranchId → Type 0
-IsFree kept doubts b = (item_at standing_id kept b ≡ None) × (item_at doubt_id doubts b ≡ None)
+abbrev pub IsFree : List KeptRow → List Doubt → BranchId → Type 0
+IsFree kept doubts b = (item_at kept_row_id kept b ≡ None) × (item_at doubt_id doubts b ≡ None)
 
 -- 64 sessions, branches whose ids were given out, and live ones that are neither kept nor in doubt.
-pub record AreApart (boot : ℕ) (seqs : List ℕ) (opened : ℕ) (lives : List Live) (kept : List Standing) (doubts : List Doubt) : Type 0 where
+pub record AreApart (boot : ℕ) (seqs : List ℕ) (opened : ℕ) (lives : List Live) (kept : List KeptRow) (doubts : List Doubt) : Type 0 where
   pub sessions : length seqs ≡ 64
   pub live_given : AllByRecursion (λ l. IsGiven boot seqs opened l.me) lives
   pub kept_given : AllByRecursion (λ s. IsGiven boot seqs opened s.me) kept

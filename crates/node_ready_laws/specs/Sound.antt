@@ -1,6 +1,6 @@
 -- What a start needs of the records of a disk, beside that each may follow those before it; and that a ready node writes such.
 use Rattle.std.specs.Prelude.{◌<◌, ◌≤◌, List, [], ◌∷◌, IfSome}
-use Rattle.node_rules.specs.Data.{RedoRecord, Standing, Place, Input}
+use Rattle.node_rules.specs.Data.{RedoRecord, KeptRow, Place, Input}
 use Rattle.node_rules.specs.Data.records
 use Rattle.node_rules.specs.NodeState.{Stored, NodeState}
 use Rattle.node_rules.specs.Records.{applied}
@@ -37,9 +37,9 @@ abbrev pub RecordsFollow : Type 0
 RecordsFollow = (p : Place) (k : NodeState) (input : Input) → IsFit input → BringsWhole input → BringsNamed input → HasRows k → HasOwnIds k → IfSome (turn_of p k input).wrote (IsNext k.stored)
 
 -- with other rows of kept branches
-abbrev pub with_rows : Stored → List Standing → Stored
+abbrev pub with_rows : Stored → List KeptRow → Stored
 with_rows s kept = record s { durable = record s.durable { kept = kept } }
 
 -- whether a record may does not hang on the rows of kept branches, where Acks are noted that no record has
 abbrev pub RowsDoNotMatter : Type 0
-RowsDoNotMatter = (s : Stored) (kept : List Standing) (r : RedoRecord) → IsNext s r → IsNext (with_rows s kept) r
+RowsDoNotMatter = (s : Stored) (kept : List KeptRow) (r : RedoRecord) → IsNext s r → IsNext (with_rows s kept) r

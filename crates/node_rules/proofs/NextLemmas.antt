@@ -2,7 +2,7 @@
 use Rattle.std.proofs.Common.{◌≡◌, ℕ, Option, Some, None, refl, subst, true}
 use Rattle.std.proofs.lemmas.Bool.{and_parts, not-true, cond_both}
 use Rattle.std.specs.Prelude.{is_none, ◌≢◌}
-use Rattle.node_rules.specs.Data.{BranchId, Decision, State, Standing, Input}
+use Rattle.node_rules.specs.Data.{BranchId, Decision, State, KeptRow, Input}
 use Rattle.node_rules.specs.Data.decisions
 use Rattle.node_rules.specs.Data.states
 use Rattle.node_rules.specs.Data.nexts
@@ -12,7 +12,7 @@ use Rattle.node_rules.specs.Commit.{all_acked, is_mixed, first_decision, known_d
 use Rattle.node_rules.specs.Inputs.{Came, Brings, Commit_came}
 use Rattle.node_rules.proofs.Steps.{IsMet, Doing, Stays, Ends_so, Meets_so, Acks_again, Acks_on, Forgets_first, Forgets_after, Has_forgotten}
 
-module _ (clock : ℕ) (input : Input) (s : Standing) (from : BranchId) where
+module _ (clock : ℕ) (input : Input) (s : KeptRow) (from : BranchId) where
   -- a forced branch
   meets_so : (d : Decision) (state : State) → Brings input from s.me d → is_branch from s.toward ≡ true → s.decision ≡ None → IsMet clock d → state ≢ states.Sealed → state ≢ states.Committed → s.state ≡ state
       → Doing clock input s from (nexts.Meet d (is_mixed state d))

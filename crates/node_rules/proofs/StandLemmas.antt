@@ -2,12 +2,12 @@
 use Rattle.std.proofs.Common.{◌≡◌, ℕ, List, option_map, Option, Some, None, refl, sym, ap, subst, ◌∙◌}
 use Rattle.std.specs.Prelude.{unwrap_or}
 use Rattle.tran_ids.proofs.ListedLemmas.{item_is}
-use Rattle.node_rules.specs.Data.{BranchId, Standing, Live, PendingCall, Session}
+use Rattle.node_rules.specs.Data.{BranchId, KeptRow, Live, PendingCall, Session}
 use Rattle.node_rules.specs.Words.{numbered, set_numbered}
-use Rattle.node_rules.specs.NodeState.{NodeState, Branch, live_id, standing_id, live_at, work_at, with_work, branch_at, standing_at}
+use Rattle.node_rules.specs.NodeState.{NodeState, Branch, live_id, kept_row_id, live_at, work_at, with_work, branch_at, kept_row_at}
 use Rattle.node_rules.specs.Sessions.{fresh_session, session_at, with_call}
 use Rattle.node_rules.specs.Client.{root_by, root_at}
-use Rattle.node_rules.specs.Turn.{Stand, kept_or_gone, live_or, stand_of, Is_live, Is_kept, Is_gone}
+use Rattle.node_rules.specs.Turn.{BranchStatus, kept_or_gone, live_or, status_of, Is_live, Is_kept, Is_gone}
 use Rattle.node_rules.proofs.Steps.{HasRoot, IsKept}
 use Rattle.tran_ids.proofs.NumberedLemmas.{set_found}
 
@@ -26,21 +26,21 @@ pub branch_is : (k : NodeState) (b : BranchId) (x : Branch) → branch_at k b �
 branch_is k b x found = item_is live_id k.lives b x.live (live_so k b x found)
 
 -- what is known of a branch that is live, kept or gone
-abbrev pub StandsSo : NodeState → BranchId → Stand → Type 0
+abbrev pub StandsSo : NodeState → BranchId → BranchStatus → Type 0
 StandsSo k b (Is_live x) = (x.live.me ≡ b) × (branch_at k x.live.me ≡ Some x)
 StandsSo k b (Is_kept s) = (s.me ≡ b) × IsKept k s
-StandsSo k b Is_gone = stand_of k b ≡ Is_gone
+StandsSo k b Is_gone = status_of k b ≡ Is_gone
 
-stands_by : (k : NodeState) (b : BranchId) (o : Option Branch) (kept : Option Standing) → branch_at k b ≡ o → standing_at k b ≡ kept → StandsSo k b (live_or o kept)
-unfolding stand_of
+stands_by : (k : NodeState) (b : BranchId) (o : Option Branch) (kept : Option KeptRow) → branch_at k b ≡ o → kept_row_at k b ≡ kept → StandsSo k b (live_or o kept)
+unfolding status_of
 stands_by k b (Some x) kept is stands = let me : x.live.me ≡ b = branch_is k b x is in (me, subst (λ m. branch_at k m ≡ Some x) (sym me) is)
-stands_by k b None (Some s) is stands = let me : s.me ≡ b = item_is standing_id k.stored.durable.kept b s stands in (me, subst (λ m. standing_at k m ≡ Some s) (sym me) stands)
-stands_by k b None None is stands = ap (λ o. live_or o (standing_at k b)) is ∙ ap kept_or_gone stands
+stands_by k b None (Some s) is stands = let me : s.me ≡ b = item_is kept_row_id k.stored.durable.kept b s stands in (me, subst (λ m. kept_row_at k m ≡ Some s) (sym me) stands)
+stands_by k b None None is stands = ap (λ o. live_or o (kept_row_at k b)) is ∙ ap kept_or_gone stands
 
 -- each branch stands so
-pub stands_so : (k : NodeState) (b : BranchId) → StandsSo k b (stand_of k b)
-unfolding stand_of
-stands_so k b = stands_by k b (branch_at k b) (standing_at k b) refl refl
+pub stands_so : (k : NodeState) (b : BranchId) → StandsSo k b (status_of k b)
+unfolding status_of
+stands_so k b = stands_by k b (branch_at k b) (kept_row_at k b) refl refl
 
 -- what is known of a session's live root
 abbrev pub RootSo : NodeState → ℕ → Option Branch → Type 0

@@ -1,8 +1,8 @@
--- What a turn can be: changes of what the node keeps, and then a deed, each with what came to the node and what stood
+-- What a turn can be: changes of what the node keeps, and then a draft, each with what came to the node and what stood
 -- there. Every law of turns goes through these steps.
 use Rattle.std.specs.Prelude.{◌≡◌, ◌≢◌, ℕ, ◌+◌, ◌-◌, ◌≤◌, ◌==◌, ◌⊎◌, Bool, true, false, List, [], ◌∷◌, find, length, flat_map, unwrap_or, is_none, Option, Some, None, Ok}
 use Rattle.std.specs.List.{list_any}
-use Rattle.node_rules.specs.Data.{Table, Link, Synonym, Stmt, Refusal, Answer, Done, Advice, BranchId, Decision, RedoRecord, Standing, Edge, Vote, Kind, Live, Act, Next, Place, Input, Opening, Going, ReplyFields, Post}
+use Rattle.node_rules.specs.Data.{Table, Link, Synonym, Stmt, Refusal, Answer, Done, Advice, BranchId, Decision, RedoRecord, KeptRow, Edge, Vote, Kind, Live, Act, Next, Place, Input, Opening, Going, ReplyFields, Post}
 use Rattle.node_rules.specs.Data.answers
 use Rattle.node_rules.specs.Data.dones
 use Rattle.node_rules.specs.Data.decisions
@@ -25,14 +25,14 @@ use Rattle.node_rules.specs.Inputs.{IsSession, Came, IsCall, Brings}
 use Rattle.session_tree.specs.Tree.{weight, step}
 use Rattle.node_rules.specs.Names.{Runs_here, Over, Through, Nowhere_to, way_of, passed_on}
 use Rattle.node_rules.specs.Sessions.{session_at, with_call}
-use Rattle.node_rules.specs.NodeState.{NodeState, Deed, Branch, branch_at, live_at, standing_at, with_standing, nothing, saying, ending, post}
+use Rattle.node_rules.specs.NodeState.{NodeState, TurnDraft, Branch, branch_at, live_at, kept_row_at, with_kept_row, nothing, saying, ending, post}
 use Rattle.node_rules.specs.Calls.{answered, calls_over, opens_through, runs_here, takes_call, admit, with_edge, reply_of, hears_reply, reply_heard, replies, gone_reply, is_opening, opened_says, open_by}
 use Rattle.node_rules.specs.Prepare.{act_turn, drops, collecting, with_comment, voted, answers_first, all_answered, without_read_keys}
 use Rattle.node_rules.specs.Commit.{next_turn, acked_by, ack_counts, all_acked, is_mixed, knows_commit, is_asked_again}
 use Rattle.node_rules.specs.Recovery.{ask_answer, askings}
 use Rattle.node_rules.specs.Force.{branch_to_force, forces, may_purge, hides}
 use Rattle.node_rules.specs.Client.{begun_by, root_at, did, writes, is_used, is_link, rollback_by, statement_given_up, commit_given_up, advise}
-use Rattle.node_rules.specs.Turn.{Is_gone, stand_of}
+use Rattle.node_rules.specs.Turn.{Is_gone, status_of}
 
 -- the session's transaction has this root
 abbrev pub HasRoot : NodeState → ℕ → BranchId → Type 0
@@ -134,8 +134,8 @@ pub data Drops (input : Input) (l : Live) : Type 0 where
 -- ---- kept branches
 
 -- a row of it is kept
-abbrev pub IsKept : NodeState → Standing → Type 0
-IsKept k s = standing_at k s.me ≡ Some s
+abbrev pub IsKept : NodeState → KeptRow → Type 0
+IsKept k s = kept_row_at k s.me ≡ Some s
 
 -- the clock has met a commit's SCN
 abbrev pub IsMet : ℕ → Decision → Type 0
@@ -143,7 +143,7 @@ IsMet clock (decisions.Commit n) = n ≤ clock
 IsMet clock decisions.Rollback = Unit {0}
 
 -- Why a kept branch, as its row stands now, does so next.
-pub data Doing (clock : ℕ) (input : Input) (s : Standing) (from : BranchId) : Next → Type 0 where
+pub data Doing (clock : ℕ) (input : Input) (s : KeptRow) (from : BranchId) : Next → Type 0 where
   Stays : Doing clock input s from nexts.Rest
   Ends_so : (d : Decision) → Brings input from s.me d → is_branch from s.toward ≡ true → s.decision ≡ None → s.state ≡ states.Sealed → IsMet clock d → Doing clock input s from (nexts.End d)
   Meets_so : (d : Decision) → Brings input from s.me d → is_branch from s.toward ≡ true → s.decision ≡ None → s.state ≢ states.Sealed → s.state ≢ states.Committed → IsMet clock d
@@ -159,21 +159,21 @@ pub data Doing (clock : ℕ) (input : Input) (s : Standing) (from : BranchId) : 
 
 -- Messages of a turn that changes nothing.
 pub data Says (k : NodeState) (input : Input) : List Post → Type 0 where
-  Gone_replies : (to from : BranchId) (call given : ℕ) (advice : Option Advice) (s : Stmt) → Came input from to (kinds.Exec call given advice s) → stand_of k to ≡ Is_gone → Says k input (gone_reply to from call)
-  Gone_aborts : (to from : BranchId) (site_below : Bool) (comment : List ℕ) → Came input from to (kinds.Prepare site_below comment) → stand_of k to ≡ Is_gone → Says k input (post to from kinds.Abort)
-  Gone_rolls_back : (to from : BranchId) → Came input from to kinds.CommitPoint ⊎ Came input from to kinds.Ask → stand_of k to ≡ Is_gone → Says k input (post to from kinds.RolledBack)
-  Gone_acks : (to from : BranchId) (n : ℕ) → Came input from to (kinds.Committed n) → stand_of k to ≡ Is_gone → Says k input (post to from kinds.Ack)
-  Gone_forgets : (to from : BranchId) → Came input from to kinds.Ack → stand_of k to ≡ Is_gone → Says k input (post to from kinds.Forgotten)
+  Gone_replies : (to from : BranchId) (call given : ℕ) (advice : Option Advice) (s : Stmt) → Came input from to (kinds.Exec call given advice s) → status_of k to ≡ Is_gone → Says k input (gone_reply to from call)
+  Gone_aborts : (to from : BranchId) (site_below : Bool) (comment : List ℕ) → Came input from to (kinds.Prepare site_below comment) → status_of k to ≡ Is_gone → Says k input (post to from kinds.Abort)
+  Gone_rolls_back : (to from : BranchId) → Came input from to kinds.CommitPoint ⊎ Came input from to kinds.Ask → status_of k to ≡ Is_gone → Says k input (post to from kinds.RolledBack)
+  Gone_acks : (to from : BranchId) (n : ℕ) → Came input from to (kinds.Committed n) → status_of k to ≡ Is_gone → Says k input (post to from kinds.Ack)
+  Gone_forgets : (to from : BranchId) → Came input from to kinds.Ack → status_of k to ≡ Is_gone → Says k input (post to from kinds.Forgotten)
   Replies_again : (x : Branch) (to : BranchId) (call given : ℕ) (advice : Option Advice) (s : Stmt) (t : ReplyFields) → Came input to x.live.me (kinds.Exec call given advice s)
       → branch_at k x.live.me ≡ Some x → x.work.came.last_call ≡ call → x.work.came.reply ≡ Some t → Says k input (replies x to t)
   Opened_again : (to : BranchId) (parent : BranchId) (edge : ℕ) (root : BranchId) (depth : ℕ) (o : Opening) → Came input parent to (kinds.Open edge root depth)
       → find (is_opening parent edge) k.opens ≡ Some o → Says k input (opened_says o)
-  Prepared_again : (s : Standing) (from : BranchId) (site_below : Bool) (comment : List ℕ) → Came input from s.me (kinds.Prepare site_below comment) → IsKept k s → is_asked_again s from ≡ true
+  Prepared_again : (s : KeptRow) (from : BranchId) (site_below : Bool) (comment : List ℕ) → Came input from s.me (kinds.Prepare site_below comment) → IsKept k s → is_asked_again s from ≡ true
       → Says k input (post s.me from kinds.Prepared)
-  Knows_commit : (s : Standing) (from : BranchId) (n : ℕ) → Came input from s.me kinds.CommitPoint → IsKept k s → s.decision ≡ Some (decisions.Commit n) → Says k input (post s.me from (kinds.Committed n))
-  Knows_rollback : (s : Standing) (from : BranchId) → Came input from s.me kinds.CommitPoint → IsKept k s → s.decision ≡ Some decisions.Rollback → Says k input (post s.me from kinds.RolledBack)
+  Knows_commit : (s : KeptRow) (from : BranchId) (n : ℕ) → Came input from s.me kinds.CommitPoint → IsKept k s → s.decision ≡ Some (decisions.Commit n) → Says k input (post s.me from (kinds.Committed n))
+  Knows_rollback : (s : KeptRow) (from : BranchId) → Came input from s.me kinds.CommitPoint → IsKept k s → s.decision ≡ Some decisions.Rollback → Says k input (post s.me from kinds.RolledBack)
   Is_in_doubt : (l : Live) (from : BranchId) → Came input from l.me kinds.Ask → live_at k l.me ≡ Some l → is_branch from l.parent ≡ false → Says k input (post l.me from kinds.InDoubt)
-  Tells : (s : Standing) (from : BranchId) → Came input from s.me kinds.Ask → IsKept k s → Says k input (post s.me from (ask_answer s from))
+  Tells : (s : KeptRow) (from : BranchId) → Came input from s.me kinds.Ask → IsKept k s → Says k input (post s.me from (ask_answer s from))
   Recovers : input ≡ inputs.Reco → Says k input (flat_map (λ a. a.says) (askings k))
 
 -- ---- client calls
@@ -196,15 +196,15 @@ pub data Completes : Stmt → Done → Type 0 where
   Rolls_nothing_back : Completes stmts.Rollback dones.RolledBack
 
 -- One turn, at a node that has received what came.
-pub data Step (p : Place) (input : Input) : NodeState → Deed → Type 0 where
-  -- changes before a deed
-  Begins : {k : NodeState} {d : Deed} (n : ℕ) (s : Stmt) → IsCall input n s → IsOfRows s → IsSession n → (session_at k.sessions n).root ≡ None → Step p input (begun_by p k n None) d → Step p input k d
-  Pends : {k : NodeState} {d : Deed} (n : ℕ) (l : Live) (given : Option (List ℕ)) → IsCall input n (stmts.Commit given) → HasRoot k n l.me → live_at k l.me ≡ Some l → (session_at k.sessions n).code ≡ None
+pub data Step (p : Place) (input : Input) : NodeState → TurnDraft → Type 0 where
+  -- changes before a draft
+  Begins : {k : NodeState} {d : TurnDraft} (n : ℕ) (s : Stmt) → IsCall input n s → IsOfRows s → IsSession n → (session_at k.sessions n).root ≡ None → Step p input (begun_by p k n None) d → Step p input k d
+  Pends : {k : NodeState} {d : TurnDraft} (n : ℕ) (l : Live) (given : Option (List ℕ)) → IsCall input n (stmts.Commit given) → HasRoot k n l.me → live_at k l.me ≡ Some l → (session_at k.sessions n).code ≡ None
       → Step p input (record k { sessions = with_call k.sessions n pending.Commit }) d → Step p input k d
-  Lets_reads_go : {k : NodeState} {d : Deed} (l : Live) (comment : List ℕ) (site_below : Bool) → live_at k l.me ≡ Some l → Collects k input l comment site_below
+  Lets_reads_go : {k : NodeState} {d : TurnDraft} (l : Live) (comment : List ℕ) (site_below : Bool) → live_at k l.me ≡ Some l → Collects k input l comment site_below
       → Step p input (without_read_keys k l.me) d → Step p input k d
-  Counts_ack : {k : NodeState} {d : Deed} (s : Standing) (from : BranchId) → IsKept k s → Came input from s.me kinds.Ack → ack_counts s from ≡ true
-      → Step p input (with_standing k (acked_by s from)) d → Step p input k d
+  Counts_ack : {k : NodeState} {d : TurnDraft} (s : KeptRow) (from : BranchId) → IsKept k s → Came input from s.me kinds.Ack → ack_counts s from ≡ true
+      → Step p input (with_kept_row k (acked_by s from)) d → Step p input k d
   -- nothing, or messages alone
   Rests : {k : NodeState} → Step p input k (nothing k)
   Sends : {k : NodeState} (says : List Post) → Says k input says → Step p input k (saying k says)
@@ -227,7 +227,7 @@ pub data Step (p : Place) (input : Input) : NodeState → Deed → Type 0 where
   Drops_asked : {k : NodeState} (l : Live) (from : BranchId) → live_at k l.me ≡ Some l → Came input from l.me kinds.Ask → is_branch from l.parent ≡ true
       → Step p input k (drops k l (post l.me from kinds.RolledBack))
   -- kept branches
-  Does : {k : NodeState} (s : Standing) (from : BranchId) (n : Next) → IsKept k s → Doing k.clock input s from n → Step p input k (next_turn k s from n)
+  Does : {k : NodeState} (s : KeptRow) (from : BranchId) (n : Next) → IsKept k s → Doing k.clock input s from n → Step p input k (next_turn k s from n)
   -- client calls
   Refuses : {k : NodeState} (n : ℕ) (s : Option Stmt) (r : Refusal) → input ≡ inputs.Call n s → Step p input k (ending k n (answers.Refused r))
   Completes_at_once : {k : NodeState} (n : ℕ) (s : Stmt) (d : Done) → IsCall input n s → Completes s d → root_at k n ≡ None → Step p input k (did k n d)
@@ -238,7 +238,7 @@ pub data Step (p : Place) (input : Input) : NodeState → Deed → Type 0 where
       → Step p input k (forces (record k { clock = k.clock + 1 }) n b (decisions.Commit (k.clock + 1)) false (answers.Did dones.Committed 0))
   Forces_rollback : {k : NodeState} (n : ℕ) (id : List ℕ) (b : BranchId) → IsCall input n (stmts.RollbackForce id) → branch_to_force p.names k.stored.durable.kept id ≡ Ok b
       → Step p input k (forces k n b decisions.Rollback false (answers.Did dones.RolledBack 0))
-  Hides : {k : NodeState} (n : ℕ) (mixed : Bool) (id : List ℕ) (s : Standing) → IsCall input n (purge_of mixed id) → find (may_purge mixed id) k.stored.durable.kept ≡ Some s
+  Hides : {k : NodeState} (n : ℕ) (mixed : Bool) (id : List ℕ) (s : KeptRow) → IsCall input n (purge_of mixed id) → find (may_purge mixed id) k.stored.durable.kept ≡ Some s
       → Step p input k (hides k n id (Some s))
   Advises : {k : NodeState} (n : ℕ) (a : Option Advice) → IsCall input n (stmts.Advise a) → Step p input k (advise k n a)
   Rolls_back : {k : NodeState} (n : ℕ) (x : Branch) → IsCall input n stmts.Rollback → HasRoot k n x.live.me → branch_at k x.live.me ≡ Some x → Step p input k (rollback_by k n (Some x))

@@ -5,7 +5,7 @@ use Rattle.std.proofs.lemmas.Bool.Decides.{nat_tests}
 use Rattle.std.specs.List.{list_any}
 use Rattle.std.specs.Prelude.{unwrap_or}
 use Rattle.tran_ids.proofs.ListedLemmas.{put_found}
-use Rattle.node_rules.specs.Data.{Advice, Refusal, Done, Answer, BranchId, Stmt, Decision, Place, RedoRecord, Standing, Vote, Edge, Phase, Live, Kind, Input, ReplyFields, Waits, Going, Work, Admit, PendingCall, Opening}
+use Rattle.node_rules.specs.Data.{Advice, Refusal, Done, Answer, BranchId, Stmt, Decision, Place, RedoRecord, KeptRow, Vote, Edge, Phase, Live, Kind, Input, ReplyFields, Waits, Going, Work, Admit, PendingCall, Opening}
 use Rattle.node_rules.specs.Data.dones
 use Rattle.node_rules.specs.Data.stmts
 use Rattle.node_rules.specs.Data.decisions
@@ -17,7 +17,7 @@ use Rattle.node_rules.specs.Data.waiting
 use Rattle.node_rules.specs.Data.admits
 use Rattle.node_rules.specs.Data.pending
 use Rattle.session_tree.specs.Live.{is_branch}
-use Rattle.node_rules.specs.NodeState.{NodeState, Branch, nothing, saying, standing_id, live_at, branch_at}
+use Rattle.node_rules.specs.NodeState.{NodeState, Branch, nothing, saying, kept_row_id, live_at, branch_at}
 use Rattle.node_rules.specs.Names.{Way, way_of, Runs_here, Over, Through, Nowhere_to}
 use Rattle.node_rules.specs.Sessions.{session_at, with_call}
 use Rattle.node_rules.specs.Calls.{goes, statement_at, is_opening, open_by, opened_waits, opened_going, admit, takes_call, says_again, exec_by, reply_of, reply_by}
@@ -27,7 +27,7 @@ use Rattle.reco.specs.declared.told.Told.TheVariants as tolds
 use Rattle.node_rules.specs.Recovery.{on_ask_told, on_ask, recovery}
 use Rattle.node_rules.specs.Force.{branch_to_force, force_commit, force_rollback, may_purge, hides, purge}
 use Rattle.node_rules.specs.Client.{refuses, begun_by, root_at, statement_by, statement_call, commit_by, rollback_by, writes, is_used, is_link, call_turn, read_turn, statement_given_up, give_up_by}
-use Rattle.node_rules.specs.Turn.{Stand, stand_of, exec_turn, opened_turn, reply_turn, prepare_turn, answer_turn, commit_point_turn, committed_turn, rollback_turn, rolled_back_turn, ack_turn, forgotten_turn, ask_turn, kind_turn, kind_scn, clock_raised_by, heard, deed_of, Is_live, Is_kept, Is_gone}
+use Rattle.node_rules.specs.Turn.{BranchStatus, status_of, exec_turn, opened_turn, reply_turn, prepare_turn, answer_turn, commit_point_turn, committed_turn, rollback_turn, rolled_back_turn, ack_turn, forgotten_turn, ask_turn, kind_turn, kind_scn, clock_raised_by, heard, draft_of, Is_live, Is_kept, Is_gone}
 use Rattle.node_rules.specs.Inputs.{IsSession, IsFit, Came, IsCall, Brings, Commit_came, Rollback_came, Rolled_back_came}
 use Rattle.node_rules.proofs.Steps.{Step, Refuses, IsOfRows, Asked, Collects, vote_kind, IsKept, IsMet, Makes, purge_of, By_call, By_exec, By_commit, By_prepare, By_rollback, By_parent, Gone_replies, Gone_aborts, Gone_rolls_back, Gone_acks, Gone_forgets, Replies_again, Opened_again, Prepared_again, Knows_commit, Knows_rollback, Is_in_doubt, Tells, Recovers, Makes_table, Makes_link, Makes_synonym, Sets_recovery, Commits_nothing, Rolls_nothing_back, Begins, Pends, Lets_reads_go, Counts_ack, Rests, Sends, Runs, Goes_nowhere, Calls, Opens, Goes_on, Hears_reply, Opens_branch, Acts, Drops_told, Drops_asked, Does, Completes_at_once, Makes_record, Forces_given, Forces_commit, Forces_rollback, Hides, Advises, Rolls_back, Gives_up, Gives_up_commit}
 use Rattle.node_rules.proofs.StandLemmas.{live_so, StandsSo, stands_so, RootSo, branch_so, root_so, call_set}
@@ -123,14 +123,14 @@ module _ (p : Place) (input : Input) where
 
   -- ---- kept branches
 
-  module _ (k : NodeState) (from : BranchId) (s : Standing) (kept : IsKept k s) where
+  module _ (k : NodeState) (from : BranchId) (s : KeptRow) (kept : IsKept k s) where
     on_decision_so : (d : Decision) → Brings input from s.me d → IsMet k.clock d → Step p input k (on_decision k s from d)
     on_decision_so d brings met = Does s from _ kept (decision_so k.clock input s from d brings met)
 
     counts_ack_so : Came input from s.me kinds.Ack → ack_counts s from ≡ true → Step p input k (counts_ack k (acked_by s from) from)
     counts_ack_so came counts =
         Counts_ack s from kept came counts
-        (Does (acked_by s from) from _ (put_found standing_id k.stored.durable.kept (acked_by s from)) (ack_so k.clock input (acked_by s from) from came (and_parts _ _ counts).0))
+        (Does (acked_by s from) from _ (put_found kept_row_id k.stored.durable.kept (acked_by s from)) (ack_so k.clock input (acked_by s from) from came (and_parts _ _ counts).0))
 
     on_ack_so : Came input from s.me kinds.Ack → Step p input k (on_ack k s from)
     on_ack_so came = cond_both (ack_counts s from) _ _ (Step p input k) (counts_ack_so came) (λ other. Rests)
@@ -149,65 +149,65 @@ module _ (p : Place) (input : Input) where
   -- ---- each kind of message
 
   module _ (k : NodeState) (from to : BranchId) where
-    opened_turn_so : (edge strength : ℕ) (stand : Stand) → Came input from to (kinds.Opened edge strength) → StandsSo k to stand → Step p input k (opened_turn k from edge strength stand)
+    opened_turn_so : (edge strength : ℕ) (stand : BranchStatus) → Came input from to (kinds.Opened edge strength) → StandsSo k to stand → Step p input k (opened_turn k from edge strength stand)
     opened_turn_so edge strength (Is_live x) came so = opened_so k from x so.1 edge strength x.work.going (here so.0 came) refl
     opened_turn_so edge strength _ came so = Rests
 
-    exec_turn_so : (call given : ℕ) (advice : Option Advice) (s : Stmt) (stand : Stand) → Came input from to (kinds.Exec call given advice s) → StandsSo k to stand
+    exec_turn_so : (call given : ℕ) (advice : Option Advice) (s : Stmt) (stand : BranchStatus) → Came input from to (kinds.Exec call given advice s) → StandsSo k to stand
         → Step p input k (exec_turn p k from to call given advice s stand)
     exec_turn_so call given advice s (Is_live x) came so = exec_so k from x so.1 call given advice s (admit x.work.came call) (here so.0 came) refl
     exec_turn_so call given advice s (Is_kept y) came so = Rests
     exec_turn_so call given advice s Is_gone came so = Sends _ (Gone_replies to from call given advice s came so)
 
-    reply_turn_so : (call : ℕ) (weight : Option ℕ) (count : ℕ) (a : Answer) (stand : Stand) → Came input from to (kinds.Reply call weight count a) → StandsSo k to stand
+    reply_turn_so : (call : ℕ) (weight : Option ℕ) (count : ℕ) (a : Answer) (stand : BranchStatus) → Came input from to (kinds.Reply call weight count a) → StandsSo k to stand
         → Step p input k (reply_turn k from call weight count a stand)
     reply_turn_so call weight count a (Is_live x) came so = reply_so k from x so.1 call weight count a (reply_of x from call) (here so.0 came) refl
     reply_turn_so call weight count a _ came so = Rests
 
-    prepare_turn_so : (site_below : Bool) (comment : List ℕ) (stand : Stand) → Came input from to (kinds.Prepare site_below comment) → StandsSo k to stand → Step p input k (prepare_turn k from to site_below comment stand)
+    prepare_turn_so : (site_below : Bool) (comment : List ℕ) (stand : BranchStatus) → Came input from to (kinds.Prepare site_below comment) → StandsSo k to stand → Step p input k (prepare_turn k from to site_below comment stand)
     prepare_turn_so site_below comment (Is_live x) came so = prepare_so k from x.live (live_so k x.live.me x so.1) site_below comment x.live.phase (here so.0 came) refl
     prepare_turn_so site_below comment (Is_kept s) came so = prepare_kept_so k from s so.1 site_below comment (here so.0 came)
     prepare_turn_so site_below comment Is_gone came so = Sends _ (Gone_aborts to from site_below comment came so)
 
-    answer_turn_so : (v : Vote) (kind : Kind) (stand : Stand) → vote_kind v ≡ Some kind → Came input from to kind → StandsSo k to stand → Step p input k (answer_turn k from v stand)
+    answer_turn_so : (v : Vote) (kind : Kind) (stand : BranchStatus) → vote_kind v ≡ Some kind → Came input from to kind → StandsSo k to stand → Step p input k (answer_turn k from v stand)
     answer_turn_so v kind (Is_live x) is_vote came so = answer_so k from x.live (live_so k x.live.me x so.1) v kind x.live.phase is_vote (here so.0 came) refl
     answer_turn_so v kind _ is_vote came so = Rests
 
-    commit_point_turn_so : (stand : Stand) → Came input from to kinds.CommitPoint → StandsSo k to stand → Step p input k (commit_point_turn k from to stand)
+    commit_point_turn_so : (stand : BranchStatus) → Came input from to kinds.CommitPoint → StandsSo k to stand → Step p input k (commit_point_turn k from to stand)
     commit_point_turn_so (Is_live x) came so = point_so k from x.live (live_so k x.live.me x so.1) x.live.phase (here so.0 came) refl
     commit_point_turn_so (Is_kept s) came so = known_so k from s so.1 s.decision (here so.0 came) refl
     commit_point_turn_so Is_gone came so = Sends _ (Gone_rolls_back to from (inl came) so)
 
-    committed_turn_so : (n : ℕ) (stand : Stand) → Came input from to (kinds.Committed n) → n ≤ k.clock → StandsSo k to stand → Step p input k (committed_turn k from to n stand)
+    committed_turn_so : (n : ℕ) (stand : BranchStatus) → Came input from to (kinds.Committed n) → n ≤ k.clock → StandsSo k to stand → Step p input k (committed_turn k from to n stand)
     committed_turn_so n (Is_live x) came met so = Rests
     committed_turn_so n (Is_kept s) came met so = on_decision_so k from s so.1 (decisions.Commit n) (Commit_came n (here so.0 came)) met
     committed_turn_so n Is_gone came met so = Sends _ (Gone_acks to from n came so)
 
-    rollback_turn_so : (stand : Stand) → Came input from to kinds.Rollback → StandsSo k to stand → Step p input k (rollback_turn k from stand)
+    rollback_turn_so : (stand : BranchStatus) → Came input from to kinds.Rollback → StandsSo k to stand → Step p input k (rollback_turn k from stand)
     rollback_turn_so (Is_live x) came so = Drops_told x.live (live_so k x.live.me x so.1) (By_rollback from (here so.0 came))
     rollback_turn_so (Is_kept s) came so = on_decision_so k from s so.1 decisions.Rollback (Rollback_came (here so.0 came)) tt
     rollback_turn_so Is_gone came so = Rests
 
-    rolled_back_turn_so : (stand : Stand) → Came input from to kinds.RolledBack → StandsSo k to stand → Step p input k (rolled_back_turn k from stand)
+    rolled_back_turn_so : (stand : BranchStatus) → Came input from to kinds.RolledBack → StandsSo k to stand → Step p input k (rolled_back_turn k from stand)
     rolled_back_turn_so (Is_live x) came so = rolled_back_so k from x.live (live_so k x.live.me x so.1) (here so.0 came)
     rolled_back_turn_so (Is_kept s) came so = on_decision_so k from s so.1 decisions.Rollback (Rolled_back_came (here so.0 came)) tt
     rolled_back_turn_so Is_gone came so = Rests
 
-    ack_turn_so : (stand : Stand) → Came input from to kinds.Ack → StandsSo k to stand → Step p input k (ack_turn k from to stand)
+    ack_turn_so : (stand : BranchStatus) → Came input from to kinds.Ack → StandsSo k to stand → Step p input k (ack_turn k from to stand)
     ack_turn_so (Is_live x) came so = Rests
     ack_turn_so (Is_kept s) came so = on_ack_so k from s so.1 (here so.0 came)
     ack_turn_so Is_gone came so = Sends _ (Gone_forgets to from came so)
 
-    forgotten_turn_so : (stand : Stand) → Came input from to kinds.Forgotten → StandsSo k to stand → Step p input k (forgotten_turn k from stand)
+    forgotten_turn_so : (stand : BranchStatus) → Came input from to kinds.Forgotten → StandsSo k to stand → Step p input k (forgotten_turn k from stand)
     forgotten_turn_so (Is_kept s) came so = on_forgotten_so k from s so.1 (here so.0 came)
     forgotten_turn_so _ came so = Rests
 
-    ask_turn_so : (stand : Stand) → Came input from to kinds.Ask → StandsSo k to stand → Step p input k (ask_turn k from to stand)
+    ask_turn_so : (stand : BranchStatus) → Came input from to kinds.Ask → StandsSo k to stand → Step p input k (ask_turn k from to stand)
     ask_turn_so (Is_live x) came so = ask_so k from x.live (live_so k x.live.me x so.1) (here so.0 came)
     ask_turn_so (Is_kept s) came so = Sends _ (Tells s from (here so.0 came) so.1)
     ask_turn_so Is_gone came so = Sends _ (Gone_rolls_back to from (inr came) so)
 
-    kind_turn_so : (kind : Kind) (stand : Stand) → Came input from to kind → kind_scn kind ≤ k.clock → StandsSo k to stand → Step p input k (kind_turn p k from to kind stand)
+    kind_turn_so : (kind : Kind) (stand : BranchStatus) → Came input from to kind → kind_scn kind ≤ k.clock → StandsSo k to stand → Step p input k (kind_turn p k from to kind stand)
     kind_turn_so (kinds.Open edge root depth) stand came met so = open_so k from to edge root depth (find (is_opening from edge) k.opens) came refl
     kind_turn_so (kinds.Opened edge strength) stand came met so = opened_turn_so edge strength stand came so
     kind_turn_so (kinds.Exec call given advice s) stand came met so = exec_turn_so call given advice s stand came so
@@ -264,7 +264,7 @@ module _ (p : Place) (input : Input) where
   force_rollback_so k n id (Err r) call is = Refuses n (Some (stmts.RollbackForce id)) r call
   force_rollback_so k n id (Ok b) call is = Forces_rollback n id b call is
 
-  hides_so : (k : NodeState) (n : ℕ) (mixed : Bool) (id : List ℕ) (o : Option Standing) → IsCall input n (purge_of mixed id) → find (may_purge mixed id) k.stored.durable.kept ≡ o → Step p input k (hides k n id o)
+  hides_so : (k : NodeState) (n : ℕ) (mixed : Bool) (id : List ℕ) (o : Option KeptRow) → IsCall input n (purge_of mixed id) → find (may_purge mixed id) k.stored.durable.kept ≡ o → Step p input k (hides k n id o)
   hides_so k n mixed id None call is = Refuses n (Some (purge_of mixed id)) _ call
   hides_so k n mixed id (Some s) call is = Hides n mixed id s call is
 
@@ -314,9 +314,9 @@ module _ (p : Place) (input : Input) where
   recovery_so k reco = Sends _ (Recovers reco)
 
 -- each turn is one of the steps
-pub step_of : (p : Place) (k : NodeState) (input : Input) → IsFit input → Step p input (heard k input) (deed_of p k input)
+pub step_of : (p : Place) (k : NodeState) (input : Input) → IsFit input → Step p input (heard k input) (draft_of p k input)
 step_of p k (inputs.Call n s) fit = read_turn_so p (inputs.Call n s) k n s refl fit
 step_of p k (inputs.GiveUp n) fit = give_up_so p (inputs.GiveUp n) k n (session_at k.sessions n).root (session_at k.sessions n).call refl refl refl
 step_of p k (inputs.Message m) fit =
-    kind_turn_so p (inputs.Message m) (clock_raised_by k m) m.from m.to m.kind (stand_of (clock_raised_by k m) m.to) (record { scn = m.scn; is = refl }) (omega arith) (stands_so (clock_raised_by k m) m.to)
+    kind_turn_so p (inputs.Message m) (clock_raised_by k m) m.from m.to m.kind (status_of (clock_raised_by k m) m.to) (record { scn = m.scn; is = refl }) (omega arith) (stands_so (clock_raised_by k m) m.to)
 step_of p k inputs.Reco fit = recovery_so p inputs.Reco k refl

@@ -18,7 +18,7 @@ use Rattle.session_tree.specs.Tree.{weight, count, room}
 use Rattle.node_rules.specs.Names.{Way, Runs_here, Over, Through, Nowhere_to, way_of, passed_on}
 use Rattle.node_rules.specs.Statement.{ran, node_after_run, after_run, answer_of_run}
 use Rattle.node_rules.specs.Sessions.{session_at, with_call, needs_rollback}
-use Rattle.node_rules.specs.NodeState.{NodeState, Deed, Branch, nothing, saying, post, with_branch}
+use Rattle.node_rules.specs.NodeState.{NodeState, TurnDraft, Branch, nothing, saying, post, with_branch}
 
 -- at a root the session's call is pending from now on
 abbrev pub call_pends : List Session → Live → List Session
@@ -57,7 +57,7 @@ answer_ends l a None = (record { session = l.me.session; answer = a }) ∷ []
 answer_ends l a (Some parent) = []
 
 -- the statement at this branch is answered
-abbrev pub answered : NodeState → Branch → Answer → Deed
+abbrev pub answered : NodeState → Branch → Answer → TurnDraft
 answered k x a = record {
   after = record (with_branch k (with_answer x a)) { sessions = answered_sessions k.sessions x.live x.live.parent };
   wrote = None;
@@ -83,7 +83,7 @@ abbrev pub called : Branch → ℕ → Stmt → ℕ → Branch
 called x i s given = record x { work = record x.work { calls = set_numbered x.work.calls i (next_call x.work i); going = Some (record { statement = s; room = given; waits = waiting.ForReply i }) } }
 
 -- the statement goes on over an edge
-abbrev pub calls_over : NodeState → Branch → ℕ → Stmt → ℕ → Deed
+abbrev pub calls_over : NodeState → Branch → ℕ → Stmt → ℕ → TurnDraft
 calls_over k x i s given = record {
   after = record (with_branch k (called x i s given)) { sessions = call_pends k.sessions x.live };
   wrote = None;
@@ -100,7 +100,7 @@ abbrev pub waits_for_opened : Branch → List ℕ → Stmt → ℕ → Branch
 waits_for_opened x link s given = record x { work = record x.work { going = Some (record { statement = s; room = given; waits = waiting.ForOpened link }) } }
 
 -- a link is used for the first time: Open goes to its node
-abbrev pub opens_through : NodeState → Branch → ℕ → List ℕ → Stmt → ℕ → Deed
+abbrev pub opens_through : NodeState → Branch → ℕ → List ℕ → Stmt → ℕ → TurnDraft
 opens_through k x node link s given = record {
   after = record (with_branch k (waits_for_opened x link s given)) { sessions = call_pends k.sessions x.live };
   wrote = None;
@@ -109,19 +109,19 @@ opens_through k x node link s given = record {
 }
 
 -- the statement runs at this node, and is answered
-abbrev pub runs_here : Place → NodeState → Branch → Stmt → Table → Deed
+abbrev pub runs_here : Place → NodeState → Branch → Stmt → Table → TurnDraft
 runs_here p k x s t =
     answered (node_after_run k x.live.me t (ran p k x.live.me s t)) (record x { live = after_run x.live (ran p k x.live.me s t) }) (answer_of_run (ran p k x.live.me s t))
 
 -- the statement runs here, is refused, or goes on
-abbrev pub goes : Place → NodeState → Branch → Stmt → ℕ → Way → Deed
+abbrev pub goes : Place → NodeState → Branch → Stmt → ℕ → Way → TurnDraft
 goes p k x s given (Runs_here t) = runs_here p k x s t
 goes p k x s given (Nowhere_to r) = answered k x (answers.Refused r)
 goes p k x s given (Over i table) = calls_over k x i (passed_on s table) given
 goes p k x s given (Through node link table) = opens_through k x node link (passed_on s table) given
 
 -- a statement at a live branch
-abbrev pub statement_at : Place → NodeState → Branch → Stmt → ℕ → Deed
+abbrev pub statement_at : Place → NodeState → Branch → Stmt → ℕ → TurnDraft
 statement_at p k x s given = goes p k x s given (way_of p k.stored.durable x.live given s)
 
 -- the id of the next branch that is opened over a link: sessions 65, 66, .. in the order of opening
@@ -148,12 +148,12 @@ abbrev pub opened_says : Opening → List Post
 opened_says o = post o.child o.parent (kinds.Opened o.edge o.strength)
 
 -- an Open that comes again gets the same Opened; one that comes first begins a branch
-abbrev pub open_by : Place → NodeState → BranchId → ℕ → BranchId → ℕ → Option Opening → Deed
+abbrev pub open_by : Place → NodeState → BranchId → ℕ → BranchId → ℕ → Option Opening → TurnDraft
 open_by p k parent edge root depth (Some o) = saying k (opened_says o)
 open_by p k parent edge root depth None = saying (opens_branch p k parent edge root depth) (opened_says (new_opening p k parent edge))
 
 -- a message Open
-abbrev pub on_open : Place → NodeState → BranchId → ℕ → BranchId → ℕ → Deed
+abbrev pub on_open : Place → NodeState → BranchId → ℕ → BranchId → ℕ → TurnDraft
 on_open p k parent edge root depth = open_by p k parent edge root depth (opening_of k.opens parent edge)
 
 -- with one more child, to which no call was made
@@ -161,17 +161,17 @@ abbrev pub with_edge : Branch → Edge → Branch
 with_edge x e = record { live = add_edge x.live e; work = record x.work { calls = x.work.calls ++ 0 ∷ [] } }
 
 -- the statement that waited for this link goes on, with room for one branch less
-abbrev pub opened_waits : NodeState → Branch → BranchId → ℕ → Going → Waits → Deed
+abbrev pub opened_waits : NodeState → Branch → BranchId → ℕ → Going → Waits → TurnDraft
 opened_waits k x from strength g (waiting.ForReply i) = nothing k
 opened_waits k x from strength g (waiting.ForOpened link) = calls_over k (with_edge x (new_edge from link strength)) (next_edge x.live) g.statement (g.room - 1)
 
 -- the Opened of the edge that is waited for; any other is ignored
-abbrev pub opened_going : NodeState → Branch → BranchId → ℕ → ℕ → Option Going → Deed
+abbrev pub opened_going : NodeState → Branch → BranchId → ℕ → ℕ → Option Going → TurnDraft
 opened_going k x from edge strength None = nothing k
 opened_going k x from edge strength (Some g) = if edge == next_edge x.live then opened_waits k x from strength g g.waits else nothing k
 
 -- a message Opened at a live branch
-abbrev pub on_opened : NodeState → Branch → BranchId → ℕ → ℕ → Deed
+abbrev pub on_opened : NodeState → Branch → BranchId → ℕ → ℕ → TurnDraft
 on_opened k x from edge strength = opened_going k x from edge strength x.work.going
 
 -- the branch takes a call, with the advice that came with it
@@ -184,13 +184,13 @@ says_again x to None = []
 says_again x to (Some t) = replies x to t
 
 -- a first number is run, the last one answered again once it was answered, any other ignored
-abbrev pub exec_by : Place → NodeState → Branch → BranchId → ℕ → ℕ → Option Advice → Stmt → Admit → Deed
+abbrev pub exec_by : Place → NodeState → Branch → BranchId → ℕ → ℕ → Option Advice → Stmt → Admit → TurnDraft
 exec_by p k x from call given advice s admits.Ignore = nothing k
 exec_by p k x from call given advice s admits.Again = saying k (says_again x from x.work.came.reply)
 exec_by p k x from call given advice s admits.Run = statement_at p k (takes_call x call advice) s given
 
 -- a message Exec at a live branch
-abbrev pub on_exec : Place → NodeState → Branch → BranchId → ℕ → ℕ → Option Advice → Stmt → Deed
+abbrev pub on_exec : Place → NodeState → Branch → BranchId → ℕ → ℕ → Option Advice → Stmt → TurnDraft
 on_exec p k x from call given advice s = exec_by p k x from call given advice s (admit x.work.came call)
 
 -- the child with the weight and the branches that its Reply tells
@@ -211,7 +211,7 @@ abbrev pub heard_sessions : List Session → Live → Answer → List Session
 heard_sessions ss l a = if is_none l.parent && is_gone a then needs_rollback ss l.me.session (dtx 8 []).code else ss
 
 -- a Reply is heard
-abbrev pub reply_heard : NodeState → Branch → List ℕ → Answer → Deed
+abbrev pub reply_heard : NodeState → Branch → List ℕ → Answer → TurnDraft
 reply_heard k x link a = answered (record k { sessions = heard_sessions k.sessions x.live a }) x (heard_answer x.live link a)
 
 -- the edge whose last call a Reply answers
@@ -234,12 +234,12 @@ unfoldable pub reply_of : Branch → BranchId → ℕ → Option (ℕ × Edge)
 reply_of x from call = reply_going x from call x.work.going
 
 -- a Reply that is waited for is heard, any other is ignored
-abbrev pub reply_by : NodeState → Branch → Option ℕ → ℕ → Answer → Option (ℕ × Edge) → Deed
+abbrev pub reply_by : NodeState → Branch → Option ℕ → ℕ → Answer → Option (ℕ × Edge) → TurnDraft
 reply_by k x weight count a None = nothing k
 reply_by k x weight count a (Some ie) = reply_heard k (hears_reply x ie.0 weight count ie.1) ie.1.link a
 
 -- a message Reply at a live branch
-abbrev pub on_reply : NodeState → Branch → BranchId → ℕ → Option ℕ → ℕ → Answer → Deed
+abbrev pub on_reply : NodeState → Branch → BranchId → ℕ → Option ℕ → ℕ → Answer → TurnDraft
 on_reply k x from call weight count a = reply_by k x weight count a (reply_of x from call)
 
 -- a gone branch refuses a call

@@ -4,7 +4,7 @@ pub use Rattle.redo_record.specs.Kept.{stands_at}
 pub use Rattle.reco.specs.Asks.{post_one, to_each, to_one}
 pub use Rattle.row_store.specs.Store.{own_id, doubt_id, sets_of, sets_at}
 use Rattle.std.specs.Prelude.{ℕ, List, [], ◌∷◌, max, Option, Some, None}
-use Rattle.node_rules.specs.Data.{BranchId, RedoRecord, Standing, Durable, Live, Kind, Msg, Owned, Doubt, Work, Opening, Session, Finished, Post, Answer}
+use Rattle.node_rules.specs.Data.{BranchId, RedoRecord, KeptRow, Durable, Live, Kind, Msg, Owned, Doubt, Work, Opening, Session, Finished, Post, Answer}
 use Rattle.node_rules.specs.Words.{item_at, put_item, drop_item}
 use Rattle.node_rules.specs.Rows.{TableRows}
 use Rattle.link_session.specs.Calls.{no_calls}
@@ -34,29 +34,29 @@ pub record Branch : Type 0 where
   pub work : Work
 
 -- What a turn does: the state after it, at most one record, the messages, the calls that end.
-pub record Deed : Type 0 where
+pub record TurnDraft : Type 0 where
   pub after : NodeState
   pub wrote : Option RedoRecord
   pub says : List Post
   pub ended : List Finished
 
 -- The same with the node's clock on the messages.
-pub record Outcome : Type 0 where
+pub record TurnOutput : Type 0 where
   pub after : NodeState
   pub wrote : Option RedoRecord
   pub sent : List Msg
   pub ended : List Finished
 
 -- nothing happens
-abbrev pub nothing : NodeState → Deed
+abbrev pub nothing : NodeState → TurnDraft
 nothing k = record { after = k; wrote = None; says = []; ended = [] }
 
 -- only messages are sent
-abbrev pub saying : NodeState → List Post → Deed
+abbrev pub saying : NodeState → List Post → TurnDraft
 saying k says = record { after = k; wrote = None; says = says; ended = [] }
 
 -- only the session's call ends
-abbrev pub ending : NodeState → ℕ → Answer → Deed
+abbrev pub ending : NodeState → ℕ → Answer → TurnDraft
 ending k session answer = record { after = k; wrote = None; says = []; ended = (record { session = session; answer = answer }) ∷ [] }
 
 -- one message
@@ -72,8 +72,8 @@ abbrev pub work_id : Work → BranchId
 work_id w = w.branch
 
 -- the branch of a kept row
-abbrev pub standing_id : Standing → BranchId
-standing_id s = s.me
+abbrev pub kept_row_id : KeptRow → BranchId
+kept_row_id s = s.me
 
 -- a branch to which no call came, and which made none
 abbrev pub no_work : BranchId → Work
@@ -119,12 +119,12 @@ without_branch k b = record k {
 }
 
 -- the row of a kept branch
-abbrev pub standing_at : NodeState → BranchId → Option Standing
-standing_at k b = item_at standing_id k.stored.durable.kept b
+abbrev pub kept_row_at : NodeState → BranchId → Option KeptRow
+kept_row_at k b = item_at kept_row_id k.stored.durable.kept b
 
 -- with the row of a kept branch changed
-abbrev pub with_standing : NodeState → Standing → NodeState
-with_standing k s = record k { stored = record k.stored { durable = record k.stored.durable { kept = put_item standing_id k.stored.durable.kept s } } }
+abbrev pub with_kept_row : NodeState → KeptRow → NodeState
+with_kept_row k s = record k { stored = record k.stored { durable = record k.stored.durable { kept = put_item kept_row_id k.stored.durable.kept s } } }
 
 -- with the clock raised to this SCN
 abbrev pub raised : NodeState → ℕ → NodeState

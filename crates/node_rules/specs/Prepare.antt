@@ -19,7 +19,7 @@ use Rattle.node_rules.specs.Rows.{changes_of}
 use Rattle.node_rules.specs.Records.{with_record}
 use Rattle.session_tree.specs.Tree.{step}
 use Rattle.node_rules.specs.Sessions.{commit_ended, commit_answer, commit_complete, tran_refusal}
-use Rattle.node_rules.specs.NodeState.{NodeState, Deed, nothing, saying, to_each, to_one, sets_at, with_live, without_branch}
+use Rattle.node_rules.specs.NodeState.{NodeState, TurnDraft, nothing, saying, to_each, to_one, sets_at, with_live, without_branch}
 
 -- ---- what goes to the children
 
@@ -50,11 +50,11 @@ decided_record k l = records.Decided (decided_of (k.clock + 1) l (own_changes k 
 -- ---- turns
 
 -- a branch rolls back; these messages go first
-abbrev pub drops : NodeState → Live → List Post → Deed
+abbrev pub drops : NodeState → Live → List Post → TurnDraft
 drops k l first = saying (without_branch k l.me) (first ++ to_children l kinds.Rollback)
 
 -- a root rolls back and its COMMIT is answered
-abbrev pub root_drops : NodeState → Live → Answer → Deed
+abbrev pub root_drops : NodeState → Live → Answer → TurnDraft
 root_drops k l a = record {
   after = record (without_branch k l.me) { sessions = commit_ended k.sessions l.me };
   wrote = None;
@@ -73,7 +73,7 @@ abandon_ends ss l None = commit_answer ss l.me (tran_refusal 2050 l.me)
 abandon_ends ss l (Some parent) = []
 
 -- a child's Abort: the branch rolls back, and tells its parent Abort
-abbrev pub abandons : NodeState → Live → Deed
+abbrev pub abandons : NodeState → Live → TurnDraft
 abandons k l = record {
   after = record (without_branch k l.me) { sessions = abandoned_sessions k.sessions l l.parent };
   wrote = None;
@@ -82,7 +82,7 @@ abandons k l = record {
 }
 
 -- a branch becomes sealed: its record stands and it is live no more
-abbrev pub seals : NodeState → Live → Option ℕ → List Post → Deed
+abbrev pub seals : NodeState → Live → Option ℕ → List Post → TurnDraft
 seals k l path says = record { after = with_record (without_branch k l.me) (sealed_record k l path); wrote = Some (sealed_record k l path); says = says; ended = [] }
 
 -- the site's node after the decision
@@ -90,7 +90,7 @@ abbrev pub decided_kept : NodeState → Live → NodeState
 decided_kept k l = with_record (without_branch (record k { clock = k.clock + 1 }) l.me) (decided_record k l)
 
 -- the site decides: its changes are committed, and its neighbours are told; without neighbours the COMMIT is complete
-abbrev pub decides : NodeState → Live → Deed
+abbrev pub decides : NodeState → Live → TurnDraft
 decides k l = record {
   after = record (decided_kept k l) { sessions = if is_alone l then commit_ended k.sessions l.me else k.sessions };
   wrote = Some (decided_record k l);
@@ -99,7 +99,7 @@ decides k l = record {
 }
 
 -- a root without a site: nothing was changed, and the COMMIT is complete
-abbrev pub finishes : NodeState → Live → Deed
+abbrev pub finishes : NodeState → Live → TurnDraft
 finishes k l = record {
   after = record (without_branch k l.me) { sessions = commit_ended k.sessions l.me };
   wrote = None;
@@ -108,7 +108,7 @@ finishes k l = record {
 }
 
 -- what a branch does next, as a turn
-abbrev pub act_turn : NodeState → Live → Bool → Act → Deed
+abbrev pub act_turn : NodeState → Live → Bool → Act → TurnDraft
 act_turn k l site_below acts.Rest = saying (with_live k l) []
 act_turn k l site_below acts.AskDown = saying (with_live k l) (prepares l.me l.comment (path_of site_below (step l)) 1 l.edges)
 act_turn k l site_below acts.SayReadOnly = saying (without_branch k l.me) (to_one l.me kinds.ReadOnly l.parent)
@@ -124,7 +124,7 @@ abbrev pub without_read_keys : NodeState → BranchId → NodeState
 without_read_keys k b = record k { locks = without_reads k.locks b }
 
 -- COMMIT at a root, Prepare at any other branch
-abbrev pub collects : NodeState → Live → Bool → Deed
+abbrev pub collects : NodeState → Live → Bool → TurnDraft
 collects k l site_below = act_turn (without_read_keys k l.me) (collecting l site_below) site_below (first_act (collecting l site_below) site_below)
 
 -- with the comment of the COMMIT
@@ -132,29 +132,29 @@ abbrev pub with_comment : Live → List ℕ → Live
 with_comment l comment = record l { comment = comment }
 
 -- a Prepare that comes again is ignored
-abbrev pub prepare_in : NodeState → Live → Bool → List ℕ → Phase → Deed
+abbrev pub prepare_in : NodeState → Live → Bool → List ℕ → Phase → TurnDraft
 prepare_in k l site_below comment phases.Working = collects k (with_comment l comment) site_below
 prepare_in k l site_below comment _ = nothing k
 
 -- a message Prepare at a live branch
-abbrev pub on_prepare : NodeState → Live → Bool → List ℕ → Deed
+abbrev pub on_prepare : NodeState → Live → Bool → List ℕ → TurnDraft
 on_prepare k l site_below comment = prepare_in k l site_below comment l.phase
 
 -- only a collecting branch hears answers, and only each child's first
-abbrev pub answer_in : NodeState → Live → BranchId → Vote → Phase → Deed
+abbrev pub answer_in : NodeState → Live → BranchId → Vote → Phase → TurnDraft
 answer_in k l from v (phases.Collecting site_below) =
     if is_first_answer l from then act_turn k (voted l from v) site_below (answer_act (voted l from v) site_below v) else nothing k
 answer_in k l from v _ = nothing k
 
 -- a child's answer to Prepare, at a live branch
-abbrev pub on_answer : NodeState → Live → BranchId → Vote → Deed
+abbrev pub on_answer : NodeState → Live → BranchId → Vote → TurnDraft
 on_answer k l from v = answer_in k l from v l.phase
 
 -- CommitPoint, which a parent alone sends, at a live branch that answered Ready
-abbrev pub commit_point_in : NodeState → Live → Phase → Deed
+abbrev pub commit_point_in : NodeState → Live → Phase → TurnDraft
 commit_point_in k l phases.Ready = act_turn k l true (commit_point_act (step l))
 commit_point_in k l _ = nothing k
 
 -- a message CommitPoint at a live branch
-abbrev pub on_commit_point : NodeState → Live → Deed
+abbrev pub on_commit_point : NodeState → Live → TurnDraft
 on_commit_point k l = commit_point_in k l l.phase

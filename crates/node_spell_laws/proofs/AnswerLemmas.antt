@@ -35,7 +35,7 @@ use Rattle.sql_eval.specs.declared.keyed.Keyed.{Keyed}
 use Rattle.sql_eval.specs.declared.meant.Meant.{Meant}
 use Rattle.sql_eval.specs.declared.meant.Meant.TheVariants as meants
 use Rattle.sql_eval.specs.Meaning.{found, row_unless, set_cell, set_value, set_one, set_all, change_to, update, and_updated, updated, summed_set, picked, changing, inserting, meant_over}
-use Rattle.stmt_run.specs.Run.{Ground, held_refusal, in_doubt_refusal, locked_refusal, needed_extents, space_refusal, ran_within, ran_meant, ran_locked, ran_checked, ran_over, answer_of_run}
+use Rattle.stmt_run.specs.Run.{StmtContext, held_refusal, in_doubt_refusal, locked_refusal, needed_extents, space_refusal, ran_within, ran_meant, ran_locked, ran_checked, ran_over, answer_of_run}
 use Rattle.node_rules.specs.Statement.{ground_of, ran}
 use Rattle.sql_print.specs.Printing.{IsPrintable}
 use Rattle.msg_codec.specs.Fits.{is_change}
@@ -253,28 +253,28 @@ module _ (t : Table) (whole : IsWholeTable t) where
 
   -- ---- What it does.
 
-  space_so : (g : Ground) (cs : List Change) → MayHaveTexts (space_refusal g cs)
+  space_so : (g : StmtContext) (cs : List Change) → MayHaveTexts (space_refusal g cs)
   space_so g cs = else_so (refuse_if _ (dtx 16 [])) _ (if_so _ (dtx 16 []) tt) (if_so (nat_lt g.free (needed_extents g cs)) (ora 30036 (decimal (needed_extents g cs) ∷ decimal g.free ∷ [])) (decimal_text (needed_extents g cs), (decimal_text g.free, tt)))
 
-  within_so : (g : Ground) (o : Option Refusal) (d : Done) (cs : List Change) (keys : List Value) → MayHaveTexts o → IsTrue (is_change d) → AnswerHasBytes (answer_of_run (ran_within g o d cs keys))
+  within_so : (g : StmtContext) (o : Option Refusal) (d : Done) (cs : List Change) (keys : List Value) → MayHaveTexts o → IsTrue (is_change d) → AnswerHasBytes (answer_of_run (ran_within g o d cs keys))
   within_so g (Some r) d cs keys texts is = texts
   within_so g None d cs keys texts is = is
 
-  means_so : (g : Ground) (keys : List Value) (m : Meant) → MeansTexts m → AnswerHasBytes (answer_of_run (ran_meant g keys m))
+  means_so : (g : StmtContext) (keys : List Value) (m : Meant) → MeansTexts m → AnswerHasBytes (answer_of_run (ran_meant g keys m))
   means_so g keys (meants.Refused r) is = is
   means_so g keys (meants.Gives rows) is = is
   means_so g keys (meants.Changes d n cs) is = within_so g (space_refusal g cs) d cs keys (space_so g cs) is
 
-  locked_so : (g : Ground) (s : Stmt) (o : Option Refusal) → IsNamed s → MayHaveTexts o → AnswerHasBytes (answer_of_run (ran_locked g s t o))
+  locked_so : (g : StmtContext) (s : Stmt) (o : Option Refusal) → IsNamed s → MayHaveTexts o → AnswerHasBytes (answer_of_run (ran_locked g s t o))
   locked_so g s (Some r) named is = is
   locked_so g s None named is = means_so g _ (meant_over s t g.view) (meant_so s g.view named)
 
-  run_so : (g : Ground) (s : Stmt) (o : Option Refusal) → IsNamed s → MayHaveTexts o → AnswerHasBytes (answer_of_run (ran_checked g s t o))
+  run_so : (g : StmtContext) (s : Stmt) (o : Option Refusal) → IsNamed s → MayHaveTexts o → AnswerHasBytes (answer_of_run (ran_checked g s t o))
   run_so g s (Some r) named is = is
   run_so g s None named is = locked_so g s (else_refuse (in_doubt_refusal g t _) (locked_refusal g t _)) named (else_so (in_doubt_refusal g t _) (locked_refusal g t _) (held_so 1591 _) (held_so 2049 _))
 
   -- a statement that runs over a whole table is answered in bytes
-  pub answer_has_bytes : (g : Ground) (s : Stmt) → IsPrintable s → AnswerHasBytes (answer_of_run (ran_over g s t))
+  pub answer_has_bytes : (g : StmtContext) (s : Stmt) → IsPrintable s → AnswerHasBytes (answer_of_run (ran_over g s t))
   unfolding ran_over
   answer_has_bytes g s is = run_so g s (checked s t) (printable_named s is) (checked_so s (printable_named s is))
 

@@ -8,14 +8,14 @@ use Rattle.sql_parse.proofs.WholeLaws.{statements_are_whole}
 use Rattle.sql_statement.specs.Whole.{IsWholeTable}
 use Rattle.sql_print.specs.Printing.{printed}
 use Rattle.field_codec.specs.Text.{comment_format}
-use Rattle.node_rules.specs.Data.{BranchId, Decision, Standing, RedoRecord, Live, Place, Input}
+use Rattle.node_rules.specs.Data.{BranchId, Decision, KeptRow, RedoRecord, Live, Place, Input}
 use Rattle.node_rules.specs.Data.acts
 use Rattle.node_rules.specs.Data.decisions
 use Rattle.node_rules.specs.Data.records
 use Rattle.node_rules.specs.Data.stmts
 use Rattle.node_rules.specs.declared.work.Work.{Work}
 use Rattle.commit_forget.specs.declared.next.Next.TheVariants as nexts
-use Rattle.node_rules.specs.NodeState.{NodeState, Stored, Deed}
+use Rattle.node_rules.specs.NodeState.{NodeState, Stored, TurnDraft}
 use Rattle.node_rules.specs.Turn.{turn_of}
 use Rattle.node_rules.proofs.Steps as steps
 use Rattle.node_rules.proofs.Steps.{Step, Doing, IsMet}
@@ -34,17 +34,17 @@ use Rattle.node_spell_laws.proofs.WayToLemmas.{ways_lead}
 
 -- ---- numbers
 
-ends_met : {clock : ℕ} {input : Input} {s : Standing} {from : BranchId} {d : Decision} → Doing clock input s from (nexts.End d) → IsMet clock d
+ends_met : {clock : ℕ} {input : Input} {s : KeptRow} {from : BranchId} {d : Decision} → Doing clock input s from (nexts.End d) → IsMet clock d
 ends_met (steps.Ends_so d brings toward none sealed met) = met
 
-meets_met : {clock : ℕ} {input : Input} {s : Standing} {from : BranchId} {d : Decision} {mixed : Bool} → Doing clock input s from (nexts.Meet d mixed) → IsMet clock d
+meets_met : {clock : ℕ} {input : Input} {s : KeptRow} {from : BranchId} {d : Decision} {mixed : Bool} → Doing clock input s from (nexts.Meet d mixed) → IsMet clock d
 meets_met (steps.Meets_so d brings toward none unsealed uncommitted met) = met
 
 met_fits : (clock : ℕ) (d : Decision) → clock < 2 ^ 48 - 1 → IsMet clock d → DecisionFits d
 met_fits clock (decisions.Commit n) room met = omega (arith, room, met)
 met_fits clock decisions.Rollback room met = tt
 
-numbers_on : (p : Place) (input : Input) → BringsBytes input → {k : NodeState} {d : Deed} → Step p input k d → k.clock < 2 ^ 48 - 1 → IfSome d.wrote HasNumbers
+numbers_on : (p : Place) (input : Input) → BringsBytes input → {k : NodeState} {d : TurnDraft} → Step p input k d → k.clock < 2 ^ 48 - 1 → IfSome d.wrote HasNumbers
 numbers_on p input brings (steps.Begins n s call rows fit none step) room = numbers_on p input brings step room
 numbers_on p input brings (steps.Pends n l given call has live code step) room = numbers_on p input brings step room
 numbers_on p input brings (steps.Lets_reads_go l comment site_below live begun step) room = numbers_on p input brings step room

@@ -12,7 +12,7 @@ use Rattle.reco.specs.Asks.{asking_id, asks_live, acks_again, missing, recovers,
 use Rattle.reco.specs.declared.told.Told.{Told}
 use Rattle.reco.specs.declared.told.Told.TheVariants as tolds
 use Rattle.reco.specs.Told.{told_kind, kept_told}
-use Rattle.node_rules.specs.Data.{Stmt, Answer, BranchId, Decision, RedoRecord, Done, Standing, Edge, Kind, Live, Act, Beyond, Place, Input, Post}
+use Rattle.node_rules.specs.Data.{Stmt, Answer, BranchId, Decision, RedoRecord, Done, KeptRow, Edge, Kind, Live, Act, Beyond, Place, Input, Post}
 use Rattle.node_rules.specs.Data.answers
 use Rattle.node_rules.specs.Data.decisions
 use Rattle.node_rules.specs.Data.kinds
@@ -27,7 +27,7 @@ use Rattle.session_tree.specs.Tree.{step}
 use Rattle.node_rules.specs.Words.{one}
 use Rattle.node_rules.specs.Refusals.{dtx}
 use Rattle.node_rules.specs.Names.{way_of, passed_on}
-use Rattle.node_rules.specs.NodeState.{NodeState, Deed, Branch, live_at, branch_at, with_branch, with_live, without_branch, to_each, to_one}
+use Rattle.node_rules.specs.NodeState.{NodeState, TurnDraft, Branch, live_at, branch_at, with_branch, with_live, without_branch, to_each, to_one}
 use Rattle.node_rules.specs.LiveBranches.{works_of, EachLive}
 use Rattle.node_rules.specs.Records.{applied}
 use Rattle.node_rules.specs.Statement.{ran, answer_of_run, after_run}
@@ -69,7 +69,7 @@ prepares_so me comment is path i (e ∷ es) = (is, prepares_so me comment is pat
 
 -- ---- decisions and recovery
 
-commit_so : (s : Standing) (n : ℕ) (bs : List Beyond) → HaveBytes (passes_commit s n bs)
+commit_so : (s : KeptRow) (n : ℕ) (bs : List Beyond) → HaveBytes (passes_commit s n bs)
 commit_so s n [] = to_one_so s.me kinds.Ack tt s.toward
 commit_so s n (b ∷ bs) = to_each_so s.me (kinds.Committed n) tt (map (λ c. c.branch) (b ∷ bs))
 
@@ -77,7 +77,7 @@ rollbacks_so : (me : BranchId) (bs : List Beyond) → HaveBytes (map (rollback_t
 rollbacks_so me [] = tt
 rollbacks_so me (b ∷ bs) = (cond_both b.is_parent kinds.RolledBack kinds.Rollback HasBytes (λ parent. tt) (λ child. tt), rollbacks_so me bs)
 
-passes_so : (s : Standing) (d : Decision) → HaveBytes (passes s d)
+passes_so : (s : KeptRow) (d : Decision) → HaveBytes (passes s d)
 passes_so s (decisions.Commit n) = commit_so s n (beyond s)
 passes_so s decisions.Rollback = rollbacks_so s.me (beyond s)
 
@@ -87,7 +87,7 @@ told_so tolds.RolledBack = tt
 told_so tolds.RollBackFirst = tt
 told_so tolds.InDoubt = tt
 
-recovers_so : (s : Standing) (d : Option Decision) → HaveBytes (recovers s d)
+recovers_so : (s : KeptRow) (d : Option Decision) → HaveBytes (recovers s d)
 recovers_so s None = to_one_so s.me kinds.Ask tt s.toward
 recovers_so s (Some (decisions.Commit n)) =
     both (missing s.me n (beyond s)) (acks_again s) (to_each_so s.me (kinds.Committed n) tt _) (cond_both _ (to_one s.me kinds.Ack s.toward) [] HaveBytes (λ all. to_one_so s.me kinds.Ack tt s.toward) (λ some. tt))
@@ -100,7 +100,7 @@ lives_ask : (ls : List Live) → AllHaveBytes (map asks_live ls)
 lives_ask [] = tt
 lives_ask (l ∷ ls) = (to_one_so l.me kinds.Ask tt l.parent, lives_ask ls)
 
-kept_ask : (ss : List Standing) → AllHaveBytes (map asks_kept ss)
+kept_ask : (ss : List KeptRow) → AllHaveBytes (map asks_kept ss)
 kept_ask [] = tt
 kept_ask (s ∷ ss) = (recovers_so s s.decision, kept_ask ss)
 
@@ -239,14 +239,14 @@ made_so brings (steps.Sets_recovery on) call now = now.synonyms
 -- ---- steps
 
 -- the node keeps and says such
-abbrev Bytes : Deed → Type 0
+abbrev Bytes : TurnDraft → Type 0
 Bytes d = KeepsBytes d.after × HaveBytes d.says
 
 -- no call is a Prepare
 pub none_asked : (k : NodeState) {input : Input} {n : ℕ} {s : Stmt} → input ≡ inputs.Call n (Some s) → AsksChild k input
 none_asked k call from to site_below comment l came live = let is = came.is in absurd (cc (call, is))
 
-says_on : (p : Place) (input : Input) → BringsBytes input → {k : NodeState} {d : Deed} → Step p input k d → AsksChild k input → HasRows k → KeepsBytes k → Bytes d
+says_on : (p : Place) (input : Input) → BringsBytes input → {k : NodeState} {d : TurnDraft} → Step p input k d → AsksChild k input → HasRows k → KeepsBytes k → Bytes d
 unfolding applied durable_after
 says_on p input brings (steps.Begins {k = k} n s call rows fit none step) of_child whole now =
     says_on p input brings step (none_asked (begun_by p k n None) call) whole (record { lives = begins k now _ no_comment tt; synonyms = now.synonyms })

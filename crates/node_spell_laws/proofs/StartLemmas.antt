@@ -9,7 +9,7 @@ use Rattle.node_rules.specs.Data.params
 use Rattle.node_rules.specs.Data.records
 use Rattle.node_rules.specs.Data.stmts
 use Rattle.commit_forget.specs.declared.next.Next.TheVariants as nexts
-use Rattle.node_rules.specs.NodeState.{NodeState, Stored, Deed}
+use Rattle.node_rules.specs.NodeState.{NodeState, Stored, TurnDraft}
 use Rattle.node_rules.specs.Records.{nothing_stored, applied, stored_by}
 use Rattle.node_rules.specs.Inputs.{IsCall}
 use Rattle.node_rules.specs.Turn.{turn_of, start_of}
@@ -58,7 +58,7 @@ made_named brings call (steps.Makes_link l free) = tt
 made_named brings call (steps.Makes_synonym y free) = printable_named (stmts.CreateSynonym y) (call_so brings call)
 made_named brings call (steps.Sets_recovery on) = tt
 
-names_on : (p : Place) (input : Input) → BringsBytes input → {k : NodeState} {d : Deed} → Step p input k d → IfSome d.wrote NamesTable
+names_on : (p : Place) (input : Input) → BringsBytes input → {k : NodeState} {d : TurnDraft} → Step p input k d → IfSome d.wrote NamesTable
 names_on p input brings (steps.Begins n s call rows fit none step) = names_on p input brings step
 names_on p input brings (steps.Pends n l given call has live code step) = names_on p input brings step
 names_on p input brings (steps.Lets_reads_go l comment site_below live begun step) = names_on p input brings step

@@ -14,7 +14,7 @@ use Rattle.node_rules.specs.declared.work.Work.{Work}
 use Rattle.node_rules.specs.Data.walks
 use Rattle.node_rules.specs.Data.acts
 use Rattle.commit_forget.specs.declared.next.Next.TheVariants as nexts
-use Rattle.node_rules.specs.NodeState.{NodeState, Deed}
+use Rattle.node_rules.specs.NodeState.{NodeState, TurnDraft}
 use Rattle.node_rules.specs.LiveBranches.{EachLive}
 use Rattle.node_rules.specs.Client.{begun_by}
 use Rattle.node_rules.specs.Turn.{heard, turn_of}
@@ -133,7 +133,7 @@ few_acting few why =
     (λ l from v is. subst (λ n. n ≤ link_limit) (sym (length-map l.edges (has_voted from v))) is)
     (λ b l found. few.each b l found) why
 
-ways_on : (p : Place) (input : Input) → BringsBytes input → {k : NodeState} {d : Deed} → Step p input k d → AsksChild k input → EachLive HasFewChildren k.lives k.works → KeepsBytes k → IfSome d.wrote HasWay
+ways_on : (p : Place) (input : Input) → BringsBytes input → {k : NodeState} {d : TurnDraft} → Step p input k d → AsksChild k input → EachLive HasFewChildren k.lives k.works → KeepsBytes k → IfSome d.wrote HasWay
 ways_on p input brings (steps.Begins {k = k} n s call rows fit none step) asks few now =
     ways_on p input brings step (none_asked (begun_by p k n None) call) (each_begun HasFewChildren HasFewChildren k.lives k.works few _ (omega arith) (λ y v live any so. so)) (record { lives = begins k now _ no_comment tt; synonyms = now.synonyms })
 ways_on p input brings (steps.Pends n l given call has live code step) asks few now = ways_on p input brings step asks few (record { lives = now.lives; synonyms = now.synonyms })

@@ -15,7 +15,7 @@ use Rattle.node_rules.specs.Data.records
 use Rattle.node_rules.specs.Data.acts
 use Rattle.commit_forget.specs.declared.next.Next.TheVariants as nexts
 use Rattle.node_rules.specs.Words.{same_text}
-use Rattle.node_rules.specs.NodeState.{NodeState, Deed}
+use Rattle.node_rules.specs.NodeState.{NodeState, TurnDraft}
 use Rattle.node_rules.specs.Client.{begun_by}
 use Rattle.node_rules.specs.Turn.{turn_of}
 use Rattle.node_rules.proofs.Steps as steps
@@ -62,7 +62,7 @@ changes_fit s _ whole sound = tt
 abbrev HasComment : Option RedoRecord → Type 0
 HasComment w = IfSome w (λ r. comment_format.Fits (comment_in r))
 
-comments_on : (p : Place) (input : Input) → BringsBytes input → {k : NodeState} {d : Deed} → Step p input k d → AsksChild k input → KeepsBytes k → HasComment d.wrote
+comments_on : (p : Place) (input : Input) → BringsBytes input → {k : NodeState} {d : TurnDraft} → Step p input k d → AsksChild k input → KeepsBytes k → HasComment d.wrote
 comments_on p input brings (steps.Begins {k = k} n s call rows fit none step) asks now = comments_on p input brings step (none_asked (begun_by p k n None) call) (record { lives = begins k now _ no_comment tt; synonyms = now.synonyms })
 comments_on p input brings (steps.Pends n l given call has live code step) asks now = comments_on p input brings step asks (record { lives = now.lives; synonyms = now.synonyms })
 comments_on p input brings (steps.Lets_reads_go l comment site_below live begun step) asks now = comments_on p input brings step asks (record { lives = now.lives; synonyms = now.synonyms })

@@ -13,7 +13,7 @@ use crate::target::{edge_by_link, target_of};
 use crate::{Named, Way};
 use catalog::Catalog;
 use dtx_values::{DEPTH_LIMIT, Listing, Name, Refusal};
-use node_deeds::{NO_NODE, NO_TABLE, TOO_MANY_LINKS, TREE_FULL};
+use node_drafts::{NO_NODE, NO_TABLE, TOO_MANY_LINKS, TREE_FULL};
 use redo_record::Place;
 use session_tree::{Live, room};
 use sql_check::plain;

@@ -4,7 +4,7 @@ ghost use Rattle.session_tree.specs.Live.{is_branch as is_branch_of};
 ghost use Rattle.pending_view.specs.Views.{in_row, out_row};
 
 use dtx_values::{Bytes, Listing, Name};
-use redo_record::{Kid, Standing};
+use redo_record::{KeptRow, Kid};
 use std::alloc::{AllocError, Global};
 use std::marker::Model;
 use tran_ids::{BranchId, node_name};
@@ -38,7 +38,7 @@ impl NeighborRow {
     pub(crate) fn of_parent(
         alloc: Global,
         names: &[Name],
-        kept: &Standing,
+        kept: &KeptRow,
         parent: BranchId,
     ) -> Result<NeighborRow, AllocError>
         ensures { IfOk result (λ row. row ∷ [] ≡ in_row names.now kept.now (Some parent)) }
@@ -55,7 +55,7 @@ impl NeighborRow {
     /// The row of a child.
     pub(crate) fn of_child(
         alloc: Global,
-        kept: &Standing,
+        kept: &KeptRow,
         child: &Kid,
     ) -> Result<NeighborRow, AllocError>
         ensures { IfOk result (λ row. row ≡ out_row kept.now child.now) }

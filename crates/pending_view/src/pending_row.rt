@@ -6,7 +6,7 @@ ghost use Rattle.pending_view.specs.Order.{place_of};
 use crate::Stage;
 use crate::stage::stage_of;
 use dtx_values::{Advice, Bytes, Duplicate, Listing};
-use redo_record::{Decision, Standing, State};
+use redo_record::{Decision, KeptRow, State};
 use session_tree::Live;
 use std::alloc::{AllocError, Global};
 use std::marker::Model;
@@ -53,7 +53,7 @@ impl Model for PendingRow {
 
 impl PendingRow {
     /// The row of a branch that its node keeps.
-    pub(crate) fn of_kept(alloc: Global, kept: &Standing) -> Result<PendingRow, AllocError>
+    pub(crate) fn of_kept(alloc: Global, kept: &KeptRow) -> Result<PendingRow, AllocError>
         ensures { IfOk result (λ row. row ≡ pending_kept kept.now) }
     {
         let comment = kept.comment.copy(alloc)?;

@@ -4,7 +4,7 @@ ghost use Rattle.pending_view.specs.Views.{number_text as number_text_of, advice
 
 use crate::{NeighborRow, PendingRow, neighbors, pending};
 use dtx_values::{Advice, Bytes, Duplicate, Listing, Name, Texts};
-use redo_record::Standing;
+use redo_record::KeptRow;
 use report::{bars, view_lines};
 use session_tree::Live;
 use std::alloc::{AllocError, Global};
@@ -15,7 +15,7 @@ use tran_ids::{global_text, local_text, put_decimal};
 pub fn pending_view(
     alloc: Global,
     names: &[Name],
-    kept: &[Standing],
+    kept: &[KeptRow],
     lives: &[Live],
 ) -> Result<Texts, AllocError>
     ensures { IfOk result (λ lines. lines ≡ pending_view_of names.now kept.now lives.now) }
@@ -31,7 +31,7 @@ pub fn pending_view(
 
 /// The lines of SHOW NEIGHBORS, where `names` are the names of all nodes: the columns of DBA_2PC_NEIGHBORS, a line for
 /// each row, and how many there are, or that there is none. Fails where memory runs out.
-pub fn neighbors_view(alloc: Global, names: &[Name], kept: &[Standing]) -> Result<Texts, AllocError>
+pub fn neighbors_view(alloc: Global, names: &[Name], kept: &[KeptRow]) -> Result<Texts, AllocError>
     ensures { IfOk result (λ lines. lines ≡ neighbors_view_of names.now kept.now) }
 {
     let rows = neighbors(alloc, names, kept)?;

@@ -5,14 +5,14 @@ ghost use Rattle.pending_view.specs.Views.{has_sent_prepare as has_sent_prepare_
 
 use crate::{NeighborRow, NeighborRows, PendingRow, PendingRows};
 use dtx_values::{Listing, Name};
-use redo_record::{Kid, Standing};
+use redo_record::{KeptRow, Kid};
 use session_tree::{Live, Phase};
 use std::alloc::{AllocError, Global};
 
 /// The rows of DBA_2PC_PENDING at a node, in the order of boot, session and seq: the live branches that have sent
 /// Prepare, and the kept ones whose row is not hidden. Fails where memory runs out.
 #[tactic(auto, unfolding(crate::specs::Views::pending_rows))]
-pub fn pending(alloc: Global, kept: &[Standing], lives: &[Live]) -> Result<PendingRows, AllocError>
+pub fn pending(alloc: Global, kept: &[KeptRow], lives: &[Live]) -> Result<PendingRows, AllocError>
     ensures { IfOk result (λ rows. rows ≡ pending_rows kept.now lives.now) }
 {
     let mut rows = Vec::new(alloc);
@@ -28,7 +28,7 @@ pub fn pending(alloc: Global, kept: &[Standing], lives: &[Live]) -> Result<Pendi
 pub fn neighbors(
     alloc: Global,
     names: &[Name],
-    kept: &[Standing],
+    kept: &[KeptRow],
 ) -> Result<NeighborRows, AllocError>
     ensures { IfOk result (λ rows. rows ≡ neighbor_rows names.now kept.now) }
 {
@@ -69,7 +69,7 @@ fn add_collecting(
     Ok(())
 }
 
-fn add_kept(rows: &mut Vec<PendingRow>, alloc: Global, kept: &[Standing]) -> Result<(), AllocError>
+fn add_kept(rows: &mut Vec<PendingRow>, alloc: Global, kept: &[KeptRow]) -> Result<(), AllocError>
     ensures { OnOk result (rows.new.items ≡ rows.old.items ++ map pending_kept (in_view kept.now)) }
 {
     for row in kept {
@@ -92,7 +92,7 @@ fn add_neighbors(
     rows: &mut Vec<NeighborRow>,
     alloc: Global,
     names: &[Name],
-    branch: &Standing,
+    branch: &KeptRow,
 ) -> Result<(), AllocError>
     ensures { OnOk result (rows.new.items ≡ rows.old.items ++ neighbors_of names.now branch.now) }
 {
@@ -104,7 +104,7 @@ fn add_parent(
     rows: &mut Vec<NeighborRow>,
     alloc: Global,
     names: &[Name],
-    branch: &Standing,
+    branch: &KeptRow,
 ) -> Result<(), AllocError>
     ensures { OnOk result (rows.new.items ≡ rows.old.items ++ in_row names.now branch.now branch.now.parent) }
 {
@@ -117,7 +117,7 @@ fn add_parent(
 fn add_children(
     rows: &mut Vec<NeighborRow>,
     alloc: Global,
-    branch: &Standing,
+    branch: &KeptRow,
     children: &[Kid],
 ) -> Result<(), AllocError>
     ensures { OnOk result (rows.new.items ≡ rows.old.items ++ map (out_row branch.now) children.now) }

@@ -10,7 +10,7 @@ use Rattle.node_rules.specs.Data.kinds
 use Rattle.node_rules.specs.Data.records
 use Rattle.node_rules.specs.Data.towards
 use Rattle.node_rules.specs.Refusals.{dtx}
-use Rattle.node_rules.specs.NodeState.{NodeState, Outcome}
+use Rattle.node_rules.specs.NodeState.{NodeState, TurnOutput}
 use Rattle.node_rules.specs.Turn.{turn_of, start_of}
 use Rattle.run_rules.specs.Data.{Command, Happening}
 use Rattle.run_rules.specs.Data.commands
@@ -39,7 +39,7 @@ abbrev stranger : BranchId
 stranger = record { node = 3; boot = 1; session = 66; seq = 1 }
 
 -- a message comes to the branch at HQ
-abbrev hears : NodeState → BranchId → Kind → Outcome
+abbrev hears : NodeState → BranchId → Kind → TurnOutput
 hears k from kind = turn_of hq_place k (inputs.Message (record { from = from; to = hq; scn = 1; kind = kind }))
 
 -- what HQ writes and says then

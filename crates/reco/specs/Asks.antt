@@ -5,7 +5,7 @@ use Rattle.tran_ids.specs.declared.branch.BranchId.{BranchId}
 use Rattle.tran_ids.specs.Branch.{put_by_branch}
 use Rattle.redo_record.specs.declared.decision.Decision.{Decision}
 use Rattle.redo_record.specs.declared.decision.Decision.TheVariants as decisions
-use Rattle.redo_record.specs.declared.durable.Standing.{Standing}
+use Rattle.redo_record.specs.declared.durable.KeptRow.{KeptRow}
 use Rattle.session_tree.specs.declared.live.Live.{Live}
 use Rattle.wire_msg.specs.declared.kind.Kind.{Kind}
 use Rattle.wire_msg.specs.declared.kind.Kind.TheVariants as kinds
@@ -37,7 +37,7 @@ abbrev pub asks_live : Live → Asking
 asks_live l = record { me = l.me; says = to_one l.me kinds.Ask l.parent }
 
 -- Ack toward, where nobody is missing
-abbrev pub acks_again : Standing → List Post
+abbrev pub acks_again : KeptRow → List Post
 acks_again s = if all_acked s && not s.forgot then to_one s.me kinds.Ack s.toward else []
 
 -- Committed to those whose Ack is missing
@@ -45,17 +45,17 @@ abbrev pub missing : BranchId → ℕ → List Beyond → List Post
 missing me n bs = to_each me (kinds.Committed n) (map (λ b. b.branch) (filter (λ b. not b.acked) bs))
 
 -- a known commit is told to those whose Ack is missing, and acknowledged where nobody's is
-abbrev pub tells_commit : Standing → ℕ → List Post
+abbrev pub tells_commit : KeptRow → ℕ → List Post
 tells_commit s n = missing s.me n (beyond s) ++ acks_again s
 
 -- an unknown decision is asked for toward; a known commit is told to those whose Ack is missing
-abbrev pub recovers : Standing → Option Decision → List Post
+abbrev pub recovers : KeptRow → Option Decision → List Post
 recovers s None = to_one s.me kinds.Ask s.toward
 recovers s (Some (decisions.Commit n)) = tells_commit s n
 recovers s (Some decisions.Rollback) = []
 
 -- what a kept branch sends
-abbrev pub asks_kept : Standing → Asking
+abbrev pub asks_kept : KeptRow → Asking
 asks_kept s = record { me = s.me; says = recovers s s.decision }
 
 -- with the messages of one more branch, where those of a branch stand in the order of boot, session, seq
@@ -63,7 +63,7 @@ abbrev pub put_asking : List Asking → Asking → List Asking
 put_asking xs a = put_by_branch asking_id xs a
 
 -- what all branches of a node send, in order of boot, session, seq
-abbrev pub askings_of : List Standing → List Live → List Asking
+abbrev pub askings_of : List KeptRow → List Live → List Asking
 askings_of kept lives = fold put_asking [] (map asks_live lives ++ map asks_kept kept)
 
 -- every message carries the node's clock
@@ -71,5 +71,5 @@ abbrev pub stamped : ℕ → Post → Msg
 stamped scn x = record { from = x.from; to = x.to; scn = scn; kind = x.kind }
 
 -- the messages of all, in that order
-unfoldable pub asks : List Standing → List Live → ℕ → List Msg
+unfoldable pub asks : List KeptRow → List Live → ℕ → List Msg
 asks kept lives scn = map (stamped scn) (flat_map (λ a. a.says) (askings_of kept lives))

@@ -4,7 +4,7 @@ use Rattle.std.specs.Prelude.{if◌then◌else◌, Option, Some, None}
 use Rattle.tran_ids.specs.declared.branch.BranchId.{BranchId}
 use Rattle.redo_record.specs.declared.decision.Decision.{Decision}
 use Rattle.redo_record.specs.declared.decision.Decision.TheVariants as decisions
-use Rattle.redo_record.specs.declared.durable.Standing.{Standing}
+use Rattle.redo_record.specs.declared.durable.KeptRow.{KeptRow}
 use Rattle.session_tree.specs.declared.live.Live.{Live}
 use Rattle.session_tree.specs.Live.{is_branch}
 use Rattle.commit_forget.specs.Beyond.{is_neighbor}
@@ -20,7 +20,7 @@ told_by (Some (decisions.Commit n)) = tolds.Committed n
 told_by (Some decisions.Rollback) = tolds.RolledBack
 
 -- a kept branch: one that is no neighbour hears rollback
-abbrev pub kept_told : Standing → BranchId → Told
+abbrev pub kept_told : KeptRow → BranchId → Told
 kept_told s from = if is_neighbor s from then told_by s.decision else tolds.RolledBack
 
 -- a live branch that its parent asks rolls back; another that asks hears that nothing is known

@@ -4,7 +4,7 @@ ghost use Rattle.reco.specs.Told.{told_by as told_by_decision, kept_told as kept
 
 use crate::Told;
 use commit_forget::is_neighbor;
-use redo_record::{Decision, Standing};
+use redo_record::{Decision, KeptRow};
 use session_tree::Live;
 use tran_ids::BranchId;
 
@@ -20,7 +20,7 @@ pub fn live_told(live: &Live, from: &BranchId) -> Told
 
 /// What a kept branch tells: its neighbours hear what it knows, a forced one only the decision; anybody else hears that it
 /// rolled back.
-pub fn kept_told(row: &Standing, from: &BranchId) -> Told
+pub fn kept_told(row: &KeptRow, from: &BranchId) -> Told
     ensures { result ≡ kept_told_of row.now from.now }
 {
     if is_neighbor(row, from) {

@@ -7,7 +7,7 @@ ghost use Rattle.reco.specs.Asks.{to_one as to_one_of, asks_live as asks_live_of
 use crate::{Asking, Askings, Post, Posts};
 use commit_forget::{Beyond, all_acked, beyond_of};
 use dtx_values::Listing;
-use redo_record::{Decision, Standing};
+use redo_record::{Decision, KeptRow};
 use session_tree::Live;
 use std::alloc::{AllocError, Global};
 use tran_ids::BranchId;
@@ -17,7 +17,7 @@ use wire_msg::{Kind, Msg, Msgs};
 /// parent, a sealed or forced branch that knows no decision asks toward, and one that knows the commit tells those beyond
 /// whose Ack is missing, or acknowledges toward again where none is.
 #[tactic(auto, unfolding(crate::specs::Asks::asks))]
-pub fn asks(alloc: Global, kept: &[Standing], lives: &[Live], scn: u64) -> Result<Msgs, AllocError>
+pub fn asks(alloc: Global, kept: &[KeptRow], lives: &[Live], scn: u64) -> Result<Msgs, AllocError>
     ensures { IfOk result (λ msgs. msgs ≡ asks_of kept.now lives.now scn) }
 {
     stamp_all(alloc, askings(alloc, kept, lives)?, scn)
@@ -46,7 +46,7 @@ fn asks_live(alloc: Global, live: &Live) -> Result<Asking, AllocError>
     Ok(Asking { me: live.me, says })
 }
 
-fn asks_kept(alloc: Global, row: &Standing) -> Result<Asking, AllocError>
+fn asks_kept(alloc: Global, row: &KeptRow) -> Result<Asking, AllocError>
     ensures { IfOk result (λ asking. asking ≡ asks_kept_of row.now) }
 {
     let says = recovers(alloc, row)?;
@@ -54,7 +54,7 @@ fn asks_kept(alloc: Global, row: &Standing) -> Result<Asking, AllocError>
 }
 
 // By what the branch knows.
-fn recovers(alloc: Global, row: &Standing) -> Result<Posts, AllocError>
+fn recovers(alloc: Global, row: &KeptRow) -> Result<Posts, AllocError>
     ensures { IfOk result (λ posts. posts ≡ recovers_of row.now row.now.decision) }
 {
     match row.decision {
@@ -65,7 +65,7 @@ fn recovers(alloc: Global, row: &Standing) -> Result<Posts, AllocError>
 }
 
 // The commit is told to those whose Ack is missing, and acknowledged toward where none is.
-fn tells_commit(alloc: Global, row: &Standing, scn: u64) -> Result<Posts, AllocError>
+fn tells_commit(alloc: Global, row: &KeptRow, scn: u64) -> Result<Posts, AllocError>
     ensures { IfOk result (λ posts. posts ≡ tells_commit_of row.now scn) }
 {
     let beyond = beyond_of(alloc, row)?;
@@ -142,7 +142,7 @@ fn put_lives(askings: &mut Vec<Asking>, alloc: Global, lives: &[Live]) -> Result
     Ok(())
 }
 
-fn put_rows(askings: &mut Vec<Asking>, alloc: Global, kept: &[Standing]) -> Result<(), AllocError>
+fn put_rows(askings: &mut Vec<Asking>, alloc: Global, kept: &[KeptRow]) -> Result<(), AllocError>
     ensures { OnOk result (askings.new.items ≡ fold put_asking askings.old.items (map asks_kept_of kept.now)) }
 {
     for row in kept {
@@ -151,7 +151,7 @@ fn put_rows(askings: &mut Vec<Asking>, alloc: Global, kept: &[Standing]) -> Resu
     Ok(())
 }
 
-fn askings(alloc: Global, kept: &[Standing], lives: &[Live]) -> Result<Askings, AllocError>
+fn askings(alloc: Global, kept: &[KeptRow], lives: &[Live]) -> Result<Askings, AllocError>
     ensures { IfOk result (λ askings. askings ≡ askings_of_all kept.now lives.now) }
 {
     let mut askings = Vec::new(alloc);

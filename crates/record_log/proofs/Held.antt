@@ -7,7 +7,7 @@ use Rattle.redo_record.specs.declared.record.RedoRecord.{RedoRecord}
 use Rattle.byte_format.specs.Format.{IsSpelling, HasOneReading}
 use Rattle.redo_codec.specs.Record.{record_format}
 use Rattle.redo_log.specs.Cells.{body_limit, bodies, held, log_of, AllFit, GrowsBy}
-use Rattle.block_disk.specs.Plan.{Plan}
+use Rattle.block_disk.specs.Plan.{FaultPlan}
 use Rattle.redo_log.specs.Stands.{stands_by, with_body_if, HoldsByPlan}
 use Rattle.redo_log.proofs.Logs.{log_is_read}
 use Rattle.record_log.specs.Records.{IsSpelled, bodies_of, AreBodiesOf}
@@ -102,7 +102,7 @@ holds_if : (stands : Bool) (rs : List RedoRecord) (r : RedoRecord) (body before 
 holds_if true rs r body before now spelled is hold stored = holds_more rs r body before now spelled is hold stored
 holds_if false rs r body before now spelled is hold stored = holds_still rs before now hold stored
 
-pub grows_by_plan : (plan : Option Plan) (r : RedoRecord) (body before now : List ℕ) → IsSpelled r → body ≡ record_format.text r → HoldsByPlan plan (held before) body now → GrowsByPlan plan r before now
+pub grows_by_plan : (plan : Option FaultPlan) (r : RedoRecord) (body before now : List ℕ) → IsSpelled r → body ≡ record_format.text r → HoldsByPlan plan (held before) body now → GrowsByPlan plan r before now
 grows_by_plan None r body before now spelled is stored = tt
 grows_by_plan (Some plan) r body before now spelled is stored = λ rs hold. holds_if (stands_by plan) rs r body before now spelled is hold stored
 

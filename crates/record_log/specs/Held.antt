@@ -3,7 +3,7 @@ use Rattle.std.specs.Prelude.{◌≡◌, ◌⊎◌, ℕ, Bool, true, false, List
 use Rattle.std.specs.List.{AllByRecursion}
 use Rattle.redo_record.specs.declared.record.RedoRecord.{RedoRecord}
 use Rattle.redo_log.specs.Cells.{bodies}
-use Rattle.block_disk.specs.Plan.{Plan}
+use Rattle.block_disk.specs.Plan.{FaultPlan}
 use Rattle.redo_log.specs.Log.{MayBeBegun}
 use Rattle.redo_log.specs.Stands.{stands_by, stands_after}
 use Rattle.record_log.specs.Records.{IsSpelled, bodies_of, disk_bytes}
@@ -33,12 +33,12 @@ abbrev pub GrowsIf : Bool → RedoRecord → List ℕ → List ℕ → Type 0
 GrowsIf stands r before now = (rs : List RedoRecord) → HoldRecords rs before → HoldRecords (with_record_if stands rs r) now
 
 -- after a failed append the new record stands where the plan says so, if the disk shows it
-abbrev pub GrowsByPlan : Option Plan → RedoRecord → List ℕ → List ℕ → Type 0
+abbrev pub GrowsByPlan : Option FaultPlan → RedoRecord → List ℕ → List ℕ → Type 0
 GrowsByPlan None r before now = Unit {0}
 GrowsByPlan (Some plan) r before now = GrowsIf (stands_by plan) r before now
 
 -- the same for an append after these calls, where one of them or the append failed
-abbrev pub GrowsByPlanAfter : List Bool → Option Plan → RedoRecord → List ℕ → List ℕ → Type 0
+abbrev pub GrowsByPlanAfter : List Bool → Option FaultPlan → RedoRecord → List ℕ → List ℕ → Type 0
 GrowsByPlanAfter calls None r before now = Unit {0}
 GrowsByPlanAfter calls (Some plan) r before now = GrowsIf (stands_after calls plan) r before now
 

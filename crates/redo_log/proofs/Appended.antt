@@ -3,7 +3,7 @@ use Rattle.std.proofs.Common.{◌≡◌, ℕ, ◌+◌, ◌<◌, ◌^◌, List, [
 use Rattle.block_disk.specs.Images.{IsOnly, AddsNone, GoesOn, AtEachMoment}
 use Rattle.redo_log.specs.Cells.{bodies, held, GrowsBy}
 use Rattle.redo_log.specs.Log.{IsSettled, HoldsWithOrWithout, staged, with_gate, MayBeStored}
-use Rattle.block_disk.specs.Plan.{Plan}
+use Rattle.block_disk.specs.Plan.{FaultPlan}
 use Rattle.redo_log.specs.Stands.{stands_by, IsStoredIf, IsStoredByPlan, HoldsByPlan}
 use Rattle.redo_log.specs.declared.log.Log.{Log}
 use Rattle.redo_log.proofs.Logs.{grows}
@@ -54,9 +54,9 @@ module _ {D : Type 0} (content : D → List ℕ) (images : D → List ℕ → Ty
         (ends ∙ sym (length-open log.end list (content log.disk) is.cells body fits))) only
 
   -- after a failed call the log holds the body where that stands by the plan
-  pub left : (plan now : Option Plan) (mid behind after : List ℕ) → now ≡ plan → mid ≡ content log.disk → behind ≡ staged body → length body < 2 ^ 32 → IsStoredByPlan now log.end behind mid after → HoldsByPlan plan list body after
+  pub left : (plan now : Option FaultPlan) (mid behind after : List ℕ) → now ≡ plan → mid ≡ content log.disk → behind ≡ staged body → length body < 2 ^ 32 → IsStoredByPlan now log.end behind mid after → HoldsByPlan plan list body after
   left None now mid behind after same_plan same is_staged fits stored_by = tt
   left (Some plan) now mid behind after same_plan same is_staged fits stored_by =
-      let by_plan : IsStoredByPlan (Some plan) log.end behind mid after = subst (λ (p : Option Plan). IsStoredByPlan p log.end behind mid after) same_plan stored_by in
+      let by_plan : IsStoredByPlan (Some plan) log.end behind mid after = subst (λ (p : Option FaultPlan). IsStoredByPlan p log.end behind mid after) same_plan stored_by in
       stored_if log.end list (content log.disk) is.cells body fits (stands_by plan) after
       (subst (λ (l : List ℕ). IsStoredIf (stands_by plan) log.end (staged body) l after) same (subst (λ (b : List ℕ). IsStoredIf (stands_by plan) log.end b mid after) is_staged by_plan))

@@ -1,6 +1,7 @@
 pub mod Cells
 pub mod Log
 pub mod Gates
-pub mod Loads
 pub mod Plans
+pub mod Runs
+pub mod Calls
 pub mod Stands

@@ -1,8 +1,7 @@
 -- What a log keeps on its disk, and what a crash may leave of it.
-use Rattle.std.specs.Prelude.{◌≡◌, ◌⊎◌, ◌+◌, ◌≤◌, ℕ, zero, suc, true, false, List, [], ◌∷◌, ◌++◌, length, take, drop, Some, Result, Ok, Err, ⊤}
+use Rattle.std.specs.Prelude.{◌≡◌, ◌⊎◌, ◌+◌, ◌≤◌, ℕ, true, false, List, [], ◌∷◌, ◌++◌, length, take, drop, Some, Result, Ok, Err, ⊤}
 use Rattle.std.specs.Int.{to_be_bytes, w32}
 use Rattle.block_disk.specs.Images.{IsOnly}
-use Rattle.block_disk.specs.Counts.{next_count}
 use Rattle.redo_log.specs.Cells.{bodies, held, IsLogTo}
 use Rattle.redo_log.specs.declared.log.Log.{Log}
 use Rattle.redo_log.specs.declared.err.LogErr.{LogErr}
@@ -33,11 +32,6 @@ IsUsable content images log = IsIntact log → IsSettled content images log
 abbrev pub HoldsWithOrWithout : List (List ℕ) → List ℕ → List ℕ → Type 0
 HoldsWithOrWithout list body image = (bodies image ≡ Some list) ⊎ (bodies image ≡ Some (list ++ body ∷ []))
 
--- the count after so many calls more
-abbrev pub count_after : ℕ → ℕ → ℕ
-count_after zero count = count
-count_after (suc calls) count = next_count (count_after calls count)
-
 -- for a call that was refused before the disk did anything
 abbrev pub OnRefused : {T : Type 0} → Result T LogErr → Type 0 → Type 0
 OnRefused (Ok value) P = ⊤
@@ -61,8 +55,3 @@ MayBeStored gate behind before image = (take (gate + 1) image ≡ take (gate + 1
 pub record MayBeBegun (image : List ℕ) : Type 0 where
   pub short : length image ≤ 1
   pub empty : held image ≡ []
-
--- how many disk calls read a content: a sync, its length and, where there is one, the bytes
-abbrev pub calls_to_load : List ℕ → ℕ
-calls_to_load [] = 2
-calls_to_load (byte ∷ bytes) = 3

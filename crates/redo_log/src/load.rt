@@ -1,11 +1,10 @@
 //! How a log is read from a disk.
-ghost use Rattle.std.specs.Prelude.{◌≡◌, ◌≢◌, ◌≤◌, ◌<◌, ◌^◌, None, true, false, length, IfOk, OnOk, OnErr, IsErrOf, MatchResult};
-ghost use Rattle.dtx_ports.specs.Causes.{Rose};
-ghost use Rattle.block_disk.specs.Images.{IsOnly, AtEachMoment};
+ghost use Rattle.std.specs.Prelude.{◌≡◌, ◌<◌, ◌^◌, None, length, IfOk, IfErr, OnOk, IsErrOf};
+ghost use Rattle.block_disk.specs.Images.{IsOnly};
+ghost use Rattle.redo_log.specs.Calls.{LoadFails, length_calls};
 ghost use Rattle.redo_log.specs.Cells.{bodies, IsLogTo};
-ghost use Rattle.redo_log.specs.Log.{count_after, calls_to_load};
-ghost use Rattle.redo_log.specs.Loads.{IsLoadCount};
-ghost use Rattle.redo_log.specs.Plans.{CallsGoByPlan, load_calls};
+ghost use Rattle.redo_log.specs.Plans.{load_calls};
+ghost use Rattle.redo_log.specs.Runs.{HasRun, MetFault, IsOnlyRead};
 
 use crate::gate::{Gate, first_gate};
 use crate::{Bodies, LoadWhy};
@@ -16,20 +15,10 @@ use std::alloc::Global;
 pub(crate) fn read_log<D: Disk>(alloc: Global, disk: &mut D) -> Result<(Bodies, u64), LoadWhy>
     requires { length (D.content disk.old) < 2 ^ 63 }
     ensures log { IfOk result (λ found. IsLogTo found.1 found.0 (D.content disk.old)) }
-    ensures not_a_log { IsErrOf result LoadWhy.NotALog → bodies (D.content disk.old) ≡ None }
     ensures durable { OnOk result (IsOnly (D.content disk.new) (D.images disk.new)) }
-    ensures content { D.content disk.new ≡ D.content disk.old }
-    ensures any_moment { AtEachMoment D.moment D.images_since disk.old disk.new (D.images disk.old) }
-    ensures fault { IsErrOf result LoadWhy.Fault → Rose (D.faults disk.old) (D.faults disk.new) }
-    ensures later { D.faults disk.old ≤ D.faults disk.new }
-    ensures unfailed { MatchResult result (λ _. D.faults disk.new ≡ D.faults disk.old) (λ why. why ≢ LoadWhy.Fault → D.faults disk.new ≡ D.faults disk.old) }
-    ensures calls { OnOk result (D.calls disk.new ≡ count_after 3 (D.calls disk.old)) }
-    ensures calls_for_nothing { IsErrOf result LoadWhy.NotALog → D.calls disk.new ≡ count_after (calls_to_load (D.content disk.old)) (D.calls disk.old) }
-    ensures failed_calls { OnErr result (IsLoadCount (D.calls disk.old) (D.calls disk.new)) }
-    ensures writes { D.writes disk.new ≡ D.writes disk.old }
-    ensures plan { OnOk result (CallsGoByPlan (load_calls (D.content disk.old)) (D.plan disk.old) (D.plan disk.new) false) }
-    ensures not_a_log_plan { IsErrOf result LoadWhy.NotALog → CallsGoByPlan (load_calls (D.content disk.old)) (D.plan disk.old) (D.plan disk.new) false }
-    ensures fault_plan { IsErrOf result LoadWhy.Fault → CallsGoByPlan (load_calls (D.content disk.old)) (D.plan disk.old) (D.plan disk.new) true }
+    ensures read { IsOnlyRead D.Disk disk.old disk.new }
+    ensures run { OnOk result (HasRun D.Disk (load_calls (D.content disk.old)) disk.old disk.new) }
+    ensures failed { IfErr result (λ why. LoadFails D.Disk why disk.old disk.new) }
 {
     let bytes = read_synced(alloc, disk)?;
     parse(alloc, &bytes)
@@ -40,17 +29,11 @@ fn read_synced<D: Disk>(alloc: Global, disk: &mut D) -> Result<Vec<u8>, LoadWhy>
     requires { length (D.content disk.old) < 2 ^ 63 }
     ensures bytes { IfOk result (λ bytes. bytes.items ≡ D.content disk.old) }
     ensures durable { OnOk result (IsOnly (D.content disk.new) (D.images disk.new)) }
-    ensures content { D.content disk.new ≡ D.content disk.old }
-    ensures any_moment { AtEachMoment D.moment D.images_since disk.old disk.new (D.images disk.old) }
-    ensures read { IsErrOf result LoadWhy.NotALog → ⊥ }
-    ensures fault { IsErrOf result LoadWhy.Fault → Rose (D.faults disk.old) (D.faults disk.new) }
-    ensures later { D.faults disk.old ≤ D.faults disk.new }
-    ensures unfailed { MatchResult result (λ _. D.faults disk.new ≡ D.faults disk.old) (λ why. why ≢ LoadWhy.Fault → D.faults disk.new ≡ D.faults disk.old) }
-    ensures calls { OnOk result (D.calls disk.new ≡ count_after (calls_to_load (D.content disk.old)) (D.calls disk.old)) }
-    ensures failed_calls { OnErr result (IsLoadCount (D.calls disk.old) (D.calls disk.new)) }
-    ensures writes { D.writes disk.new ≡ D.writes disk.old }
-    ensures plan { OnOk result (CallsGoByPlan (load_calls (D.content disk.old)) (D.plan disk.old) (D.plan disk.new) false) }
-    ensures fault_plan { IsErrOf result LoadWhy.Fault → CallsGoByPlan (load_calls (D.content disk.old)) (D.plan disk.old) (D.plan disk.new) true }
+    ensures read { IsOnlyRead D.Disk disk.old disk.new }
+    ensures run { OnOk result (HasRun D.Disk (load_calls (D.content disk.old)) disk.old disk.new) }
+    ensures failed { IsErrOf result LoadWhy.Fault → MetFault D.Disk (load_calls (D.content disk.old)) disk.old disk.new }
+    ensures memory { IsErrOf result LoadWhy.NoMemory → HasRun D.Disk length_calls disk.old disk.new }
+    ensures all_read { IsErrOf result LoadWhy.NotALog → ⊥ }
 {
     disk.sync()?;
     let length = disk.len()?;

@@ -6,7 +6,7 @@ use Rattle.std.specs.List.{AllByRecursion, remove}
 use Rattle.tran_ids.specs.Branch.{same, branch_below, put_by_branch}
 use Rattle.tran_ids.specs.declared.branch.BranchId.{BranchId}
 use Rattle.tran_ids.proofs.BranchLemmas.{equal_from_same}
-use Rattle.redo_record.specs.declared.durable.Standing.{Standing}
+use Rattle.redo_record.specs.declared.durable.KeptRow.{KeptRow}
 use Rattle.redo_record.specs.Order.{NoneBefore, AreInOrder}
 
 -- ---- the order of branches
@@ -34,10 +34,10 @@ not_before_front b a c ac bc = grind (arith, nat_tests, ac, bc)
 
 -- ---- rows at places
 
-pub none_before_at : (b : BranchId) (ks : List Standing) (i : ℕ) (d : Standing) → NoneBefore b ks → i < length ks → branch_below (get_or ks i d).me b ≡ false
-none_before_at b ks i d none within = All-from_recursion (λ (s : Standing). branch_below s.me b ≡ false) ks none i d within
+pub none_before_at : (b : BranchId) (ks : List KeptRow) (i : ℕ) (d : KeptRow) → NoneBefore b ks → i < length ks → branch_below (get_or ks i d).me b ≡ false
+none_before_at b ks i d none within = All-from_recursion (λ (s : KeptRow). branch_below s.me b ≡ false) ks none i d within
 
-pub in_order_at : (ks : List Standing) → AreInOrder ks → (i j : ℕ) (d : Standing) → i ≤ j → j < length ks → branch_below (get_or ks j d).me (get_or ks i d).me ≡ false
+pub in_order_at : (ks : List KeptRow) → AreInOrder ks → (i j : ℕ) (d : KeptRow) → i ≤ j → j < length ks → branch_below (get_or ks j d).me (get_or ks i d).me ≡ false
 in_order_at [] order i j d le lt = absurd (omega arith)
 in_order_at (s ∷ ks) order zero zero d le lt = self_not_below s.me
 in_order_at (s ∷ ks) order zero (suc j) d le lt = none_before_at s.me ks j d order.0 (omega arith)
@@ -46,74 +46,74 @@ in_order_at (s ∷ ks) order (suc i) (suc j) d le lt = in_order_at ks order.1 i 
 
 -- ---- edits
 
-none_before_further : (a b : BranchId) (ks : List Standing) → branch_below b a ≡ false → NoneBefore b ks → NoneBefore a ks
+none_before_further : (a b : BranchId) (ks : List KeptRow) → branch_below b a ≡ false → NoneBefore b ks → NoneBefore a ks
 none_before_further a b [] ab none = tt
 none_before_further a b (s ∷ ks) ab none = (not_below_far a b s.me ab none.0, none_before_further a b ks ab none.1)
 
 -- a row put at its place
 
-abbrev put_row : List Standing → Standing → List Standing
-put_row ks x = put_by_branch (λ (y : Standing). y.me) ks x
+abbrev put_row : List KeptRow → KeptRow → List KeptRow
+put_row ks x = put_by_branch (λ (y : KeptRow). y.me) ks x
 
-none_put_if : (b : BranchId) (x s : Standing) (ks more : List Standing) (first : Bool) → branch_below x.me b ≡ false → NoneBefore b (s ∷ ks) → NoneBefore b more
+none_put_if : (b : BranchId) (x s : KeptRow) (ks more : List KeptRow) (first : Bool) → branch_below x.me b ≡ false → NoneBefore b (s ∷ ks) → NoneBefore b more
     → NoneBefore b (if first then x ∷ s ∷ ks else s ∷ more)
 none_put_if b x s ks more true bx none later = (bx, none)
 none_put_if b x s ks more false bx none later = (none.0, later)
 
-none_put : (b : BranchId) (x : Standing) (ks : List Standing) → branch_below x.me b ≡ false → NoneBefore b ks → NoneBefore b (put_row ks x)
+none_put : (b : BranchId) (x : KeptRow) (ks : List KeptRow) → branch_below x.me b ≡ false → NoneBefore b ks → NoneBefore b (put_row ks x)
 none_put b x [] bx none = (bx, tt)
 none_put b x (s ∷ ks) bx none = none_put_if b x s ks (put_row ks x) (branch_below x.me s.me) bx none (none_put b x ks bx none.1)
 
-put_in_order_if : (x s : Standing) (ks : List Standing) (first : Bool) → branch_below x.me s.me ≡ first → AreInOrder (s ∷ ks) → AreInOrder (put_row ks x)
+put_in_order_if : (x s : KeptRow) (ks : List KeptRow) (first : Bool) → branch_below x.me s.me ≡ first → AreInOrder (s ∷ ks) → AreInOrder (put_row ks x)
     → AreInOrder (if first then x ∷ s ∷ ks else s ∷ put_row ks x)
 put_in_order_if x s ks true is order later =
     let sx = below_one_way x.me s.me is in
     ((sx, none_before_further x.me s.me ks sx order.0), order)
 put_in_order_if x s ks false is order later = (none_put s.me x ks is order.0, later)
 
-pub put_in_order : (ks : List Standing) (x : Standing) → AreInOrder ks → AreInOrder (put_row ks x)
+pub put_in_order : (ks : List KeptRow) (x : KeptRow) → AreInOrder ks → AreInOrder (put_row ks x)
 put_in_order [] x order = (tt, tt)
 put_in_order (s ∷ ks) x order = put_in_order_if x s ks (branch_below x.me s.me) refl order (put_in_order ks x order.1)
 
 -- rows changed, each under its id
 
-module _ (f : Standing → Standing) (keeps : (s : Standing) → (f s).me ≡ s.me) where
-  none_map : (b : BranchId) (ks : List Standing) → NoneBefore b ks → NoneBefore b (map f ks)
+module _ (f : KeptRow → KeptRow) (keeps : (s : KeptRow) → (f s).me ≡ s.me) where
+  none_map : (b : BranchId) (ks : List KeptRow) → NoneBefore b ks → NoneBefore b (map f ks)
   none_map b [] none = tt
   none_map b (s ∷ ks) none = (ap (λ a. branch_below a b) (keeps s) ∙ none.0, none_map b ks none.1)
 
-  pub map_in_order : (ks : List Standing) → AreInOrder ks → AreInOrder (map f ks)
+  pub map_in_order : (ks : List KeptRow) → AreInOrder ks → AreInOrder (map f ks)
   map_in_order [] order = tt
   map_in_order (s ∷ ks) order = (subst (λ a. NoneBefore a (map f ks)) (sym (keeps s)) (none_map s.me ks order.0), map_in_order ks order.1)
 
 -- rows that stay where others go
 
-module _ (p : Standing → Bool) where
-  none_filter_if : (b : BranchId) (s : Standing) (more : List Standing) (stays : Bool) → branch_below s.me b ≡ false → NoneBefore b more → NoneBefore b (cond stays (s ∷ more) more)
+module _ (p : KeptRow → Bool) where
+  none_filter_if : (b : BranchId) (s : KeptRow) (more : List KeptRow) (stays : Bool) → branch_below s.me b ≡ false → NoneBefore b more → NoneBefore b (cond stays (s ∷ more) more)
   none_filter_if b s more true bs later = (bs, later)
   none_filter_if b s more false bs later = later
 
-  none_filter : (b : BranchId) (ks : List Standing) → NoneBefore b ks → NoneBefore b (filter p ks)
+  none_filter : (b : BranchId) (ks : List KeptRow) → NoneBefore b ks → NoneBefore b (filter p ks)
   none_filter b [] none = tt
   none_filter b (s ∷ ks) none = none_filter_if b s (filter p ks) (p s) none.0 (none_filter b ks none.1)
 
-  filter_in_order_if : (s : Standing) (ks : List Standing) (stays : Bool) → NoneBefore s.me ks → AreInOrder (filter p ks) → AreInOrder (cond stays (s ∷ filter p ks) (filter p ks))
+  filter_in_order_if : (s : KeptRow) (ks : List KeptRow) (stays : Bool) → NoneBefore s.me ks → AreInOrder (filter p ks) → AreInOrder (cond stays (s ∷ filter p ks) (filter p ks))
   filter_in_order_if s ks true none later = (none_filter s.me ks none, later)
   filter_in_order_if s ks false none later = later
 
-  pub filter_in_order : (ks : List Standing) → AreInOrder ks → AreInOrder (filter p ks)
+  pub filter_in_order : (ks : List KeptRow) → AreInOrder ks → AreInOrder (filter p ks)
   filter_in_order [] order = tt
   filter_in_order (s ∷ ks) order = filter_in_order_if s ks (p s) order.0 (filter_in_order ks order.1)
 
 -- one row taken out
 
-none_remove : (b : BranchId) (ks : List Standing) (i : ℕ) → NoneBefore b ks → NoneBefore b (remove ks i)
+none_remove : (b : BranchId) (ks : List KeptRow) (i : ℕ) → NoneBefore b ks → NoneBefore b (remove ks i)
 none_remove b [] zero none = tt
 none_remove b [] (suc i) none = tt
 none_remove b (s ∷ ks) zero none = none.1
 none_remove b (s ∷ ks) (suc i) none = (none.0, none_remove b ks i none.1)
 
-pub remove_in_order : (ks : List Standing) (i : ℕ) → AreInOrder ks → AreInOrder (remove ks i)
+pub remove_in_order : (ks : List KeptRow) (i : ℕ) → AreInOrder ks → AreInOrder (remove ks i)
 remove_in_order [] zero order = tt
 remove_in_order [] (suc i) order = tt
 remove_in_order (s ∷ ks) zero order = order.1
@@ -121,12 +121,12 @@ remove_in_order (s ∷ ks) (suc i) order = (none_remove s.me ks i order.0, remov
 
 -- another row of the same id at a place
 
-none_set : (b : BranchId) (ks : List Standing) (i : ℕ) (x : Standing) → branch_below x.me b ≡ false → NoneBefore b ks → NoneBefore b (set ks i x)
+none_set : (b : BranchId) (ks : List KeptRow) (i : ℕ) (x : KeptRow) → branch_below x.me b ≡ false → NoneBefore b ks → NoneBefore b (set ks i x)
 none_set b [] i x bx none = tt
 none_set b (s ∷ ks) zero x bx none = (bx, none.1)
 none_set b (s ∷ ks) (suc i) x bx none = (none.0, none_set b ks i x bx none.1)
 
-pub set_in_order : (ks : List Standing) (i : ℕ) (x d : Standing) → i < length ks → x.me ≡ (get_or ks i d).me → AreInOrder ks → AreInOrder (set ks i x)
+pub set_in_order : (ks : List KeptRow) (i : ℕ) (x d : KeptRow) → i < length ks → x.me ≡ (get_or ks i d).me → AreInOrder ks → AreInOrder (set ks i x)
 set_in_order [] i x d within is order = tt
 set_in_order (s ∷ ks) zero x d within is order = (subst (λ a. NoneBefore a ks) (sym is) order.0, order.1)
 set_in_order (s ∷ ks) (suc i) x d within is order =
@@ -135,12 +135,12 @@ set_in_order (s ∷ ks) (suc i) x d within is order =
 
 -- the rows of the first places
 
-none_take : (b : BranchId) (n : ℕ) (ks : List Standing) → NoneBefore b ks → NoneBefore b (take n ks)
+none_take : (b : BranchId) (n : ℕ) (ks : List KeptRow) → NoneBefore b ks → NoneBefore b (take n ks)
 none_take b zero ks none = tt
 none_take b (suc n) [] none = tt
 none_take b (suc n) (s ∷ ks) none = (none.0, none_take b n ks none.1)
 
-pub take_in_order : (n : ℕ) (ks : List Standing) → AreInOrder ks → AreInOrder (take n ks)
+pub take_in_order : (n : ℕ) (ks : List KeptRow) → AreInOrder ks → AreInOrder (take n ks)
 take_in_order zero ks order = tt
 take_in_order (suc n) [] order = tt
 take_in_order (suc n) (s ∷ ks) order = (none_take s.me n ks order.0, take_in_order n ks order.1)

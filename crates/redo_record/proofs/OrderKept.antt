@@ -1,6 +1,6 @@
 -- Rows in order stay in order after a record.
 use Rattle.std.proofs.Common.{◌≡◌, ℕ, Bool, true, false, not, if◌then◌else◌, List, refl}
-use Rattle.redo_record.specs.Data.{BranchId, Decision, RedoRecord, Standing}
+use Rattle.redo_record.specs.Data.{BranchId, Decision, RedoRecord, KeptRow}
 use Rattle.redo_record.specs.Data.decisions
 use Rattle.redo_record.specs.Data.records
 use Rattle.redo_record.specs.Kept.{stands_at, keep_decided, ended_commit, ended, forced_state, in_state, met_as, met, forgot_as, is_done, forgotten, hidden_as, kept_after}
@@ -9,18 +9,18 @@ use Rattle.redo_record.specs.Rows.{sealed_as, decided_as, has_neighbors}
 use Rattle.redo_record.specs.Order.{AreInOrder}
 use Rattle.redo_record.proofs.InOrder.{put_in_order, map_in_order, filter_in_order}
 
-module _ (ks : List Standing) (order : AreInOrder ks) where
-  same_if : (f : Standing → Standing) (s : Standing) (hit : Bool) → (f s).me ≡ s.me → (if hit then f s else s).me ≡ s.me
+module _ (ks : List KeptRow) (order : AreInOrder ks) where
+  same_if : (f : KeptRow → KeptRow) (s : KeptRow) (hit : Bool) → (f s).me ≡ s.me → (if hit then f s else s).me ≡ s.me
   same_if f s true keeps = keeps
   same_if f s false keeps = refl
 
-  changed : (b : BranchId) (f : Standing → Standing) → ((s : Standing) → (f s).me ≡ s.me) → AreInOrder (change_where (stands_at b) f ks)
-  changed b f keeps = map_in_order (λ (s : Standing). if stands_at b s then f s else s) (λ s. same_if f s (stands_at b s) (keeps s)) ks order
+  changed : (b : BranchId) (f : KeptRow → KeptRow) → ((s : KeptRow) → (f s).me ≡ s.me) → AreInOrder (change_where (stands_at b) f ks)
+  changed b f keeps = map_in_order (λ (s : KeptRow). if stands_at b s then f s else s) (λ s. same_if f s (stands_at b s) (keeps s)) ks order
 
-  dropped : (p : Standing → Bool) → AreInOrder (drop_where p ks)
-  dropped p = filter_in_order (λ (s : Standing). not (p s)) ks order
+  dropped : (p : KeptRow → Bool) → AreInOrder (drop_where p ks)
+  dropped p = filter_in_order (λ (s : KeptRow). not (p s)) ks order
 
-  decided_if : (x : Standing) (kept : Bool) → has_neighbors x ≡ kept → AreInOrder (keep_decided ks x)
+  decided_if : (x : KeptRow) (kept : Bool) → has_neighbors x ≡ kept → AreInOrder (keep_decided ks x)
   decided_if x true is = rw is (put_in_order ks x order)
   decided_if x false is = rw is order
 
@@ -33,10 +33,10 @@ module _ (ks : List Standing) (order : AreInOrder ks) where
   after_met b (decisions.Commit n) false = changed b (met_as (decisions.Commit n) false) (λ s. refl)
   after_met b decisions.Rollback false = dropped (stands_at b)
 
-again : (ks : List Standing) (b : BranchId) → AreInOrder ks → AreInOrder (forgotten ks b)
+again : (ks : List KeptRow) (b : BranchId) → AreInOrder ks → AreInOrder (forgotten ks b)
 again ks b order = changed (drop_where (is_done b) ks) (dropped ks order (is_done b)) b forgot_as (λ s. refl)
 
-pub after_in_order : (ks : List Standing) (item : RedoRecord) → AreInOrder ks → AreInOrder (kept_after ks item)
+pub after_in_order : (ks : List KeptRow) (item : RedoRecord) → AreInOrder ks → AreInOrder (kept_after ks item)
 unfolding kept_after
 after_in_order ks (records.Boot n) order = order
 after_in_order ks (records.Table t) order = order

@@ -14,5 +14,5 @@ pub use Rattle.redo_record.specs.declared.record.RedoRecord.TheVariants as recor
 pub use Rattle.redo_record.specs.declared.durable.State.{State}
 pub use Rattle.redo_record.specs.declared.durable.State.TheVariants as states
 pub use Rattle.redo_record.specs.declared.durable.Kid.{Kid}
-pub use Rattle.redo_record.specs.declared.durable.Standing.{Standing}
+pub use Rattle.redo_record.specs.declared.durable.KeptRow.{KeptRow}
 pub use Rattle.redo_record.specs.declared.durable.Durable.{Durable}

@@ -1,6 +1,6 @@
 -- What the records of a node say, but for its rows: a fold, which a start makes again from the disk.
 use Rattle.std.specs.Prelude.{true, List, [], ◌∷◌, ◌++◌, fold, Some, None}
-use Rattle.redo_record.specs.Data.{Param, RedoRecord, Standing, Durable}
+use Rattle.redo_record.specs.Data.{Param, RedoRecord, KeptRow, Durable}
 use Rattle.redo_record.specs.Data.records
 use Rattle.redo_record.specs.Data.params
 use Rattle.redo_record.specs.Kept.{kept_after}
@@ -15,7 +15,7 @@ set_param d (params.Recovery on) = record d { recovery = on }
 set_param d (params.Strength strength) = record d { strength = Some strength }
 
 -- with other kept branches
-abbrev pub with_kept : Durable → List Standing → Durable
+abbrev pub with_kept : Durable → List KeptRow → Durable
 with_kept d ks = record d { kept = ks }
 
 -- after one more record

@@ -1,6 +1,6 @@
 -- The row that a branch has when its first record stands.
 use Rattle.std.specs.Prelude.{Bool, false, ◌||◌, map, slice_get, is_some, option_map, Option, Some, None}
-use Rattle.redo_record.specs.Data.{BranchId, Peer, Toward, Sealed, Decided, Kid, Standing}
+use Rattle.redo_record.specs.Data.{BranchId, Peer, Toward, Sealed, Decided, Kid, KeptRow}
 use Rattle.redo_record.specs.Data.decisions
 use Rattle.redo_record.specs.Data.towards
 use Rattle.redo_record.specs.Data.states
@@ -15,7 +15,7 @@ toward_of r towards.Parent = r.parent
 toward_of r (towards.Child i) = option_map (λ p. p.branch) (slice_get r.children i)
 
 -- a branch that is prepared
-abbrev pub sealed_as : Sealed → Standing
+abbrev pub sealed_as : Sealed → KeptRow
 sealed_as r = record {
   me = r.me;
   root = r.root;
@@ -34,7 +34,7 @@ sealed_as r = record {
 }
 
 -- the commit point site: no neighbour of it is on the way to it
-abbrev pub decided_as : Decided → Standing
+abbrev pub decided_as : Decided → KeptRow
 decided_as r = record {
   me = r.me;
   root = r.root;
@@ -53,5 +53,5 @@ decided_as r = record {
 }
 
 -- whether there is a parent or a child
-abbrev pub has_neighbors : Standing → Bool
+abbrev pub has_neighbors : KeptRow → Bool
 has_neighbors s = is_some s.parent || is_some (slice_get s.children 0)

@@ -63,7 +63,7 @@ impl Duplicate for Kid {
 }
 
 /// A branch that the node keeps a row of.
-pub struct Standing {
+pub struct KeptRow {
     /// The branch.
     pub me: BranchId,
     /// The root of its transaction.
@@ -94,9 +94,9 @@ pub struct Standing {
     pub hidden: bool,
 }
 
-impl Drop for Standing {
+impl Drop for KeptRow {
     fn drop(self) {
-        let Standing {
+        let KeptRow {
             me: _me,
             root: _root,
             scn: _scn,
@@ -117,11 +117,11 @@ impl Drop for Standing {
     }
 }
 
-impl Duplicate for Standing {
-    fn copy(&self, alloc: Global) -> Result<Standing, AllocError> {
+impl Duplicate for KeptRow {
+    fn copy(&self, alloc: Global) -> Result<KeptRow, AllocError> {
         let children = self.children.copy(alloc)?;
         let comment = self.comment.copy(alloc)?;
-        Ok(Standing {
+        Ok(KeptRow {
             me: self.me,
             root: self.root,
             scn: self.scn,

@@ -9,7 +9,7 @@ ghost use Rattle.redo_record.specs.Leaving.{leaves};
 use crate::news::{News, tell_branch};
 use crate::row::{decided_row, has_neighbors, sealed_row};
 use crate::search::{Leaving, place_of, position_of};
-use crate::{Decision, RedoRecord, Standing, State};
+use crate::{Decision, KeptRow, RedoRecord, State};
 use std::alloc::{AllocError, Global};
 use tran_ids::BranchId;
 
@@ -17,7 +17,7 @@ use tran_ids::BranchId;
 /// then they stay as they are.
 #[tactic(auto, unfolding(crate::specs::Kept::kept_after))]
 pub(crate) fn apply_record(
-    kept: &mut Vec<Standing>,
+    kept: &mut Vec<KeptRow>,
     alloc: Global,
     item: &RedoRecord,
 ) -> Result<(), AllocError>
@@ -47,7 +47,7 @@ pub(crate) fn apply_record(
 }
 
 // Rows stand in the order of their branches.
-fn place_for(kept: &[Standing], row: &Standing) -> usize
+fn place_for(kept: &[KeptRow], row: &KeptRow) -> usize
     requires { AreInOrder kept.now }
     ensures added { insert kept.now result row.now ≡ add_kept kept.now row.now }
     ensures within { result ≤ length kept.now }
@@ -55,7 +55,7 @@ fn place_for(kept: &[Standing], row: &Standing) -> usize
     place_of(kept, &row.me)
 }
 
-fn add(kept: &mut Vec<Standing>, row: Standing) -> Result<(), AllocError>
+fn add(kept: &mut Vec<KeptRow>, row: KeptRow) -> Result<(), AllocError>
     requires { AreInOrder kept.old.items }
     ensures ok { OnOk result (kept.new.items ≡ add_kept kept.old.items row) }
     ensures err { OnErr result (kept.new.items ≡ kept.old.items) }
@@ -66,7 +66,7 @@ fn add(kept: &mut Vec<Standing>, row: Standing) -> Result<(), AllocError>
 }
 
 // A decided branch without neighbours is not kept.
-fn decide(kept: &mut Vec<Standing>, row: Standing) -> Result<(), AllocError>
+fn decide(kept: &mut Vec<KeptRow>, row: KeptRow) -> Result<(), AllocError>
     requires { AreInOrder kept.old.items }
     ensures ok { OnOk result (kept.new.items ≡ keep_decided kept.old.items row) }
     ensures err { OnErr result (kept.new.items ≡ kept.old.items) }
@@ -79,7 +79,7 @@ fn decide(kept: &mut Vec<Standing>, row: Standing) -> Result<(), AllocError>
 }
 
 // The rows of a branch that go are taken out, one after the other.
-fn drop_rows(kept: &mut Vec<Standing>, me: &BranchId, leaving: Leaving)
+fn drop_rows(kept: &mut Vec<KeptRow>, me: &BranchId, leaving: Leaving)
     requires { AreInOrder kept.old.items }
     ensures { kept.new.items ≡ drop_where (leaves leaving me.now) kept.old.items }
 {
@@ -88,7 +88,7 @@ fn drop_rows(kept: &mut Vec<Standing>, me: &BranchId, leaving: Leaving)
     }
 }
 
-fn end(kept: &mut Vec<Standing>, me: &BranchId, decision: &Decision)
+fn end(kept: &mut Vec<KeptRow>, me: &BranchId, decision: &Decision)
     requires { AreInOrder kept.old.items }
     ensures { kept.new.items ≡ ended kept.old.items me.now decision.now }
 {
@@ -108,7 +108,7 @@ fn state_of(forced: &Decision) -> State
 }
 
 // The decision stays unknown.
-fn force(kept: &mut Vec<Standing>, me: &BranchId, decision: &Decision)
+fn force(kept: &mut Vec<KeptRow>, me: &BranchId, decision: &Decision)
     requires { AreInOrder kept.old.items }
     ensures { kept.new.items ≡ forced kept.old.items me.now decision.now }
 {
@@ -116,7 +116,7 @@ fn force(kept: &mut Vec<Standing>, me: &BranchId, decision: &Decision)
 }
 
 // A row that is found mixed stays, whatever the decision is.
-fn meet(kept: &mut Vec<Standing>, me: &BranchId, decision: &Decision, mixed: bool)
+fn meet(kept: &mut Vec<KeptRow>, me: &BranchId, decision: &Decision, mixed: bool)
     requires { AreInOrder kept.old.items }
     ensures { kept.new.items ≡ met kept.old.items me.now decision.now mixed }
 {
@@ -130,7 +130,7 @@ fn meet(kept: &mut Vec<Standing>, me: &BranchId, decision: &Decision, mixed: boo
     }
 }
 
-fn learn(kept: &mut Vec<Standing>, me: &BranchId, decision: &Decision, mixed: bool)
+fn learn(kept: &mut Vec<KeptRow>, me: &BranchId, decision: &Decision, mixed: bool)
     requires { AreInOrder kept.old.items }
     ensures { kept.new.items ≡ change_where (stands_at me.now) (met_as decision.now mixed) kept.old.items }
 {
@@ -138,7 +138,7 @@ fn learn(kept: &mut Vec<Standing>, me: &BranchId, decision: &Decision, mixed: bo
     tell_branch(kept, me, News::Learns { decision, mixed });
 }
 
-fn forget(kept: &mut Vec<Standing>, me: &BranchId)
+fn forget(kept: &mut Vec<KeptRow>, me: &BranchId)
     requires { AreInOrder kept.old.items }
     ensures { kept.new.items ≡ forgotten kept.old.items me.now }
 {
@@ -146,7 +146,7 @@ fn forget(kept: &mut Vec<Standing>, me: &BranchId)
     tell_branch(kept, me, News::Forgets);
 }
 
-fn hide(kept: &mut Vec<Standing>, me: &BranchId)
+fn hide(kept: &mut Vec<KeptRow>, me: &BranchId)
     requires { AreInOrder kept.old.items }
     ensures { kept.new.items ≡ hidden kept.old.items me.now }
 {

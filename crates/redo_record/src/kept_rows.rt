@@ -3,13 +3,13 @@ ghost use Rattle.std.specs.Prelude.{◌≡◌, [], true, find, is_some, IfNone, 
 ghost use Rattle.std.specs.Option.{option_copied};
 ghost use Rattle.tran_ids.specs.Branch.{same};
 ghost use Rattle.tran_ids.specs.Listed.{put_item};
-ghost use Rattle.redo_record.specs.declared.durable.Standing.{Standing};
+ghost use Rattle.redo_record.specs.declared.durable.KeptRow.{KeptRow};
 ghost use Rattle.redo_record.specs.Kept.{stands_at, kept_after};
 ghost use Rattle.redo_record.specs.Leaving.{row_id};
 
 use crate::kept::apply_record;
 use crate::search::{Leaving, position_of, row_at};
-use crate::{Kids, RedoRecord, Standing, State};
+use crate::{KeptRow, Kids, RedoRecord, State};
 use dtx_values::{Duplicate, Listing};
 use std::alloc::{AllocError, Global};
 use std::marker::Model;
@@ -18,7 +18,7 @@ use tran_ids::BranchId;
 
 /// The rows of the branches that a node keeps, in the order of their ids. A row is found by halves.
 pub struct KeptRows {
-    rows: Vec<Standing>,
+    rows: Vec<KeptRow>,
 }
 
 impl Drop for KeptRows {
@@ -30,10 +30,10 @@ impl Drop for KeptRows {
 
 impl Model for KeptRows {
     ghost use Rattle.std.specs.Prelude.{List};
-    ghost use Rattle.redo_record.specs.declared.durable.Standing.{Standing};
+    ghost use Rattle.redo_record.specs.declared.durable.KeptRow.{KeptRow};
     ghost use Rattle.redo_record.specs.Order.{AreInOrder};
 
-    ghost Value = { List Standing };
+    ghost Value = { List KeptRow };
 
     ghost view = { λ k. k.rows.items };
 
@@ -51,14 +51,14 @@ impl KeptRows {
     }
 
     /// All rows, in the order of their branches.
-    pub fn as_slice(&self) -> &[Standing]
+    pub fn as_slice(&self) -> &[KeptRow]
         ensures { result.now ≡ self.now }
     {
         self.rows.as_slice()
     }
 
     /// The row of a branch, where it is kept.
-    pub fn find(&self, branch: &BranchId) -> Option<&Standing>
+    pub fn find(&self, branch: &BranchId) -> Option<&KeptRow>
         ensures { option_copied result ≡ find (stands_at branch.now) self.now }
     {
         match position_of(&self.rows, branch, Leaving::Any) {
@@ -77,11 +77,11 @@ impl KeptRows {
 
     /// Lends the row of a branch, where it is kept. Until it is put back an empty row stands in its place. No memory is
     /// taken.
-    pub fn lend(&mut self, alloc: Global, branch: &BranchId) -> Option<Standing>
+    pub fn lend(&mut self, alloc: Global, branch: &BranchId) -> Option<KeptRow>
         ensures row { result ≡ find (stands_at branch.now) self.old }
 
         // Once a row of the branch is put back, all is as if it had been put in place of the one that was lent.
-        ensures place { (row : Standing) → row.me ≡ branch.now → put_item row_id self.new row ≡ put_item row_id self.old row }
+        ensures place { (row : KeptRow) → row.me ≡ branch.now → put_item row_id self.new row ≡ put_item row_id self.old row }
         ensures kept { is_some (find (stands_at branch.now) self.new) ≡ is_some (find (stands_at branch.now) self.old) }
         ensures none { IfNone result (self.new ≡ self.old) }
     {
@@ -92,7 +92,7 @@ impl KeptRows {
     }
 
     /// Puts a row in the place of that of its branch, which is kept.
-    pub fn put(&mut self, row: Standing)
+    pub fn put(&mut self, row: KeptRow)
         requires { is_some (find (stands_at row.me) self.old) ≡ true }
         ensures { self.new ≡ put_item row_id self.old row }
     {
@@ -114,10 +114,10 @@ impl Duplicate for KeptRows {
 }
 
 // A row that stands in the place of one that is lent.
-fn empty_row(alloc: Global, me: &BranchId) -> Standing
+fn empty_row(alloc: Global, me: &BranchId) -> KeptRow
     ensures { result.me ≡ me.now }
 {
-    Standing {
+    KeptRow {
         me: *me,
         root: *me,
         scn: 0,

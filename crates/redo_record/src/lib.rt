@@ -16,7 +16,7 @@ mod row;
 mod search;
 
 pub use decision::Decision;
-pub use durable::{Durable, Kid, Kids, Standing, State};
+pub use durable::{Durable, KeptRow, Kid, Kids, State};
 pub use kept_rows::KeptRows;
 pub use place::{Place, Places};
 pub use record::{Decided, Param, Peer, Peers, RedoRecord, Sealed, Toward};

@@ -6,7 +6,7 @@ ghost use Rattle.redo_record.specs.News.{with_news};
 ghost use Rattle.redo_record.specs.Order.{AreInOrder};
 
 use crate::search::{place_of, start_of};
-use crate::{Decision, Standing, State};
+use crate::{Decision, KeptRow, State};
 use tran_ids::BranchId;
 
 /// News of a branch that stays kept.
@@ -25,7 +25,7 @@ pub enum News {
 }
 
 /// Tells a branch its news. A row that is found mixed is shown again.
-fn tell(row: &mut Standing, news: News)
+fn tell(row: &mut KeptRow, news: News)
     ensures { row.new ≡ with_news news row.old }
 {
     match news {
@@ -44,7 +44,7 @@ fn tell(row: &mut Standing, news: News)
     }
 }
 
-fn tell_if_it_is(row: &mut Standing, me: &BranchId, news: News)
+fn tell_if_it_is(row: &mut KeptRow, me: &BranchId, news: News)
     ensures { row.new ≡ (if stands_at me.now row.old then with_news news row.old else row.old) }
 {
     if row.me.is(me) {
@@ -53,7 +53,7 @@ fn tell_if_it_is(row: &mut Standing, me: &BranchId, news: News)
 }
 
 /// Tells the branch of this id its news, where it is kept.
-pub fn tell_branch(kept: &mut [Standing], me: &BranchId, news: News)
+pub fn tell_branch(kept: &mut [KeptRow], me: &BranchId, news: News)
     requires { AreInOrder kept.old }
     ensures { kept.new ≡ change_where (stands_at me.now) (with_news news) kept.old }
 {

@@ -2,7 +2,7 @@
 ghost use Rattle.std.specs.Prelude.{◌≡◌, map, IfOk};
 ghost use Rattle.redo_record.specs.Rows.{kid_of, toward_of, sealed_as, decided_as, has_neighbors as has_neighbors_of};
 
-use crate::{Decided, Decision, Kid, Kids, Peer, Sealed, Standing, State, Toward};
+use crate::{Decided, Decision, KeptRow, Kid, Kids, Peer, Sealed, State, Toward};
 use dtx_values::{Duplicate, Listing};
 use std::alloc::{AllocError, Global};
 use tran_ids::BranchId;
@@ -41,12 +41,12 @@ fn toward(sealed: &Sealed) -> Option<BranchId>
 }
 
 /// The row of a branch that is prepared. Fails where memory runs out.
-pub fn sealed_row(alloc: Global, sealed: &Sealed) -> Result<Standing, AllocError>
+pub fn sealed_row(alloc: Global, sealed: &Sealed) -> Result<KeptRow, AllocError>
     ensures { IfOk result (λ row. row ≡ sealed_as sealed.now) }
 {
     let children = kids(alloc, sealed.children.as_slice())?;
     let comment = sealed.comment.copy(alloc)?;
-    Ok(Standing {
+    Ok(KeptRow {
         me: sealed.me,
         root: sealed.root,
         scn: sealed.scn,
@@ -65,12 +65,12 @@ pub fn sealed_row(alloc: Global, sealed: &Sealed) -> Result<Standing, AllocError
 }
 
 /// The row of the commit point site, from which no neighbour is on the way to it. Fails where memory runs out.
-pub fn decided_row(alloc: Global, decided: &Decided) -> Result<Standing, AllocError>
+pub fn decided_row(alloc: Global, decided: &Decided) -> Result<KeptRow, AllocError>
     ensures { IfOk result (λ row. row ≡ decided_as decided.now) }
 {
     let children = kids(alloc, decided.children.as_slice())?;
     let comment = decided.comment.copy(alloc)?;
-    Ok(Standing {
+    Ok(KeptRow {
         me: decided.me,
         root: decided.root,
         scn: decided.scn,
@@ -89,7 +89,7 @@ pub fn decided_row(alloc: Global, decided: &Decided) -> Result<Standing, AllocEr
 }
 
 /// Whether a branch has a parent or a child.
-pub fn has_neighbors(row: &Standing) -> bool
+pub fn has_neighbors(row: &KeptRow) -> bool
     ensures { result ≡ has_neighbors_of row.now }
 {
     row.parent.is_some() || row.children.as_slice().get(0).is_some()

@@ -6,7 +6,7 @@ ghost use Rattle.tran_ids.specs.Branch.{branch_below};
 ghost use Rattle.redo_record.specs.Order.{AreInOrder};
 ghost use Rattle.redo_record.specs.Leaving.{leaves as leaves_by};
 
-use crate::Standing;
+use crate::KeptRow;
 use tran_ids::BranchId;
 
 /// Which rows of a branch go.
@@ -19,7 +19,7 @@ pub(crate) enum Leaving {
 }
 
 /// Whether a row goes.
-pub(crate) fn leaves(row: &Standing, me: &BranchId, leaving: Leaving) -> bool
+pub(crate) fn leaves(row: &KeptRow, me: &BranchId, leaving: Leaving) -> bool
     ensures { result ≡ leaves_by leaving me.now row.now }
 {
     match leaving {
@@ -29,7 +29,7 @@ pub(crate) fn leaves(row: &Standing, me: &BranchId, leaving: Leaving) -> bool
 }
 
 /// In front of the first row whose branch this one comes before.
-pub(crate) fn place_of(rows: &[Standing], me: &BranchId) -> usize
+pub(crate) fn place_of(rows: &[KeptRow], me: &BranchId) -> usize
     requires { AreInOrder rows.now }
     ensures first { result ≡ position_or_len (λ row. branch_below me.now row.me) rows.now }
     ensures within { result ≤ length rows.now }
@@ -38,7 +38,7 @@ pub(crate) fn place_of(rows: &[Standing], me: &BranchId) -> usize
 }
 
 /// In front of the first row whose branch does not come before this one.
-pub(crate) fn start_of(rows: &[Standing], me: &BranchId) -> usize
+pub(crate) fn start_of(rows: &[KeptRow], me: &BranchId) -> usize
     requires { AreInOrder rows.now }
     ensures first { result ≡ position_or_len (λ row. not (branch_below row.me me.now)) rows.now }
     ensures within { result ≤ length rows.now }
@@ -47,7 +47,7 @@ pub(crate) fn start_of(rows: &[Standing], me: &BranchId) -> usize
 }
 
 /// Where the first row of a branch stands that goes.
-pub(crate) fn position_of(rows: &[Standing], me: &BranchId, leaving: Leaving) -> Option<usize>
+pub(crate) fn position_of(rows: &[KeptRow], me: &BranchId, leaving: Leaving) -> Option<usize>
     requires { AreInOrder rows.now }
     ensures { result ≡ position (leaves_by leaving me.now) rows.now }
 {
@@ -61,14 +61,14 @@ pub(crate) fn position_of(rows: &[Standing], me: &BranchId, leaving: Leaving) ->
 }
 
 // The first of these rows that goes.
-fn position_in(run: &[Standing], me: &BranchId, leaving: Leaving) -> Option<usize>
+fn position_in(run: &[KeptRow], me: &BranchId, leaving: Leaving) -> Option<usize>
     ensures { result ≡ position (leaves_by leaving me.now) run.now }
 {
     run.iter().position(|row| leaves(row, me, leaving))
 }
 
 /// The row at a place.
-pub(crate) fn row_at(rows: &[Standing], place: usize) -> Option<&Standing>
+pub(crate) fn row_at(rows: &[KeptRow], place: usize) -> Option<&KeptRow>
     ensures { option_copied result ≡ slice_get rows.now place }
 {
     rows.get(place)

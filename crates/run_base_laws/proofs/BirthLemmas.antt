@@ -13,11 +13,11 @@ use Rattle.node_rules.specs.Data.inputs
 use Rattle.node_rules.specs.Words.{same, put_item}
 use Rattle.node_rules.specs.Inputs.{Came, IsCall}
 use Rattle.node_rules.specs.Names.{Way, Runs_here, Over, Through, Nowhere_to, way_of}
-use Rattle.node_rules.specs.NodeState.{NodeState, Branch, Deed, live_id}
+use Rattle.node_rules.specs.NodeState.{NodeState, Branch, TurnDraft, live_id}
 use Rattle.node_rules.specs.Sessions.{session_at}
 use Rattle.node_rules.specs.Calls.{is_opening, next_child, goes, open_by}
 use Rattle.node_rules.specs.Client.{new_root, fresh_root, begun_by, begun, root_at, statement_by, statement_call, call_turn}
-use Rattle.node_rules.specs.Turn.{deed_of, heard}
+use Rattle.node_rules.specs.Turn.{draft_of, heard}
 use Rattle.node_rules.proofs.Steps.{IsOfRows}
 use Rattle.run_rules.specs.Data.{Turn}
 use Rattle.run_rules.specs.Data.happenings
@@ -126,10 +126,10 @@ module _ (b : BranchId) where
   put_among [] x is = absurd cc
   put_among (y ∷ ys) x is = put_among_if y x ys (same y.me x.me) refl is (put_among ys x)
 
--- ---- the deed of a turn that begins a branch
+-- ---- the draft of a turn that begins a branch
 
--- A deed without a record, after which these branches are live.
-pub record Bears (d : Deed) (b : BranchId) : Type 0 where
+-- A draft without a record, after which these branches are live.
+pub record Bears (d : TurnDraft) (b : BranchId) : Type 0 where
   pub unwritten : d.wrote ≡ None
   pub living : is_among b (map live_id d.after.lives) ≡ true
 
@@ -164,11 +164,11 @@ child_bears : (p : Place) (k : NodeState) (parent : BranchId) (edge : ℕ) (root
 child_bears p k parent edge root depth none = subst (λ o. Bears (open_by p k parent edge root depth o) (next_child p k)) (sym none) (record { unwritten = refl; living = among_last k.lives _ })
 
 -- each branch that begins is live after the turn, which writes nothing
-pub birth_bears : (p : Place) (k : NodeState) (input : Input) {xs : List Born} → Begins p k input xs → AllByRecursion (λ x. Bears (deed_of p k input) x.me) xs
+pub birth_bears : (p : Place) (k : NodeState) (input : Input) {xs : List Born} → Begins p k input xs → AllByRecursion (λ x. Bears (draft_of p k input) x.me) xs
 birth_bears p k input None_begins = tt
-birth_bears p k input (Root_begins n s call rows none) = (subst (λ i. Bears (deed_of p k i) (new_root p k n)) (sym call) (root_bears p k n s rows none), tt)
+birth_bears p k input (Root_begins n s call rows none) = (subst (λ i. Bears (draft_of p k i) (new_root p k n)) (sym call) (root_bears p k n s rows none), tt)
 birth_bears p k input (Child_begins to parent edge root depth came none) =
-    (subst (λ i. Bears (deed_of p k i) (next_child p k)) (sym came.is) (child_bears p (heard k (inputs.Message (record { from = parent; to = to; scn = came.scn; kind = kinds.Open edge root depth }))) parent edge root depth none), tt)
+    (subst (λ i. Bears (draft_of p k i) (next_child p k)) (sym came.is) (child_bears p (heard k (inputs.Message (record { from = parent; to = to; scn = came.scn; kind = kinds.Open edge root depth }))) parent edge root depth none), tt)
 
 -- ---- lists of those that began
 

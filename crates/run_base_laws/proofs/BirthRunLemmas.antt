@@ -23,7 +23,7 @@ use Rattle.run_base_laws.proofs.SaidLemmas.{sent_after}
 use Rattle.run_rules.proofs.AtNodeLemmas.{stop_elsewhere, stop_here, start_elsewhere, start_here}
 use Rattle.run_base_laws.proofs.NodesStandLemmas.{NodesStand}
 use Rattle.run_base_laws.proofs.TurnEventLemmas.{cases_nat, number_is}
-use Rattle.run_base_laws.proofs.EventsStandLemmas.{first_disk, first_node, Stand, node_so, owned_so, stand_on, stand_first}
+use Rattle.run_base_laws.proofs.EventsStandLemmas.{first_disk, first_node, BranchStatus, node_so, owned_so, stand_on, stand_first}
 use Rattle.run_base_laws.proofs.NeighborLemmas.{rows_stored}
 use Rattle.run_base_laws.proofs.BirthLemmas.{stop_left, stop_leaves}
 use Rattle.run_base_laws.proofs.BirthsStandLemmas.{BirthsStand, turn_born}
@@ -110,7 +110,7 @@ module _ (places : List Place) (asked : List Command) (each : (n : ℕ) (p : Pla
 
   -- ---- every happening
 
-  module _ (f : Facts) (t : List Event) (bs : List Born) (stand : Stand places asked each f t) (born : BirthsStand f t bs) where
+  module _ (f : Facts) (t : List Event) (bs : List Born) (stand : BranchStatus places asked each f t) (born : BirthsStand f t bs) where
     -- what happens neither to a node nor to a disk
     still_born : (h : Happening) → AllByRecursion (λ x. GoesSo (Began bs) x.msg.from x.msg.to x.msg.kind) (facts_after places asked f h).net.packets
         → ((n : ℕ) → node_at (facts_after places asked f h) n ≡ node_at f n) → ((n : ℕ) → records_at (facts_after places asked f h) n ≡ records_at f n) → BirthsStand (facts_after places asked f h) t bs
@@ -158,7 +158,7 @@ module _ (places : List Place) (asked : List Command) (each : (n : ℕ) (p : Pla
 
   -- nodes, disks and events, and the branches that began
   abbrev pub StandBorn : Facts → List Event → List Born → Type 0
-  StandBorn f t bs = Stand places asked each f t × BirthsStand f t bs
+  StandBorn f t bs = BranchStatus places asked each f t × BirthsStand f t bs
 
   pub stand_born_on : (f : Facts) (t : List Event) (bs : List Born) (h : Happening) → StandBorn f t bs → MayHappen places asked f h
       → StandBorn (facts_after places asked f h) (events_after places asked f h t) (births_after places f h bs)

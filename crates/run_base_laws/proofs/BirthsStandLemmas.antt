@@ -9,10 +9,10 @@ use Rattle.node_rules.specs.Data.kinds
 use Rattle.node_rules.specs.Data.inputs
 use Rattle.node_rules.specs.Words.{numbered}
 use Rattle.node_rules.specs.Inputs.{Came, IsFit}
-use Rattle.node_rules.specs.NodeState.{NodeState, Deed}
+use Rattle.node_rules.specs.NodeState.{NodeState, TurnDraft}
 use Rattle.node_rules.specs.Calls.{next_child}
 use Rattle.node_rules.specs.Client.{new_root}
-use Rattle.node_rules.specs.Turn.{turn_of, heard, deed_of, stamped}
+use Rattle.node_rules.specs.Turn.{turn_of, heard, draft_of, stamped}
 use Rattle.run_rules.specs.Data.{Took, Turn, Command}
 use Rattle.run_rules.specs.Data.happenings
 use Rattle.run_rules.specs.Branches.{is_among}
@@ -85,8 +85,8 @@ module _ (places : List Place) (asked : List Command) (each : (n : ℕ) (p : Pla
     abbrev rs : List RedoRecord
     rs = records_at f u.node
 
-    abbrev d : Deed
-    d = deed_of p k u.input
+    abbrev d : TurnDraft
+    d = draft_of p k u.input
 
     abbrev g : Facts
     g = facts_after places asked f (happenings.Turn u)

@@ -6,9 +6,9 @@ use Rattle.node_rules.specs.Data.decisions
 use Rattle.node_rules.specs.Data.inputs
 use Rattle.node_rules.specs.Data.acts
 use Rattle.commit_forget.specs.declared.next.Next.TheVariants as nexts
-use Rattle.node_rules.specs.NodeState.{NodeState, Deed}
+use Rattle.node_rules.specs.NodeState.{NodeState, TurnDraft}
 use Rattle.node_rules.specs.Records.{applied, raised_by}
-use Rattle.node_rules.specs.Turn.{turn_of, heard, deed_of}
+use Rattle.node_rules.specs.Turn.{turn_of, heard, draft_of}
 use Rattle.node_rules.proofs.Steps as steps
 use Rattle.node_rules.proofs.Steps.{Step, Makes, IsMet}
 use Rattle.run_rules.specs.Data.{Turn, Happening, Command}
@@ -24,11 +24,11 @@ use Rattle.run_base_laws.proofs.NodeLemmas.{each_that_may, KeepsAlone, kept_alon
 
 module _ (p : Place) (input : Input) (clock : ℕ) where
   -- the clock is as high as it was, and the record comes later
-  abbrev Since : Deed → Type 0
+  abbrev Since : TurnDraft → Type 0
   Since d = (clock ≤ d.after.clock) × IfSome d.wrote (IsLater clock)
 
   -- each step leaves it so
-  since : {k : NodeState} {d : Deed} → Step p input k d → clock ≤ k.clock → Since d
+  since : {k : NodeState} {d : TurnDraft} → Step p input k d → clock ≤ k.clock → Since d
   since (steps.Begins n s call rows fit none step) now = since step now
   since (steps.Pends n l given call has live code step) now = since step now
   since (steps.Lets_reads_go l comment site_below live begins step) now = since step now
@@ -50,7 +50,7 @@ heard_rises k _ = omega arith
 serves_later : (p : Place) (k : NodeState) (u : Turn) → Serves p k u → (k.clock ≤ (turn_of p k u.input).after.clock) × IfSome u.wrote (IsLater k.clock)
 unfolding turn_of
 serves_later p k u serving =
-    let now : Since p u.input k.clock (deed_of p k u.input) = since p u.input k.clock serving.step (heard_rises k u.input) in
+    let now : Since p u.input k.clock (draft_of p k u.input) = since p u.input k.clock serving.step (heard_rises k u.input) in
     (now.0, of_wrote p k u serving (λ w. IfSome w (IsLater k.clock)) tt now.1)
 
 clock_rises : (places : List Place) (asked : List Command) (f : Facts) (h : Happening) → MayHappen places asked f h → ClockRises places f h
@@ -70,7 +70,7 @@ met_covers : (scn clock : ℕ) (d : Decision) → IsMet clock d → scn ≤ cloc
 met_covers scn clock (decisions.Commit n) met now = omega (arith, met, now)
 met_covers scn clock decisions.Rollback met now = now
 
-covers_on : (p : Place) (input : Input) {k : NodeState} {d : Deed} → Step p input k d → Covers k → Covers d.after
+covers_on : (p : Place) (input : Input) {k : NodeState} {d : TurnDraft} → Step p input k d → Covers k → Covers d.after
 unfolding applied
 covers_on p input (steps.Begins n s call rows fit none step) now = covers_on p input step now
 covers_on p input (steps.Pends n l given call has live code step) now = covers_on p input step now

@@ -11,7 +11,7 @@ use Rattle.node_rules.specs.declared.session.Session.{Session}
 use Rattle.node_rules.specs.Words.{set_numbered}
 use Rattle.node_rules.specs.Refusals.{dtx}
 use Rattle.session_tree.specs.Live.{new_edge}
-use Rattle.node_rules.specs.NodeState.{NodeState, Deed}
+use Rattle.node_rules.specs.NodeState.{NodeState, TurnDraft}
 use Rattle.node_rules.specs.Statement.{ran, after_run}
 use Rattle.node_rules.specs.Sessions.{session_at, with_call, needs_rollback, no_transaction, commit_is_pending, commit_ended}
 use Rattle.node_rules.specs.Calls.{call_pends, answered_sessions, heard_sessions, is_gone, with_edge, hears_reply}
@@ -99,7 +99,7 @@ module _ (ss : List Session) where
   ]
 
 -- each step
-pub codes_on : (p : Place) (input : Input) {k : NodeState} {d : Deed} → Step p input k d → AllNeed k.sessions d.after.sessions
+pub codes_on : (p : Place) (input : Input) {k : NodeState} {d : TurnDraft} → Step p input k d → AllNeed k.sessions d.after.sessions
 codes_on p input (steps.Begins {k = k} {d = d} n s call rows fit none step) = begun_needs k.sessions n _ d.after.sessions none (codes_on p input step)
 codes_on p input (steps.Pends {k = k} {d = d} n l given call has live code step) = then_need k.sessions (with_call k.sessions n pending.Commit) d.after.sessions (call_same k.sessions n pending.Commit) (codes_on p input step)
 codes_on p input (steps.Lets_reads_go l comment site_below live begins step) = codes_on p input step

@@ -4,12 +4,12 @@ use Rattle.std.proofs.lemmas.Bool.{cond_both}
 use Rattle.redo_record.specs.Kept.{stands_at, add_kept, keep_decided, ended_commit, forced_state, in_state, met_as, forgot_as, is_done, hidden_as, kept_after}
 use Rattle.redo_record.specs.Durable.{durable_after}
 use Rattle.redo_record.specs.Rows.{sealed_as, decided_as, has_neighbors}
-use Rattle.node_rules.specs.Data.{BranchId, Standing, RedoRecord}
+use Rattle.node_rules.specs.Data.{BranchId, KeptRow, RedoRecord}
 use Rattle.node_rules.specs.Data.decisions
 use Rattle.node_rules.specs.Data.params
 use Rattle.node_rules.specs.Data.records
 use Rattle.node_rules.specs.Words.{same, change_where, drop_where}
-use Rattle.node_rules.specs.NodeState.{Stored, standing_id}
+use Rattle.node_rules.specs.NodeState.{Stored, kept_row_id}
 use Rattle.node_rules.specs.Records.{applied}
 use Rattle.run_base_laws.specs.NodeLaws.{count_of, unacked_row}
 use Rattle.run_base_laws.proofs.AckLemmas.{unacked_rows}
@@ -17,8 +17,8 @@ use Rattle.run_base_laws.proofs.CountingLemmas.{count_map, count_filter, count_p
 
 module _ (b : BranchId) where
   -- the rows of the branch
-  abbrev pub rows_of : List Standing → ℕ
-  rows_of ks = count_of standing_id b ks
+  abbrev pub rows_of : List KeptRow → ℕ
+  rows_of ks = count_of kept_row_id b ks
 
   -- whether a record makes one
   abbrev pub makes_row : RedoRecord → ℕ
@@ -26,24 +26,24 @@ module _ (b : BranchId) where
   makes_row (records.Decided r) = if same r.me b then 1 else 0
   makes_row _ = 0
 
-  changed : (c : BranchId) (g : Standing → Standing) → ((x : Standing) → (g x).me ≡ x.me) → (ks : List Standing) → rows_of (change_where (stands_at c) g ks) ≡ rows_of ks
-  changed c g me ks = count_map standing_id b (λ x. if stands_at c x then g x else x) (λ x. cond_both (stands_at c x) (g x) x (λ y. y.me ≡ x.me) (λ here. me x) (λ other. refl)) ks
+  changed : (c : BranchId) (g : KeptRow → KeptRow) → ((x : KeptRow) → (g x).me ≡ x.me) → (ks : List KeptRow) → rows_of (change_where (stands_at c) g ks) ≡ rows_of ks
+  changed c g me ks = count_map kept_row_id b (λ x. if stands_at c x then g x else x) (λ x. cond_both (stands_at c x) (g x) x (λ y. y.me ≡ x.me) (λ here. me x) (λ other. refl)) ks
 
-  dropped : (p : Standing → Bool) (ks : List Standing) → rows_of (drop_where p ks) ≤ rows_of ks
-  dropped p ks = count_filter standing_id b (λ x. not (p x)) ks
+  dropped : (p : KeptRow → Bool) (ks : List KeptRow) → rows_of (drop_where p ks) ≤ rows_of ks
+  dropped p ks = count_filter kept_row_id b (λ x. not (p x)) ks
 
   -- a row that is put in counts
-  put_in : (ks : List Standing) (x : Standing) → rows_of (add_kept ks x) ≤ (if same x.me b then 1 else 0) + rows_of ks
-  put_in ks x = by (same x.me b) (count_put_in standing_id b ks x)
+  put_in : (ks : List KeptRow) (x : KeptRow) → rows_of (add_kept ks x) ≤ (if same x.me b then 1 else 0) + rows_of ks
+  put_in ks x = by (same x.me b) (count_put_in kept_row_id b ks x)
     where
       by : (here : Bool) → rows_of (add_kept ks x) ≡ (if here then 1 + rows_of ks else rows_of ks) → rows_of (add_kept ks x) ≤ (if here then 1 else 0) + rows_of ks
       by true is = omega (arith, is)
       by false is = omega (arith, is)
 
-  decided : (ks : List Standing) (x : Standing) → rows_of (keep_decided ks x) ≤ (if same x.me b then 1 else 0) + rows_of ks
+  decided : (ks : List KeptRow) (x : KeptRow) → rows_of (keep_decided ks x) ≤ (if same x.me b then 1 else 0) + rows_of ks
   decided ks x = cond_both (has_neighbors x) (add_kept ks x) ks (λ more. rows_of more ≤ (if same x.me b then 1 else 0) + rows_of ks) (λ kept. put_in ks x) (λ alone. omega arith)
 
-  rows_after : (ks : List Standing) (r : RedoRecord) → rows_of (kept_after ks r) ≤ makes_row r + rows_of ks
+  rows_after : (ks : List KeptRow) (r : RedoRecord) → rows_of (kept_after ks r) ≤ makes_row r + rows_of ks
   unfolding kept_after
   rows_after ks (records.Sealed r) = put_in ks (sealed_as r)
   rows_after ks (records.Decided r) = decided ks (decided_as r)
@@ -69,5 +69,5 @@ module _ (b : BranchId) where
   rows_applied s r = rows_after s.durable.kept r
 
   -- Acks change no number of rows
-  pub rows_unacked : (ks : List Standing) → rows_of (unacked_rows ks) ≡ rows_of ks
-  rows_unacked ks = count_map standing_id b unacked_row (λ x. refl) ks
+  pub rows_unacked : (ks : List KeptRow) → rows_of (unacked_rows ks) ≡ rows_of ks
+  rows_unacked ks = count_map kept_row_id b unacked_row (λ x. refl) ks

@@ -225,10 +225,10 @@ pub both : Keeps J I
 both = keeps_both (keeps_both nodes owns) (keeps_alone covers)
 
 module _ (places : List Place) (asked : List Command) (each : (n : ℕ) (p : Place) → numbered places n ≡ Some p → IsPlace places n p) where
-  abbrev pub Stand : Facts → List Event → Type 0
-  Stand f t = AllStand J I both places f × NodesStand places f t × NetIsSaid f t
+  abbrev pub BranchStatus : Facts → List Event → Type 0
+  BranchStatus f t = AllStand J I both places f × NodesStand places f t × NetIsSaid f t
 
-  module _ (f : Facts) (t : List Event) (now : Stand f t) where
+  module _ (f : Facts) (t : List Event) (now : BranchStatus f t) where
     pub node_so : (n : ℕ) (x : NodeState) → node_at f n ≡ Some x → Node (records_at f n) x
     node_so n x up = (at_node J I both places f n (now.0.nodes n) x up).0.0
 
@@ -249,7 +249,7 @@ module _ (places : List Place) (asked : List Command) (each : (n : ℕ) (p : Pla
     nodes_on _ may = record { many = now.1.many; untaught = now.1.untaught; own = now.1.own; rows = now.1.rows; lives = now.1.lives; given = now.1.given }
 
   -- each turn writes and says what it may
-  pub tells_so : (f : Facts) (t : List Event) (h : Happening) → Stand f t → MayHappen places asked f h → TellsAsEvents f t h
+  pub tells_so : (f : Facts) (t : List Event) (h : Happening) → BranchStatus f t → MayHappen places asked f h → TellsAsEvents f t h
   tells_so f t (happenings.Turn u) now may =
       let node : (n : ℕ) (x : NodeState) → node_at f n ≡ Some x → Node (records_at f n) x = node_so f t now in
       let owned : (n : ℕ) (x : NodeState) → node_at f n ≡ Some x → OwnAt (place_at places n) (records_at f n) x = owned_so f t now in (
@@ -260,20 +260,20 @@ module _ (places : List Place) (asked : List Command) (each : (n : ℕ) (p : Pla
       )
   tells_so f t _ now may = tt
 
-  pub stand_on : (f : Facts) (t : List Event) (h : Happening) → Stand f t → MayHappen places asked f h → Stand (facts_after places asked f h) (events_after places asked f h t)
+  pub stand_on : (f : Facts) (t : List Event) (h : Happening) → BranchStatus f t → MayHappen places asked f h → BranchStatus (facts_after places asked f h) (events_after places asked f h t)
   stand_on f t h now may = (all_stand_on J I both places asked f h now.0 may, nodes_on f t now h may, said_on places asked f t h now.2)
 
-  pub stand_first : Stand (first_facts places) []
+  pub stand_first : BranchStatus (first_facts places) []
   stand_first = (first_all J I both places, first_stands places, tt)
 
 -- at the end of every run
-pub run_stands : (t : History) → IsLawfulRun t → Stand t.places t.commands t.of_a_script.each (facts_at t) (events_of t)
+pub run_stands : (t : History) → IsLawfulRun t → BranchStatus t.places t.commands t.of_a_script.each (facts_at t) (events_of t)
 run_stands t lawful =
-    events_keep t.places t.commands (Stand t.places t.commands t.of_a_script.each) (stand_on t.places t.commands t.of_a_script.each) (first_facts t.places) t.trace [] (stand_first t.places t.commands t.of_a_script.each) lawful
+    events_keep t.places t.commands (BranchStatus t.places t.commands t.of_a_script.each) (stand_on t.places t.commands t.of_a_script.each) (first_facts t.places) t.trace [] (stand_first t.places t.commands t.of_a_script.each) lawful
 
 pub nodes_are_as_events : NodesAreAsEvents
 nodes_are_as_events t lawful n k up =
-    let now : Stand t.places t.commands t.of_a_script.each (facts_at t) (events_of t) = run_stands t lawful in (
+    let now : BranchStatus t.places t.commands t.of_a_script.each (facts_at t) (events_of t) = run_stands t lawful in (
       subst (λ o. IfSome o (λ x. AllByRecursion (λ l. exit (events_of t) l.me ≡ None) x.lives)) up (now.1.lives n),
       acked_back (events_of t) k.stored.durable.kept
           (subst (λ s. RowsAre (events_of t) s.durable.kept) (sym (node_so t.places t.commands t.of_a_script.each (facts_at t) (events_of t) now n k up).stored) (now.1.rows n)),
@@ -281,7 +281,7 @@ nodes_are_as_events t lawful n k up =
 
 pub ids_name_their_node : IdsNameTheirNode
 ids_name_their_node t lawful n k up =
-    let now : Stand t.places t.commands t.of_a_script.each (facts_at t) (events_of t) = run_stands t lawful in
+    let now : BranchStatus t.places t.commands t.of_a_script.each (facts_at t) (events_of t) = run_stands t lawful in
     let own : OwnAt (place_at t.places n) (records_at (facts_at t) n) k = owned_so t.places t.commands t.of_a_script.each (facts_at t) (events_of t) now n k up in
     let number : (place_at t.places n).number ≡ n = number_is t.places t.commands t.of_a_script.each (facts_at t) n k now.1.many up in
     let here : Own n k = subst (λ i. Own i k) number own.1 in
@@ -289,5 +289,5 @@ ids_name_their_node t lawful n k up =
 
 pub turns_tell_as_events : TurnsTellAsEvents
 turns_tell_as_events t lawful =
-    events_each t.places t.commands (Stand t.places t.commands t.of_a_script.each) (stand_on t.places t.commands t.of_a_script.each) TellsAsEvents (tells_so t.places t.commands t.of_a_script.each)
+    events_each t.places t.commands (BranchStatus t.places t.commands t.of_a_script.each) (stand_on t.places t.commands t.of_a_script.each) TellsAsEvents (tells_so t.places t.commands t.of_a_script.each)
     (first_facts t.places) t.trace [] (stand_first t.places t.commands t.of_a_script.each) lawful

@@ -13,7 +13,7 @@ use Rattle.commit_forget.specs.declared.next.Next.TheVariants as nexts
 use Rattle.node_rules.specs.declared.session.PendingCall.TheVariants as pending
 use Rattle.node_rules.specs.declared.session.Session.{Session}
 use Rattle.node_rules.specs.Words.{same, put_item, drop_item, set_numbered}
-use Rattle.node_rules.specs.NodeState.{NodeState, Deed, live_id, standing_id}
+use Rattle.node_rules.specs.NodeState.{NodeState, TurnDraft, live_id, kept_row_id}
 use Rattle.node_rules.specs.Sessions.{session_at, with_root, no_transaction, with_call}
 use Rattle.node_rules.specs.Records.{applied, nothing_stored, stored_by}
 use Rattle.node_rules.specs.Inputs.{IsSession}
@@ -101,12 +101,12 @@ module _ (boot : ℕ) where
 
   module _ (p : Place) (input : Input) where
     -- each step leaves ids in use once
-    ids_on : {k : NodeState} {d : Deed} → Step p input k d → k.stored.durable.boot ≡ boot → IdsAt k → IdsAt d.after
+    ids_on : {k : NodeState} {d : TurnDraft} → Step p input k d → k.stored.durable.boot ≡ boot → IdsAt k → IdsAt d.after
     ids_on (steps.Begins {k = k} n s call rows fit none step) is ids = ids_on step is (begun_ids p k n is fit ids)
     ids_on (steps.Pends {k = k} n l given call has live code step) is ids = ids_on step is (still k ids (with_call k.sessions n pending.Commit) (call_seqs k.sessions n pending.Commit))
     ids_on (steps.Lets_reads_go l comment site_below live begins step) is ids = ids_on step is ids
     ids_on (steps.Counts_ack {k = k} s from kept came counts step) is ids =
-        ids_on step is (fewer boot (seqs k.sessions) (length k.opens) _ _ ids _ _ (λ b. omega (arith, count_put standing_id b k.stored.durable.kept (acked_by s from) s kept)))
+        ids_on step is (fewer boot (seqs k.sessions) (length k.opens) _ _ ids _ _ (λ b. omega (arith, count_put kept_row_id b k.stored.durable.kept (acked_by s from) s kept)))
     ids_on (steps.Runs {k = k} x s given t asked way) is ids =
         let l : Live = after_run x.live (ran p k x.live.me s t) in
         changed k ids l _ (asked_live asked) (answered_seqs k.sessions l x.live.parent)
@@ -191,7 +191,7 @@ start_of_disk rs boot disk next =
       ids = record { many = refl; one = λ b. omega (arith, rows b, disk.one b); told = λ b some. Before (omega (arith, disk.old b (omega (arith, some, rows b)), starts)) };
     }
 
-step_of_node : (p : Place) (rs : List RedoRecord) (input : Input) (k : NodeState) (d : Deed) → Step p input k d → Node rs k → Node (rs ++ option_to_list d.wrote) d.after
+step_of_node : (p : Place) (rs : List RedoRecord) (input : Input) (k : NodeState) (d : TurnDraft) → Step p input k d → Node rs k → Node (rs ++ option_to_list d.wrote) d.after
 step_of_node p rs input k d step node =
     let is : IfSome d.wrote IsOfTurn = step_of_turn p input step in
     let boot : k.stored.durable.boot ≡ boots rs = ap (λ s. s.durable.boot) node.stored ∙ node.boot in

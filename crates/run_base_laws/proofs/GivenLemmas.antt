@@ -7,7 +7,7 @@ use Rattle.commit_forget.specs.declared.next.Next.TheVariants as nexts
 use Rattle.node_rules.specs.declared.session.PendingCall.TheVariants as pending
 use Rattle.node_rules.specs.declared.session.Session.{Session}
 use Rattle.node_rules.specs.Words.{set_numbered}
-use Rattle.node_rules.specs.NodeState.{NodeState, Deed}
+use Rattle.node_rules.specs.NodeState.{NodeState, TurnDraft}
 use Rattle.node_rules.specs.Sessions.{session_at, no_transaction, with_call}
 use Rattle.node_rules.specs.Statement.{ran, after_run}
 use Rattle.session_tree.specs.Live.{new_edge}
@@ -36,7 +36,7 @@ module _ (boot : ℕ) (b : BranchId) where
       subst (λ ms. Given boot ms (length k.opens) b) (sym (set_seqs k.sessions m _))
       (given_still (set_numbered (seqs k.sessions) m q) (length k.opens) (seqs_rise (seqs k.sessions) m q (omega (arith, was))) (omega arith) given)
 
-  pub given_on : (p : Place) (input : Input) {k : NodeState} {d : Deed} → Step p input k d → GivenAt k → GivenAt d.after
+  pub given_on : (p : Place) (input : Input) {k : NodeState} {d : TurnDraft} → Step p input k d → GivenAt k → GivenAt d.after
   given_on p input (steps.Begins {k = k} m s call rows fit none step) given = given_on p input step (begun_given p k m given)
   given_on p input (steps.Pends {k = k} m l wanted call has live code step) given = given_on p input step (still k (with_call k.sessions m pending.Commit) (call_seqs k.sessions m pending.Commit) given)
   given_on p input (steps.Lets_reads_go l comment site_below live begins step) given = given_on p input step given

@@ -5,9 +5,9 @@ use Rattle.std.specs.Prelude.{◌⊎◌, unwrap_or, get_or, slice_get}
 use Rattle.std.proofs.lemmas.Option.{slice_get-get_or}
 use Rattle.tran_ids.proofs.BranchLemmas.{equal_from_same}
 use Rattle.tran_ids.proofs.NumberedLemmas.{set_found, set_or_before}
-use Rattle.node_rules.specs.Data.{BranchId, Standing, Live}
+use Rattle.node_rules.specs.Data.{BranchId, KeptRow, Live}
 use Rattle.node_rules.specs.Words.{same, numbered, set_numbered}
-use Rattle.node_rules.specs.NodeState.{live_id, standing_id}
+use Rattle.node_rules.specs.NodeState.{live_id, kept_row_id}
 use Rattle.node_rules.specs.Inputs.{IsSession}
 use Rattle.run_base_laws.specs.NodeLaws.{count_of}
 use Rattle.run_base_laws.proofs.CountingLemmas.{count_last}
@@ -58,18 +58,18 @@ given_still {b = b} more later rise links (In_session now low seq) = In_session 
 given_still more later rise links (Over_link now high new) = Over_link now high (omega (arith, new, links))
 
 -- how many rows and live branches have an id
-abbrev pub in_use : List Standing → List Live → BranchId → ℕ
-in_use rows lives b = count_of standing_id b rows + count_of live_id b lives
+abbrev pub in_use : List KeptRow → List Live → BranchId → ℕ
+in_use rows lives b = count_of kept_row_id b rows + count_of live_id b lives
 
 -- Each id in use is in use once, and was given out. There are 64 sessions.
-pub record Ids (boot : ℕ) (ms : List ℕ) (opened : ℕ) (rows : List Standing) (lives : List Live) : Type 0 where
+pub record Ids (boot : ℕ) (ms : List ℕ) (opened : ℕ) (rows : List KeptRow) (lives : List Live) : Type 0 where
   pub many : length ms ≡ 64
   pub one : (b : BranchId) → in_use rows lives b ≤ 1
   pub told : (b : BranchId) → 1 ≤ in_use rows lives b → Given boot ms opened b
 
-module _ (boot : ℕ) (ms : List ℕ) (opened : ℕ) (rows : List Standing) (lives : List Live) (ids : Ids boot ms opened rows lives) where
+module _ (boot : ℕ) (ms : List ℕ) (opened : ℕ) (rows : List KeptRow) (lives : List Live) (ids : Ids boot ms opened rows lives) where
   -- no more rows and live branches than before
-  pub fewer : (less : List Standing) (few : List Live) → ((b : BranchId) → in_use less few b ≤ in_use rows lives b) → Ids boot ms opened less few
+  pub fewer : (less : List KeptRow) (few : List Live) → ((b : BranchId) → in_use less few b ≤ in_use rows lives b) → Ids boot ms opened less few
   fewer less few fall = record { many = ids.many; one = λ b. omega (arith, fall b, ids.one b); told = λ b some. ids.told b (omega (arith, some, fall b)) }
 
   -- an id that was not given out is not in use

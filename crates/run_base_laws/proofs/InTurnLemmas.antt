@@ -1,4 +1,4 @@
--- What is known of the calls of live branches as a turn begins, and what the deeds of a statement leave of them.
+-- What is known of the calls of live branches as a turn begins, and what the drafts of a statement leave of them.
 use Rattle.std.proofs.Common.{◌≡◌, ◌≢◌, ℕ, zero, suc, ◌+◌, ◌<◌, ◌≤◌, ◌==◌, ◌&&◌, ◌⊎◌, Bool, true, false, if◌then◌else◌, List, [], ◌∷◌, ◌++◌, map, length, max, unwrap_or, option_map, Option, Some, None, inl, inr, refl, sym, ap, subst, ◌∙◌, arith}
 use Rattle.std.specs.Prelude.{nat_lt}
 use Rattle.std.proofs.lemmas.Bool.Decides.{nat_tests}
@@ -15,7 +15,7 @@ use Rattle.node_rules.specs.declared.work.Going.{Going}
 use Rattle.node_rules.specs.declared.work.Waits.{Waits}
 use Rattle.node_rules.specs.Words.{same, numbered, set_numbered, put_item, drop_item}
 use Rattle.node_rules.specs.Inputs.{Came, IsCall}
-use Rattle.node_rules.specs.NodeState.{NodeState, Branch, Deed, live_id, work_id, live_at, branch_at}
+use Rattle.node_rules.specs.NodeState.{NodeState, Branch, TurnDraft, live_id, work_id, live_at, branch_at}
 use Rattle.session_tree.specs.Tree.{room}
 use Rattle.node_rules.specs.Calls.{reply_fields, kept_reply, with_answer, answer_says, advice_of, next_call, called, exec_to, reply_edge, reply_waits, reply_going, reply_of}
 use Rattle.node_rules.proofs.Steps as steps
@@ -197,7 +197,7 @@ module _ (E : BranchId → Option ℕ) (A : BranchId → Option BranchId) (G Her
   Sends says = Answered (said ++ says) × ((b : BranchId) → (Here b → ⊥) → Silent b says)
 
   -- what a step leaves
-  abbrev pub Leaves : Deed → Type 0
+  abbrev pub Leaves : TurnDraft → Type 0
   Leaves d = EachLive (Done d.says) d.after.lives d.after.works × Sends d.says
 
   -- a branch that is not here is another one
@@ -304,7 +304,7 @@ module _ (E : BranchId → Option ℕ) (A : BranchId → Option BranchId) (G Her
       pub dumbly : (says : List Post) → AllSay IsDumb says → Sends says
       dumbly says dumb = (answered_more said says (λ a b. dumb_execs a b says dumb) received.all, (λ b not. dumb_silent b says dumb))
 
-      -- ---- the deeds of a statement
+      -- ---- the drafts of a statement
 
       -- the Reply of a branch
       abbrev pub reply_kind : Branch → Answer → Kind

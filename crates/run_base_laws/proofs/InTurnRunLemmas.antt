@@ -11,9 +11,9 @@ use Rattle.node_rules.specs.Data.kinds
 use Rattle.node_rules.specs.declared.work.Work.{Work}
 use Rattle.node_rules.specs.Words.{numbered, set_numbered, item_at}
 use Rattle.node_rules.specs.Inputs.{Came}
-use Rattle.node_rules.specs.NodeState.{NodeState, Branch, Deed, live_id, live_at, branch_at}
+use Rattle.node_rules.specs.NodeState.{NodeState, Branch, TurnDraft, live_id, live_at, branch_at}
 use Rattle.node_rules.specs.Sessions.{session_at}
-use Rattle.node_rules.specs.Turn.{turn_of, start_of, made, heard, deed_of}
+use Rattle.node_rules.specs.Turn.{turn_of, start_of, made, heard, draft_of}
 use Rattle.node_rules.proofs.Steps.{Step}
 use Rattle.node_rules.proofs.StandLemmas.{live_so}
 use Rattle.agreement.specs.Events.{Event}
@@ -103,8 +103,8 @@ module _ (places : List Place) (asked : List Command) (each : (n : ℕ) (p : Pla
       abbrev p : Place
       p = place_at places u.node
 
-      abbrev d : Deed
-      d = deed_of p k u.input
+      abbrev d : TurnDraft
+      d = draft_of p k u.input
 
       abbrev g : Facts
       g = facts_after places asked f (happenings.Turn u)

@@ -17,7 +17,7 @@ use Rattle.node_rules.specs.declared.work.Work.{Work}
 use Rattle.node_rules.specs.declared.work.Going.{Going}
 use Rattle.node_rules.specs.Words.{same, numbered, item_at, put_item, drop_item}
 use Rattle.node_rules.specs.Refusals.{dtx}
-use Rattle.node_rules.specs.NodeState.{NodeState, Branch, Deed, live_id, work_id, live_at, branch_at, post, to_one, with_work, no_work, standing_at}
+use Rattle.node_rules.specs.NodeState.{NodeState, Branch, TurnDraft, live_id, work_id, live_at, branch_at, post, to_one, with_work, no_work, kept_row_at}
 use Rattle.node_rules.specs.Sessions.{fresh_session, session_at, with_call, needs_rollback}
 use Rattle.node_rules.specs.Names.{passed_on}
 use Rattle.node_rules.specs.Statement.{ran, after_run}
@@ -26,7 +26,7 @@ use Rattle.node_rules.specs.Client.{new_root, fresh_root, gives_up}
 use Rattle.node_rules.specs.Prepare.{path_of, site_neighbors, with_prepare_sent, has_voted, answers_first, ready, act_turn}
 use Rattle.node_rules.specs.Commit.{beyond}
 use Rattle.node_rules.specs.Recovery.{kept_told}
-use Rattle.node_rules.specs.Turn.{live_or, stand_of, Is_gone}
+use Rattle.node_rules.specs.Turn.{live_or, status_of, Is_gone}
 use Rattle.node_rules.proofs.Steps as steps
 use Rattle.node_rules.proofs.Steps.{Step, Asked, Acting, Says}
 use Rattle.node_rules.proofs.StandLemmas.{live_so, session_set, call_set}
@@ -46,12 +46,12 @@ use Rattle.run_base_laws.proofs.InTurnEdgeLemmas.{opened_free, opened_first, hea
 use Rattle.run_base_laws.proofs.InTurnLemmas.{IsDumb, dumb_decisions, dumb_silent, peer, numbered_map, map_set, map_last, length_peers, numbered_before, numbered_last, numbered_split, calls_before, reply_for, one_waits, opened_none}
 
 -- a gone branch is not live
-gone_by : (k : NodeState) (b : BranchId) (o : Option Live) → live_at k b ≡ o → live_or (with_work k o) (standing_at k b) ≡ Is_gone → o ≡ None
+gone_by : (k : NodeState) (b : BranchId) (o : Option Live) → live_at k b ≡ o → live_or (with_work k o) (kept_row_at k b) ≡ Is_gone → o ≡ None
 gone_by k b None is gone = refl
 gone_by k b (Some l) is gone = absurd cc
 
-gone_none : (k : NodeState) (b : BranchId) → stand_of k b ≡ Is_gone → live_at k b ≡ None
-unfolding stand_of
+gone_none : (k : NodeState) (b : BranchId) → status_of k b ≡ Is_gone → live_at k b ≡ None
+unfolding status_of
 gone_none k b gone = gone_by k b (live_at k b) refl gone
 
 -- the Reply of a gone branch, and a Reply once more
@@ -216,7 +216,7 @@ module _ (E : BranchId → Option ℕ) (A : BranchId → Option BranchId) (G Her
   -- ---- every step
 
   -- a branch may go on where it stays live and its session needs no rollback
-  pub record Granted (d : Deed) : Type 0 where
+  pub record Granted (d : TurnDraft) : Type 0 where
     pub grants : (b : BranchId) (l : Live) → item_at live_id d.after.lives b ≡ Some l → l.parent ≡ None → (session_at d.after.sessions b.session).code ≡ None → G b
     pub sees : (b : BranchId) → G b → (session_at d.after.sessions b.session).code ≡ None
 
@@ -250,7 +250,7 @@ module _ (E : BranchId → Option ℕ) (A : BranchId → Option BranchId) (G Her
       }) (λ y v live any so. so)
 
   module _ (p : Place) (place : (b : BranchId) → b.node ≡ p.number → Here b) where
-    pub turns_on : {k : NodeState} {d : Deed} → Step p input k d → Granted d → SessionsFit k → News NewBorn p input k → Nodes k → turns.Leaves E A G Here input said d
+    pub turns_on : {k : NodeState} {d : TurnDraft} → Step p input k d → Granted d → SessionsFit k → News NewBorn p input k → Nodes k → turns.Leaves E A G Here input said d
     turns_on (steps.Begins {k = k} n s call rows range none step) granted ss news now =
         turns_on step granted (begun_so k ss p n) (begun_news NewBorn p input k n news) (begins_so k now (fresh_root p k (new_root p k n)) refl (place (new_root p k n) refl) (news.root n s call rows none))
     turns_on (steps.Pends {k = k} n l given call has live code step) granted ss news now = turns_on step granted (pends_so k ss n pending.Commit) (pends_news NewBorn p input k n given call news) now

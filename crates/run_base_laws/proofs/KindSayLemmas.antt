@@ -1,4 +1,4 @@
--- What is so of the kinds of messages that branches send is so of all messages of a deed.
+-- What is so of the kinds of messages that branches send is so of all messages of a draft.
 use Rattle.std.proofs.Common.{ℕ, ◌+◌, ◌&&◌, not, Bool, List, [], ◌∷◌, ◌++◌, map, filter, fold, Option, Some, None}
 use Rattle.std.specs.Prelude.{flat_map}
 use Rattle.std.specs.List.{AllByRecursion}
@@ -7,7 +7,7 @@ use Rattle.commit_forget.specs.declared.next.Beyond.{Beyond}
 use Rattle.reco.specs.declared.post.Post.{Post}
 use Rattle.reco.specs.declared.told.Told.{Told}
 use Rattle.reco.specs.declared.told.Told.TheVariants as tolds
-use Rattle.node_rules.specs.Data.{BranchId, Decision, Edge, Kind, Standing}
+use Rattle.node_rules.specs.Data.{BranchId, Decision, Edge, Kind, KeptRow}
 use Rattle.node_rules.specs.Data.decisions
 use Rattle.node_rules.specs.Data.kinds
 use Rattle.node_rules.specs.Words.{put_by_branch}
@@ -49,18 +49,18 @@ module _ (P : Kind → Type 0) where
     told_says tolds.RollBackFirst = is.rolled_back
     told_says tolds.InDoubt = is.in_doubt
 
-    commit_says : (s : Standing) (n : ℕ) (bs : List Beyond) → AllSay (passes_commit s n bs)
+    commit_says : (s : KeptRow) (n : ℕ) (bs : List Beyond) → AllSay (passes_commit s n bs)
     commit_says s n [] = one_says s.me kinds.Ack s.toward is.ack
     commit_says s n (b ∷ bs) = each_says s.me (kinds.Committed n) (map (λ c. c.branch) (b ∷ bs)) (is.committed n)
 
-    pub passes_say : (s : Standing) (d : Decision) → AllSay (passes s d)
+    pub passes_say : (s : KeptRow) (d : Decision) → AllSay (passes s d)
     passes_say s (decisions.Commit n) = commit_says s n (beyond s)
     passes_say s decisions.Rollback = all_each (λ x. P x.kind) (rollback_to s.me) (beyond s) (λ b. cond_both b.is_parent kinds.RolledBack kinds.Rollback P (λ up. is.rolled_back) (λ down. is.rollback))
 
-    again_says : (s : Standing) → AllSay (acks_again s)
+    again_says : (s : KeptRow) → AllSay (acks_again s)
     again_says s = cond_both (all_acked s && not s.forgot) (to_one s.me kinds.Ack s.toward) [] AllSay (λ all. one_says s.me kinds.Ack s.toward is.ack) (λ some. tt)
 
-    recovers_say : (s : Standing) (d : Option Decision) → AllSay (recovers s d)
+    recovers_say : (s : KeptRow) (d : Option Decision) → AllSay (recovers s d)
     recovers_say s None = one_says s.me kinds.Ask s.toward is.ask
     recovers_say s (Some (decisions.Commit n)) =
         all_append (λ x. P x.kind) _ (acks_again s) (each_says s.me (kinds.Committed n) (map (λ b. b.branch) (filter (λ b. not b.acked) (beyond s))) (is.committed n)) (again_says s)

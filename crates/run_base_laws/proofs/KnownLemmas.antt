@@ -8,7 +8,7 @@ use Rattle.tran_ids.specs.Branch.{branch_below}
 use Rattle.redo_record.specs.Kept.{stands_at, add_kept, ended_commit, forced_state, in_state, met_as, forgot_as, is_done, hidden_as, kept_after}
 use Rattle.redo_record.specs.Durable.{durable_after}
 use Rattle.redo_record.specs.Rows.{sealed_as, decided_as, has_neighbors}
-use Rattle.node_rules.specs.Data.{BranchId, Decision, Kind, RedoRecord, Standing, Place}
+use Rattle.node_rules.specs.Data.{BranchId, Decision, Kind, RedoRecord, KeptRow, Place}
 use Rattle.node_rules.specs.Data.decisions
 use Rattle.node_rules.specs.Data.kinds
 use Rattle.node_rules.specs.Data.params
@@ -16,7 +16,7 @@ use Rattle.node_rules.specs.Data.records
 use Rattle.node_rules.specs.Words.{change_where, drop_where}
 use Rattle.node_rules.specs.NodeState.{NodeState, Stored}
 use Rattle.node_rules.specs.Records.{applied, nothing_stored, stored_by}
-use Rattle.node_rules.specs.Turn.{deed_of}
+use Rattle.node_rules.specs.Turn.{draft_of}
 use Rattle.run_rules.specs.Data.{Turn, Happening, Command}
 use Rattle.run_rules.specs.Data.happenings
 use Rattle.run_rules.specs.Facts.{Facts, place_at, records_at}
@@ -31,51 +31,51 @@ use Rattle.run_base_laws.proofs.TellLemmas.{known_unacked, turn_tells}
 
 module _ (b : BranchId) (n : ℕ) where
   -- a row knows it
-  abbrev Knows : Standing → Type 0
+  abbrev Knows : KeptRow → Type 0
   Knows s = (s.me ≡ b) × (s.decision ≡ Some (decisions.Commit n))
 
   -- behind one more row
-  further : {Q : Type 0} (x : Standing) (xs : List Standing) → KnowsAt xs b n ⊎ Q → KnowsAt (x ∷ xs) b n ⊎ Q
+  further : {Q : Type 0} (x : KeptRow) (xs : List KeptRow) → KnowsAt xs b n ⊎ Q → KnowsAt (x ∷ xs) b n ⊎ Q
   further x xs (inl there) = inl (inr there)
   further x xs (inr new) = inr new
 
   -- ---- rows that are changed, left out or put in
 
-  changed_if : {Q : Type 0} (c : BranchId) (g : Standing → Standing) → ((x : Standing) → x.me ≡ c → Knows (g x) → Knows x ⊎ Q)
-      → (here : Bool) (x : Standing) (xs ys : List Standing) → stands_at c x ≡ here → (KnowsAt ys b n → KnowsAt xs b n ⊎ Q) → KnowsAt ((if here then g x else x) ∷ ys) b n
+  changed_if : {Q : Type 0} (c : BranchId) (g : KeptRow → KeptRow) → ((x : KeptRow) → x.me ≡ c → Knows (g x) → Knows x ⊎ Q)
+      → (here : Bool) (x : KeptRow) (xs ys : List KeptRow) → stands_at c x ≡ here → (KnowsAt ys b n → KnowsAt xs b n ⊎ Q) → KnowsAt ((if here then g x else x) ∷ ys) b n
       → KnowsAt (x ∷ xs) b n ⊎ Q
   changed_if c g old true x xs ys is rest (inl here) = elim (old x (equal_from_same x.me c is) here) [ inl it ↦ inl (inl it) | inr new ↦ inr new ]
   changed_if c g old false x xs ys is rest (inl here) = inl (inl here)
   changed_if c g old true x xs ys is rest (inr there) = further x xs (rest there)
   changed_if c g old false x xs ys is rest (inr there) = further x xs (rest there)
 
-  known_changed : {Q : Type 0} (c : BranchId) (g : Standing → Standing) → ((x : Standing) → x.me ≡ c → Knows (g x) → Knows x ⊎ Q) → (xs : List Standing)
+  known_changed : {Q : Type 0} (c : BranchId) (g : KeptRow → KeptRow) → ((x : KeptRow) → x.me ≡ c → Knows (g x) → Knows x ⊎ Q) → (xs : List KeptRow)
       → KnowsAt (change_where (stands_at c) g xs) b n → KnowsAt xs b n ⊎ Q
   known_changed c g old [] knows = absurd knows
   known_changed c g old (x ∷ xs) knows = changed_if c g old (stands_at c x) x xs (change_where (stands_at c) g xs) refl (known_changed c g old xs) knows
 
-  left_if : (stays : Bool) (x : Standing) (xs ys : List Standing) → (KnowsAt ys b n → KnowsAt xs b n) → KnowsAt (if stays then x ∷ ys else ys) b n → KnowsAt (x ∷ xs) b n
+  left_if : (stays : Bool) (x : KeptRow) (xs ys : List KeptRow) → (KnowsAt ys b n → KnowsAt xs b n) → KnowsAt (if stays then x ∷ ys else ys) b n → KnowsAt (x ∷ xs) b n
   left_if true x xs ys rest (inl here) = inl here
   left_if true x xs ys rest (inr there) = inr (rest there)
   left_if false x xs ys rest knows = inr (rest knows)
 
-  known_left : (p : Standing → Bool) (xs : List Standing) → KnowsAt (drop_where p xs) b n → KnowsAt xs b n
+  known_left : (p : KeptRow → Bool) (xs : List KeptRow) → KnowsAt (drop_where p xs) b n → KnowsAt xs b n
   known_left p [] knows = knows
   known_left p (x ∷ xs) knows = left_if (not (p x)) x xs (drop_where p xs) (known_left p xs) knows
 
-  put_if : (first : Bool) (x y : Standing) (ys put : List Standing) → (KnowsAt put b n → KnowsAt ys b n ⊎ Knows x) → KnowsAt (if first then x ∷ y ∷ ys else y ∷ put) b n
+  put_if : (first : Bool) (x y : KeptRow) (ys put : List KeptRow) → (KnowsAt put b n → KnowsAt ys b n ⊎ Knows x) → KnowsAt (if first then x ∷ y ∷ ys else y ∷ put) b n
       → KnowsAt (y ∷ ys) b n ⊎ Knows x
   put_if true x y ys put rest (inl here) = inr here
   put_if true x y ys put rest (inr there) = inl there
   put_if false x y ys put rest (inl here) = inl (inl here)
   put_if false x y ys put rest (inr there) = further y ys (rest there)
 
-  known_put : (ys : List Standing) (x : Standing) → KnowsAt (add_kept ys x) b n → KnowsAt ys b n ⊎ Knows x
+  known_put : (ys : List KeptRow) (x : KeptRow) → KnowsAt (add_kept ys x) b n → KnowsAt ys b n ⊎ Knows x
   known_put [] x (inl here) = inr here
   known_put [] x (inr there) = absurd there
   known_put (y ∷ ys) x knows = put_if (branch_below x.me y.me) x y ys (add_kept ys x) (known_put ys x) knows
 
-  decided_if : (kept : Bool) (ks : List Standing) (x : Standing) → KnowsAt (if kept then add_kept ks x else ks) b n → KnowsAt ks b n ⊎ Knows x
+  decided_if : (kept : Bool) (ks : List KeptRow) (x : KeptRow) → KnowsAt (if kept then add_kept ks x else ks) b n → KnowsAt ks b n ⊎ Knows x
   decided_if true ks x knows = known_put ks x knows
   decided_if false ks x knows = inl knows
 
@@ -85,7 +85,7 @@ module _ (b : BranchId) (n : ℕ) where
   the_commit d is = cc
 
   -- a row that knows more knows it by the record
-  known_after : (ks : List Standing) (r : RedoRecord) → KnowsAt (kept_after ks r) b n → KnowsAt ks b n ⊎ Commits b n r
+  known_after : (ks : List KeptRow) (r : RedoRecord) → KnowsAt (kept_after ks r) b n → KnowsAt ks b n ⊎ Commits b n r
   unfolding kept_after
   known_after ks (records.Sealed r) knows = elim (known_put ks (sealed_as r) knows) [ inl old ↦ inl old | inr new ↦ (let none : None ≡ Some (decisions.Commit n) = new.1 in absurd cc) ]
   known_after ks (records.Decided r) knows =
@@ -150,7 +150,7 @@ turn_recorded : (rs : List RedoRecord) (k : NodeState) (u : Turn) (p : Place) �
     → AllByRecursion (λ m. TellsRecorded (rs ++ option_to_list u.wrote) m.from m.kind) u.sent
 turn_recorded rs k u p stored serving =
     of_sent p k u serving (λ w ms. AllByRecursion (λ m. TellsRecorded (rs ++ option_to_list w) m.from m.kind) ms) tt
-    (all_weaker _ _ (λ m told. may_recorded rs k (deed_of p k u.input).wrote m.from m.kind stored told) _ (turn_tells p k u serving))
+    (all_weaker _ _ (λ m told. may_recorded rs k (draft_of p k u.input).wrote m.from m.kind stored told) _ (turn_tells p k u serving))
 
 tells_records : (places : List Place) (asked : List Command) (f : Facts) (h : Happening) → NodesAre (λ p rs k. StoresOf rs k) places f → MayHappen places asked f h → TellsRecords places f h
 tells_records places asked f (happenings.Turn u) nodes may = turn_recorded (records_at f u.node) may.0 u (place_at places u.node) (nodes u.node may.0 may.1.up) (serves places f u may.0 may.1)

@@ -5,7 +5,7 @@ use Rattle.node_rules.specs.Data.{RedoRecord, Msg, Place, Input}
 use Rattle.node_rules.specs.Data.inputs
 use Rattle.node_rules.specs.NodeState.{NodeState}
 use Rattle.node_rules.specs.Inputs.{IsFit}
-use Rattle.node_rules.specs.Turn.{turn_of, heard, deed_of, stamped}
+use Rattle.node_rules.specs.Turn.{turn_of, heard, draft_of, stamped}
 use Rattle.node_rules.proofs.Steps.{Step}
 use Rattle.node_rules.proofs.TurnLemmas.{step_of}
 use Rattle.run_rules.specs.Data.{Took, Turn, Happening, Command}
@@ -50,9 +50,9 @@ comes_fit f k node _ took comes = tt
 -- What a turn of a node is: a step, and what stands and is sent is the step's. Of a cut turn the record stands or not, and
 -- nothing is sent.
 pub record Serves (p : Place) (k : NodeState) (u : Turn) : Type 0 where
-  pub step : Step p u.input (heard k u.input) (deed_of p k u.input)
-  pub wrote : (u.wrote ≡ None) ⊎ (u.wrote ≡ (deed_of p k u.input).wrote)
-  pub sent : (u.sent ≡ []) ⊎ ((u.wrote ≡ (deed_of p k u.input).wrote) × (u.sent ≡ map (stamped (deed_of p k u.input).after.clock) (deed_of p k u.input).says))
+  pub step : Step p u.input (heard k u.input) (draft_of p k u.input)
+  pub wrote : (u.wrote ≡ None) ⊎ (u.wrote ≡ (draft_of p k u.input).wrote)
+  pub sent : (u.sent ≡ []) ⊎ ((u.wrote ≡ (draft_of p k u.input).wrote) × (u.sent ≡ map (stamped (draft_of p k u.input).after.clock) (draft_of p k u.input).says))
 
 serves_by : (p : Place) (k : NodeState) (u : Turn) (cut : Bool) → IsFit u.input → IsOwed p k u.input u.wrote u.sent cut → Serves p k u
 unfolding turn_of
@@ -61,19 +61,19 @@ serves_by p k u false fit is = record { step = step_of p k u.input fit; wrote = 
 
 module _ (p : Place) (k : NodeState) (u : Turn) (serving : Serves p k u) where
   -- what is so of no record and of the step's is so of the one that stands
-  pub of_wrote : (P : Option RedoRecord → Type 0) → P None → P (deed_of p k u.input).wrote → P u.wrote
+  pub of_wrote : (P : Option RedoRecord → Type 0) → P None → P (draft_of p k u.input).wrote → P u.wrote
   of_wrote P none new = by serving.wrote
     where
-      by : (u.wrote ≡ None) ⊎ (u.wrote ≡ (deed_of p k u.input).wrote) → P u.wrote
+      by : (u.wrote ≡ None) ⊎ (u.wrote ≡ (draft_of p k u.input).wrote) → P u.wrote
       by (inl is) = subst P (sym is) none
       by (inr is) = subst P (sym is) new
 
   -- what is so of no messages, and of the step's with its record, is so of those that are sent
-  pub of_sent : (P : Option RedoRecord → List Msg → Type 0) → P u.wrote [] → P (deed_of p k u.input).wrote (map (stamped (deed_of p k u.input).after.clock) (deed_of p k u.input).says)
+  pub of_sent : (P : Option RedoRecord → List Msg → Type 0) → P u.wrote [] → P (draft_of p k u.input).wrote (map (stamped (draft_of p k u.input).after.clock) (draft_of p k u.input).says)
       → P u.wrote u.sent
   of_sent P none new = by serving.sent
     where
-      by : (u.sent ≡ []) ⊎ ((u.wrote ≡ (deed_of p k u.input).wrote) × (u.sent ≡ map (stamped (deed_of p k u.input).after.clock) (deed_of p k u.input).says)) → P u.wrote u.sent
+      by : (u.sent ≡ []) ⊎ ((u.wrote ≡ (draft_of p k u.input).wrote) × (u.sent ≡ map (stamped (draft_of p k u.input).after.clock) (draft_of p k u.input).says)) → P u.wrote u.sent
       by (inl is) = subst (P u.wrote) (sym is) none
       by (inr is) = subst₂ P (sym is.0) (sym is.1) new
 

@@ -7,7 +7,7 @@ use Rattle.tran_ids.proofs.ListedLemmas.{item_is}
 use Rattle.tran_ids.proofs.NumberedLemmas.{set_length}
 use Rattle.agreement.specs.Outcomes.{differ}
 use Rattle.agreement.specs.Events.{Exit, Sealed, Decided, Event, Make, Seal, Decide, Force, Learn, Forget, first, exit_by, exit, learned, forced, Knows}
-use Rattle.node_rules.specs.Data.{BranchId, Decision, State, Standing, Live, RedoRecord, Place, Input}
+use Rattle.node_rules.specs.Data.{BranchId, Decision, State, KeptRow, Live, RedoRecord, Place, Input}
 use Rattle.node_rules.specs.Data.decisions
 use Rattle.node_rules.specs.Data.states
 use Rattle.node_rules.specs.Data.records
@@ -15,7 +15,7 @@ use Rattle.node_rules.specs.Data.acts
 use Rattle.commit_forget.specs.declared.next.Next.{Next}
 use Rattle.commit_forget.specs.declared.next.Next.TheVariants as nexts
 use Rattle.node_rules.specs.Words.{same, put_item, drop_item, set_numbered}
-use Rattle.node_rules.specs.NodeState.{NodeState, Deed, live_id, standing_id, with_standing}
+use Rattle.node_rules.specs.NodeState.{NodeState, TurnDraft, live_id, kept_row_id, with_kept_row}
 use Rattle.node_rules.specs.Sessions.{session_at, with_call}
 use Rattle.node_rules.specs.Statement.{ran, after_run}
 use Rattle.session_tree.specs.Live.{new_edge}
@@ -45,7 +45,7 @@ use Rattle.run_base_laws.proofs.RowEventLemmas.{only_none, EndsSo}
 abbrev pub IsUntaught : List Event → Type 0
 IsUntaught t = (b : BranchId) → exit t b ≡ None → (learned t b ≡ None) × (forced t b ≡ None)
 
-module _ (t : List Event) (s : Standing) (row : RowIs t s) where
+module _ (t : List Event) (s : KeptRow) (row : RowIs t s) where
   -- it does not know the decision
   open_row : s.decision ≡ None → (exit t s.me ≡ Some (Sealed s.scn)) × (learned t s.me ≡ None)
   open_row none = subst (IsKnown t s) none row.known
@@ -99,12 +99,12 @@ module _ (t : List Event) (s : Standing) (row : RowIs t s) where
       let now = open_row none.1 in ((s.scn, now.0), now.1, none.0)
 
 -- a branch that is forced is that of one of these rows
-one_is : (P : Standing → Type 0) (id : List ℕ) (ks : List Standing) (b : BranchId) → AllByRecursion P ks → only_one id ks ≡ Ok b → (s : Standing) × P s × (s.me ≡ b)
+one_is : (P : KeptRow → Type 0) (id : List ℕ) (ks : List KeptRow) (b : BranchId) → AllByRecursion P ks → only_one id ks ≡ Ok b → (s : KeptRow) × P s × (s.me ≡ b)
 one_is P id [] b all is = absurd cc
 one_is P id (s ∷ []) b all is = (s, all.0, (let it : Ok s.me ≡ Ok b = is in cc))
 one_is P id (s ∷ x ∷ ks) b all is = absurd cc
 
-module _ (t : List Event) (rows : List Standing) (all : RowsAre t rows) where
+module _ (t : List Event) (rows : List KeptRow) (all : RowsAre t rows) where
   forced_may : (p : Place) (id : List ℕ) (b : BranchId) (d : Decision) (given : Bool) → branch_to_force p.names rows id ≡ Ok b → MayStand t (records.Forced b d given)
   unfolding branch_to_force
   forced_may p id b d given is =
@@ -147,17 +147,17 @@ module _ (t : List Event) (n boot : ℕ) (untaught : IsUntaught t) where
     pub live_exit : (b : BranchId) → IsLive k b → exit t b ≡ None
     live_exit b live = subst (λ m. exit t m ≡ None) (item_is live_id k.lives b live.0 live.1) (all_found (λ l. exit t l.me ≡ None) live_id k.lives b live.0 fits.lives live.1)
 
-    pub row_is : (s : Standing) → IsKept k s → RowIs t s
-    row_is s kept = all_found (RowIs t) standing_id k.stored.durable.kept s.me s fits.rows kept
+    pub row_is : (s : KeptRow) → IsKept k s → RowIs t s
+    row_is s kept = all_found (RowIs t) kept_row_id k.stored.durable.kept s.me s fits.rows kept
 
     seal_may : (b : BranchId) → IsLive k b → (exit t b ≡ None) × (learned t b ≡ None) × (forced t b ≡ None)
     seal_may b live = let none : exit t b ≡ None = live_exit b live in let un = untaught b none in (none, un.0, un.1)
 
     -- rows that heard an Ack say the same
-    acked_fits : (s : Standing) (from : BranchId) → IsKept k s → RowsAre t (put_item standing_id k.stored.durable.kept (acked_by s from))
+    acked_fits : (s : KeptRow) (from : BranchId) → IsKept k s → RowsAre t (put_item kept_row_id k.stored.durable.kept (acked_by s from))
     acked_fits s from kept =
         let row : RowIs t s = row_is s kept in
-        all_with (RowIs t) standing_id k.stored.durable.kept (acked_by s from) fits.rows (record { left = row.left; known = row.known; force = row.force; forgot = row.forgot })
+        all_with (RowIs t) kept_row_id k.stored.durable.kept (acked_by s from) fits.rows (record { left = row.left; known = row.known; force = row.force; forgot = row.forgot })
 
   -- the node with a new transaction in a session
   begun_fits : (p : Place) (k : NodeState) (m : ℕ) → p.number ≡ n → m ≤ 64 → Fits t n boot k → AllByRecursion (λ l. exit t l.me ≡ None) (begun_by p k m None).lives
@@ -198,12 +198,12 @@ module _ (t : List Event) (n boot : ℕ) (untaught : IsUntaught t) where
   lets_all k b fits = record { started = fits.started; lives = fits.lives; rows = fits.rows; many = fits.many; told = fits.told; given = fits.given }
 
   -- an Ack is counted
-  pub acked_all : (k : NodeState) (s : Standing) (from : BranchId) → IsKept k s → Fits t n boot k → Fits t n boot (with_standing k (acked_by s from))
+  pub acked_all : (k : NodeState) (s : KeptRow) (from : BranchId) → IsKept k s → Fits t n boot k → Fits t n boot (with_kept_row k (acked_by s from))
   acked_all k s from kept fits = record { started = fits.started; lives = fits.lives; rows = acked_fits k fits s from kept; many = fits.many; told = fits.told; given = fits.given }
 
   module _ (p : Place) (input : Input) (is : p.number ≡ n) where
     -- the record of each step may stand
-    pub may_on : {k : NodeState} {d : Deed} → Step p input k d → Fits t n boot k → IfSome d.wrote (MayStand t)
+    pub may_on : {k : NodeState} {d : TurnDraft} → Step p input k d → Fits t n boot k → IfSome d.wrote (MayStand t)
     may_on (steps.Begins {k = k} m s call rows fit none step) fits = may_on step (begun_all p k m is fit fits)
     may_on (steps.Pends {k = k} m l given call has live code step) fits = may_on step (pends_all k m fits)
     may_on (steps.Lets_reads_go {k = k} l comment site_below live begins step) fits = may_on step (lets_all k l.me fits)
@@ -255,7 +255,7 @@ module _ (t : List Event) (n boot : ℕ) (untaught : IsUntaught t) where
           all_filter (λ l. exit t l.me ≡ None) (λ l. exit (e ∷ t) l.me ≡ None) (λ l. not (same l.me m))
           (λ l passes is. ap (λ o. first o (exit_by e l.me)) is ∙ none l.me (not-true (same l.me m) passes)) k.lives fits.lives
 
-    pub lives_on : {k : NodeState} {d : Deed} → Step p input k d → Fits t n boot k → Unended d.wrote d.after.lives
+    pub lives_on : {k : NodeState} {d : TurnDraft} → Step p input k d → Fits t n boot k → Unended d.wrote d.after.lives
     lives_on (steps.Begins {k = k} m s call rows fit none step) fits = lives_on step (begun_all p k m is fit fits)
     lives_on (steps.Pends {k = k} m l given call has live code step) fits = lives_on step (pends_all k m fits)
     lives_on (steps.Lets_reads_go {k = k} l comment site_below live begins step) fits = lives_on step (lets_all k l.me fits)
@@ -298,7 +298,7 @@ module _ (t : List Event) (n boot : ℕ) (untaught : IsUntaught t) where
 
     -- ---- the branch that a record ends
 
-    abbrev GivenAfter : Deed → BranchId → Type 0
+    abbrev GivenAfter : TurnDraft → BranchId → Type 0
     GivenAfter d b = Given boot (seqs d.after.sessions) (length d.after.opens) b
 
     live_told : (k : NodeState) (b : BranchId) → Fits t n boot k → IsLive k b → Given boot (seqs k.sessions) (length k.opens) b
@@ -307,7 +307,7 @@ module _ (t : List Event) (n boot : ℕ) (untaught : IsUntaught t) where
         (all_found (λ l. Given boot (seqs k.sessions) (length k.opens) l.me) live_id k.lives b live.0 fits.told live.1)
 
     -- was given out
-    pub ended_given : {k : NodeState} {d : Deed} → Step p input k d → Fits t n boot k → IfSome d.wrote (EndsSo (GivenAfter d))
+    pub ended_given : {k : NodeState} {d : TurnDraft} → Step p input k d → Fits t n boot k → IfSome d.wrote (EndsSo (GivenAfter d))
     ended_given (steps.Begins {k = k} m s call rows fit none step) fits = ended_given step (begun_all p k m is fit fits)
     ended_given (steps.Pends {k = k} m l given call has live code step) fits = ended_given step (pends_all k m fits)
     ended_given (steps.Lets_reads_go {k = k} l comment site_below live begins step) fits = ended_given step (lets_all k l.me fits)

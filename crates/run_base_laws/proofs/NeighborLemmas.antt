@@ -8,7 +8,7 @@ use Rattle.redo_record.specs.Durable.{durable_after}
 use Rattle.redo_record.specs.Lists.{change_where, drop_where}
 use Rattle.redo_record.specs.Rows.{toward_of, kid_of, sealed_as, decided_as, has_neighbors}
 use Rattle.commit_forget.specs.Next.{acks_kid}
-use Rattle.node_rules.specs.Data.{Change, Stmt, BranchId, Edge, Peer, Live, Standing, RedoRecord, Place, Input}
+use Rattle.node_rules.specs.Data.{Change, Stmt, BranchId, Edge, Peer, Live, KeptRow, RedoRecord, Place, Input}
 use Rattle.node_rules.specs.Data.decisions
 use Rattle.node_rules.specs.Data.kinds
 use Rattle.node_rules.specs.Data.records
@@ -178,17 +178,17 @@ module _ (B : Born → Type 0) where
       site_way = tt;
     }
 
-  rows_changed : (c : BranchId) (g : Standing → Standing) → ((x : Standing) → KeptIs B x → KeptIs B (g x)) → (ks : List Standing) → AllByRecursion (KeptIs B) ks
+  rows_changed : (c : BranchId) (g : KeptRow → KeptRow) → ((x : KeptRow) → KeptIs B x → KeptIs B (g x)) → (ks : List KeptRow) → AllByRecursion (KeptIs B) ks
       → AllByRecursion (KeptIs B) (change_where (stands_at c) g ks)
   rows_changed c g each ks all =
       all_map (KeptIs B) (λ x. if stands_at c x then g x else x) ks
       (all_weaker (KeptIs B) _ (λ x so. cond_both (stands_at c x) (g x) x (KeptIs B) (λ here. each x so) (λ other. so)) ks all)
 
-  rows_left : (test : Standing → Bool) (ks : List Standing) → AllByRecursion (KeptIs B) ks → AllByRecursion (KeptIs B) (drop_where test ks)
+  rows_left : (test : KeptRow → Bool) (ks : List KeptRow) → AllByRecursion (KeptIs B) ks → AllByRecursion (KeptIs B) (drop_where test ks)
   rows_left test ks all = all_filter (KeptIs B) (KeptIs B) (λ x. not (test x)) (λ x passes so. so) ks all
 
   -- the rows after a record that names branches as they began
-  rows_kept : (ks : List Standing) (r : RedoRecord) → RecordNames B r → AllByRecursion (KeptIs B) ks → AllByRecursion (KeptIs B) (kept_after ks r)
+  rows_kept : (ks : List KeptRow) (r : RedoRecord) → RecordNames B r → AllByRecursion (KeptIs B) ks → AllByRecursion (KeptIs B) (kept_after ks r)
   unfolding kept_after
   rows_kept ks (records.Sealed r) is all = all_put (KeptIs B) (λ y. y.me) ks (sealed_as r) all is
   rows_kept ks (records.Decided r) is all =
@@ -218,7 +218,7 @@ module _ (B : Born → Type 0) where
   rows_stored s [] all now = now
   rows_stored s (r ∷ rs) all now = rows_stored (applied s r) rs all.1 (rows_applied s r all.0 now)
 
-  pub acked_row : (s : Standing) (from : BranchId) → KeptIs B s → KeptIs B (acked_by s from)
+  pub acked_row : (s : KeptRow) (from : BranchId) → KeptIs B s → KeptIs B (acked_by s from)
   acked_row s from is = record {
     born = is.born;
     began = is.began;

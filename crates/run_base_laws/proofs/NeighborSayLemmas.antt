@@ -8,7 +8,7 @@ use Rattle.commit_forget.specs.Beyond.{parent_beyond, kid_beyond}
 use Rattle.reco.specs.declared.post.Post.{Post}
 use Rattle.reco.specs.declared.told.Told.{Told}
 use Rattle.reco.specs.declared.told.Told.TheVariants as tolds
-use Rattle.node_rules.specs.Data.{Stmt, Answer, BranchId, Decision, Kind, Edge, Standing}
+use Rattle.node_rules.specs.Data.{Stmt, Answer, BranchId, Decision, Kind, Edge, KeptRow}
 use Rattle.node_rules.specs.Data.decisions
 use Rattle.node_rules.specs.Data.kinds
 use Rattle.node_rules.specs.declared.session.Session.{Session}
@@ -64,7 +64,7 @@ module _ (B : Born → Type 0) where
   abbrev BeyondIs : BranchId → Beyond → Type 0
   BeyondIs me b = AreNeighbors B me b.branch × (b.is_parent ≡ false → IsChild B b.branch me)
 
-  module _ (s : Standing) (is : KeptIs B s) where
+  module _ (s : KeptRow) (is : KeptIs B s) where
     row_up : (b : BranchId) → s.parent ≡ Some b → IsChild B s.me b
     row_up b at = (is.born, is.began, is.is_me, is.is_parent ∙ at)
 

@@ -8,7 +8,7 @@ use Rattle.tran_ids.proofs.NumberedLemmas.{set_or_before}
 use Rattle.redo_record.specs.Rows.{sealed_as, decided_as}
 use Rattle.commit_forget.specs.declared.next.Next.TheVariants as nexts
 use Rattle.reco.specs.declared.post.Post.{Post}
-use Rattle.node_rules.specs.Data.{Stmt, BranchId, Kind, Edge, Live, Standing, RedoRecord, Place, Input, Vote}
+use Rattle.node_rules.specs.Data.{Stmt, BranchId, Kind, Edge, Live, KeptRow, RedoRecord, Place, Input, Vote}
 use Rattle.node_rules.specs.Data.decisions
 use Rattle.node_rules.specs.Data.kinds
 use Rattle.node_rules.specs.Data.records
@@ -22,7 +22,7 @@ use Rattle.node_rules.specs.Words.{numbered, put_item, drop_item}
 use Rattle.node_rules.specs.Inputs.{Came, IsCall}
 use Rattle.session_tree.specs.Live.{children_of, peer_of, edge_at, new_edge}
 use Rattle.session_tree.specs.Tree.{step as step_from}
-use Rattle.node_rules.specs.NodeState.{NodeState, Branch, Deed, live_id, standing_id, live_at, branch_at, with_standing, to_one}
+use Rattle.node_rules.specs.NodeState.{NodeState, Branch, TurnDraft, live_id, kept_row_id, live_at, branch_at, with_kept_row, to_one}
 use Rattle.node_rules.specs.Records.{applied}
 use Rattle.node_rules.specs.Sessions.{fresh_session, session_at, with_root, with_call}
 use Rattle.node_rules.specs.Statement.{ran, after_run}
@@ -49,8 +49,8 @@ module _ (B : Born → Type 0) where
     live_is : (b : BranchId) (l : Live) → live_at k b ≡ Some l → LiveIs B l
     live_is b l found = all_found (LiveIs B) live_id k.lives b l names.0 found
 
-    kept_is : (s : Standing) → IsKept k s → KeptIs B s
-    kept_is s kept = all_found (KeptIs B) standing_id k.stored.durable.kept s.me s names.1 kept
+    kept_is : (s : KeptRow) → IsKept k s → KeptIs B s
+    kept_is s kept = all_found (KeptIs B) kept_row_id k.stored.durable.kept s.me s names.1 kept
 
     branch_live : (x : Branch) → branch_at k x.live.me ≡ Some x → LiveIs B x.live
     branch_live x found = live_is x.live.me x.live (live_so k x.live.me x found)
@@ -126,11 +126,11 @@ module _ (B : Born → Type 0) where
     pub lets_news : (k : NodeState) (b : BranchId) → News B p input k → News B p input (without_read_keys k b)
     lets_news k b news = record { root = news.root; child = news.child }
 
-    pub acked_news : (k : NodeState) (s : Standing) → News B p input k → News B p input (with_standing k s)
+    pub acked_news : (k : NodeState) (s : KeptRow) → News B p input k → News B p input (with_kept_row k s)
     acked_news k s news = record { root = news.root; child = news.child }
 
   -- what a step keeps, writes and says
-  abbrev pub NamesSo : Deed → Type 0
+  abbrev pub NamesSo : TurnDraft → Type 0
   NamesSo d = NamesAre B d.after × IfSome d.wrote (RecordNames B) × GoAll B d.says
 
   module _ (p : Place) (input : Input) (heard : (from to : BranchId) (kind : Kind) → Came input from to kind → GoesSo B from to kind) where
@@ -182,13 +182,13 @@ module _ (B : Born → Type 0) where
       children = children_numbered B x.live.me x.live.edges i e _ at refl is.children;
     }
 
-    pub names_on : {k : NodeState} {d : Deed} → Step p input k d → NamesAre B k → News B p input k → NamesSo d
+    pub names_on : {k : NodeState} {d : TurnDraft} → Step p input k d → NamesAre B k → News B p input k → NamesSo d
     names_on (steps.Begins {k = k} n s call rows fit none step) names news =
         names_on step (all_last (LiveIs B) live_id k.lives _ names.0 (root_live k n (news.root n s call rows none)), names.1, names.2) (begun_news p input k n news)
     names_on (steps.Pends {k = k} n l comment call has live code step) names news = names_on step names (pends_news p input k n comment call news)
     names_on (steps.Lets_reads_go {k = k} l comment site_below live begins step) names news = names_on step names (lets_news p input k l.me news)
     names_on (steps.Counts_ack {k = k} s from kept came counts step) names news =
-        names_on step (names.0, all_with (KeptIs B) standing_id k.stored.durable.kept (acked_by s from) names.1 (acked_row B s from (kept_is k names s kept)), names.2) (acked_news p input k (acked_by s from) news)
+        names_on step (names.0, all_with (KeptIs B) kept_row_id k.stored.durable.kept (acked_by s from) names.1 (acked_row B s from (kept_is k names s kept)), names.2) (acked_news p input k (acked_by s from) news)
     names_on (steps.Sends says why) names news = (names, tt, says_go names why)
     names_on (steps.Runs {k = k} x s given t asked way) names news =
         let is : LiveIs B x.live = asked_is k names asked in

@@ -9,8 +9,8 @@ use Rattle.node_rules.specs.Data.{RedoRecord, Place, Input}
 use Rattle.node_rules.specs.Data.inputs
 use Rattle.node_rules.specs.Data.records
 use Rattle.node_rules.specs.Words.{numbered, set_numbered}
-use Rattle.node_rules.specs.NodeState.{NodeState, Stored, Deed, raised}
-use Rattle.node_rules.specs.Turn.{turn_of, start_of, made, kept_by, heard, kind_scn, deed_of}
+use Rattle.node_rules.specs.NodeState.{NodeState, Stored, TurnDraft, raised}
+use Rattle.node_rules.specs.Turn.{turn_of, start_of, made, kept_by, heard, kind_scn, draft_of}
 use Rattle.node_rules.proofs.Steps.{Step}
 use Rattle.run_rules.specs.Data.{Turn, Happening, Command}
 use Rattle.run_rules.specs.Data.happenings
@@ -87,7 +87,7 @@ pub record Keeps (J : Place → List RedoRecord → Type 0) (I : Place → List 
   pub empty : (p : Place) → J p []
   pub starts : (p : Place) (rs : List RedoRecord) (boot : ℕ) → J p rs → boot ≡ boots rs + 1 → I p (rs ++ records.Boot boot ∷ []) (start_of (rs ++ records.Boot boot ∷ []))
   pub hears : (p : Place) (rs : List RedoRecord) (k : NodeState) (scn : ℕ) → I p rs k → I p rs (raised k scn)
-  pub steps : (p : Place) (rs : List RedoRecord) (input : Input) (k : NodeState) (d : Deed) → Step p input k d → I p rs k → I p (rs ++ option_to_list d.wrote) d.after
+  pub steps : (p : Place) (rs : List RedoRecord) (input : Input) (k : NodeState) (d : TurnDraft) → Step p input k d → I p rs k → I p (rs ++ option_to_list d.wrote) d.after
   pub rests : (p : Place) (rs : List RedoRecord) (k : NodeState) → I p rs k → J p rs  -- the node stops, with the record of a cut turn or without
 
 -- two laws at once
@@ -122,7 +122,7 @@ module _ (J : Place → List RedoRecord → Type 0) (I : Place → List RedoReco
     -- the turn is kept to its end
     turned : I p (rs ++ option_to_list (turn_of p k u.input).wrote) (turn_of p k u.input).after
     unfolding turn_of
-    turned = each.steps p rs u.input (heard k u.input) (deed_of p k u.input) serving.step (heard_so p rs k u.input now)
+    turned = each.steps p rs u.input (heard k u.input) (draft_of p k u.input) serving.step (heard_so p rs k u.input now)
 
     -- or it is cut, and its record stands or not
     cut_off : J p (rs ++ option_to_list u.wrote)
@@ -220,7 +220,7 @@ each_that_may So so t lawful =
 pub record KeepsAlone (I : NodeState → Type 0) : Type 0 where
   pub starts : (s : Stored) → I (kept_by s)
   pub hears : (k : NodeState) (scn : ℕ) → I k → I (raised k scn)
-  pub steps : (p : Place) (input : Input) (k : NodeState) (d : Deed) → Step p input k d → I k → I d.after
+  pub steps : (p : Place) (input : Input) (k : NodeState) (d : TurnDraft) → Step p input k d → I k → I d.after
 
 -- such a law is a law of nodes
 pub keeps_alone : {I : NodeState → Type 0} → KeepsAlone I → Keeps (λ p rs. Unit {0}) (λ p rs k. I k)

@@ -8,7 +8,7 @@ use Rattle.std.proofs.lemmas.Bool.{cond_both, or_left, or_right}
 use Rattle.tran_ids.proofs.BranchLemmas.{equal_from_same, same_from_equal}
 use Rattle.agreement.specs.Events.{Exit, Sealed, Decided, Event, first, only_at, exit_by, exit, learned_by, learned, forced_by, forced}
 use Rattle.agreement.proofs.EventLemmas.{first_is, only_at_is}
-use Rattle.node_rules.specs.Data.{BranchId, Standing, Live, RedoRecord, Place}
+use Rattle.node_rules.specs.Data.{BranchId, KeptRow, Live, RedoRecord, Place}
 use Rattle.node_rules.specs.Data.records
 use Rattle.node_rules.specs.Words.{same}
 use Rattle.node_rules.specs.NodeState.{live_id}
@@ -32,7 +32,7 @@ use Rattle.run_base_laws.proofs.MayStandLemmas.{IsUntaught}
 -- ---- what stands
 
 -- the rows that a node's records make
-abbrev pub stored_rows : Facts → ℕ → List Standing
+abbrev pub stored_rows : Facts → ℕ → List KeptRow
 stored_rows f n = (stored_by nothing_stored (records_at f n)).durable.kept
 
 -- a node gave out this id
@@ -117,7 +117,7 @@ exit_alone (Some e) t b alone = ap (first (exit t b)) alone.0 ∙ by (exit t b)
     by None = refl
     by (Some x) = refl
 
-pub row_alone : (o : Option Event) (t : List Event) (s : Standing) → LeavesAlone o s.me → RowIs t s → RowIs (with_event o t) s
+pub row_alone : (o : Option Event) (t : List Event) (s : KeptRow) → LeavesAlone o s.me → RowIs t s → RowIs (with_event o t) s
 row_alone None t s alone is = is
 row_alone (Some e) t s alone is =
     row_later {Q = λ x. x ≡ e} (One_more e refl Nothing_more) s (λ x at. subst (λ y. learned_by y s.me ≡ None) (sym at) alone.1) (λ x at. subst (λ y. forced_by y s.me ≡ None) (sym at) alone.2) is
@@ -174,7 +174,7 @@ wrote_rows n t rs (Some r) may rows =
     subst (λ s. RowsAre (with_event (record_event n r) t) s.durable.kept) (sym (stored_with rs (Some r))) (rows_stored_with t n (stored_by nothing_stored rs) r may rows)
 
 -- rows without Acks say the same as with them
-pub acked_back : (t : List Event) (ks : List Standing) → RowsAre t (unacked_rows ks) → RowsAre t ks
+pub acked_back : (t : List Event) (ks : List KeptRow) → RowsAre t (unacked_rows ks) → RowsAre t ks
 acked_back t [] all = tt
 acked_back t (s ∷ ks) all = (record { left = all.0.left; known = all.0.known; force = all.0.force; forgot = all.0.forgot }, acked_back t ks all.1)
 

@@ -7,14 +7,14 @@ use Rattle.std.proofs.lemmas.Bool.{cond_both}
 use Rattle.redo_record.specs.Kept.{stands_at, ended_commit, forced_state, in_state, met_as, forgot_as, is_done, hidden_as, kept_after}
 use Rattle.redo_record.specs.Durable.{durable_after}
 use Rattle.redo_record.specs.Rows.{sealed_as, decided_as, has_neighbors}
-use Rattle.node_rules.specs.Data.{BranchId, Standing, RedoRecord, Live, Place, Input}
+use Rattle.node_rules.specs.Data.{BranchId, KeptRow, RedoRecord, Live, Place, Input}
 use Rattle.node_rules.specs.Data.decisions
 use Rattle.node_rules.specs.Data.params
 use Rattle.node_rules.specs.Data.records
 use Rattle.node_rules.specs.Data.acts
 use Rattle.commit_forget.specs.declared.next.Next.TheVariants as nexts
 use Rattle.node_rules.specs.Words.{same, item_at, put_item, drop_item, change_where, drop_where}
-use Rattle.node_rules.specs.NodeState.{NodeState, Deed, Stored, live_id, standing_id}
+use Rattle.node_rules.specs.NodeState.{NodeState, TurnDraft, Stored, live_id, kept_row_id}
 use Rattle.node_rules.specs.Records.{applied, nothing_stored, stored_by}
 use Rattle.node_rules.specs.Turn.{start_of}
 use Rattle.node_rules.specs.Prepare.{sealed_record, decided_record, ready}
@@ -58,19 +58,19 @@ module _ {A : Type 0} (P : A → Type 0) (id : A → BranchId) where
 -- ---- rows by records
 
 module _ (P : BranchId → Type 0) where
-  abbrev pub RowsOf : List Standing → Type 0
+  abbrev pub RowsOf : List KeptRow → Type 0
   RowsOf ks = AllByRecursion (λ s. P s.me) ks
 
-  rows_changed : (c : BranchId) (g : Standing → Standing) → ((x : Standing) → (g x).me ≡ x.me) → (ks : List Standing) → RowsOf ks → RowsOf (change_where (stands_at c) g ks)
+  rows_changed : (c : BranchId) (g : KeptRow → KeptRow) → ((x : KeptRow) → (g x).me ≡ x.me) → (ks : List KeptRow) → RowsOf ks → RowsOf (change_where (stands_at c) g ks)
   rows_changed c g me ks all =
       all_map (λ s. P s.me) (λ x. if stands_at c x then g x else x) ks
       (all_weaker (λ s. P s.me) _ (λ x so. cond_both (stands_at c x) (g x) x (λ y. P y.me) (λ here. subst P (sym (me x)) so) (λ other. so)) ks all)
 
-  rows_left : (p : Standing → Bool) (ks : List Standing) → RowsOf ks → RowsOf (drop_where p ks)
+  rows_left : (p : KeptRow → Bool) (ks : List KeptRow) → RowsOf ks → RowsOf (drop_where p ks)
   rows_left p ks all = all_filter (λ s. P s.me) (λ s. P s.me) (λ x. not (p x)) (λ x passes so. so) ks all
 
   -- the rows after a record of a branch that is so
-  pub rows_kept : (ks : List Standing) (r : RedoRecord) → IsRecordOf P r → RowsOf ks → RowsOf (kept_after ks r)
+  pub rows_kept : (ks : List KeptRow) (r : RedoRecord) → IsRecordOf P r → RowsOf ks → RowsOf (kept_after ks r)
   unfolding kept_after
   rows_kept ks (records.Sealed r) is all = all_put (λ s. P s.me) (λ y. y.me) ks (sealed_as r) all is
   rows_kept ks (records.Decided r) is all = cond_both (has_neighbors (decided_as r)) _ _ RowsOf (λ kept. all_put (λ s. P s.me) (λ y. y.me) ks (decided_as r) all is) (λ alone. all)
@@ -102,7 +102,7 @@ module _ (P : BranchId → Type 0) where
 -- ---- steps
 
 -- what is found with a test is so
-sought : (P : Standing → Type 0) (test : Standing → Bool) (ks : List Standing) (s : Standing) → AllByRecursion P ks → find test ks ≡ Some s → P s
+sought : (P : KeptRow → Type 0) (test : KeptRow → Bool) (ks : List KeptRow) (s : KeptRow) → AllByRecursion P ks → find test ks ≡ Some s → P s
 sought P test [] s all found = absurd cc
 sought P test (x ∷ ks) s all found = by (test x) found (sought P test ks s all.1)
   where
@@ -111,7 +111,7 @@ sought P test (x ∷ ks) s all found = by (test x) found (sought P test ks s all
     by false found later = later found
 
 -- a branch that is forced is one of these
-pub forced_one : (P : BranchId → Type 0) (id : List ℕ) (ks : List Standing) (b : BranchId) → AllByRecursion (λ s. P s.me) ks → only_one id ks ≡ Ok b → P b
+pub forced_one : (P : BranchId → Type 0) (id : List ℕ) (ks : List KeptRow) (b : BranchId) → AllByRecursion (λ s. P s.me) ks → only_one id ks ≡ Ok b → P b
 forced_one P id [] b all is = absurd cc
 forced_one P id (s ∷ []) b all is = subst P (let it : Ok s.me ≡ Ok b = is in cc) all.0
 forced_one P id (s ∷ t ∷ ks) b all is = absurd cc
@@ -133,8 +133,8 @@ module _ (n : ℕ) where
   live_here k b own live = subst Here (item_is live_id k.lives b live.0 live.1) (all_found (λ l. Here l.me) live_id k.lives b live.0 own.0 live.1)
 
   -- and so is a kept one
-  kept_here : (k : NodeState) (s : Standing) → Own k → IsKept k s → Here s.me
-  kept_here k s own kept = all_found (λ x. Here x.me) standing_id k.stored.durable.kept s.me s own.1 kept
+  kept_here : (k : NodeState) (s : KeptRow) → Own k → IsKept k s → Here s.me
+  kept_here k s own kept = all_found (λ x. Here x.me) kept_row_id k.stored.durable.kept s.me s own.1 kept
 
   forced_here : (p : Place) (k : NodeState) (id : List ℕ) (b : BranchId) → Own k → branch_to_force p.names k.stored.durable.kept id ≡ Ok b → Here b
   unfolding branch_to_force
@@ -154,12 +154,12 @@ module _ (n : ℕ) where
 
   module _ (p : Place) (input : Input) (is : p.number ≡ n) where
     -- each step is of the node's own branches
-    pub own_on : {k : NodeState} {d : Deed} → Step p input k d → Own k → Own d.after × Writes d.wrote
+    pub own_on : {k : NodeState} {d : TurnDraft} → Step p input k d → Own k → Own d.after × Writes d.wrote
     own_on (steps.Begins {k = k} m s call rows fit none step) own = own_on step (all_last (λ l. Here l.me) live_id k.lives _ own.0 is, own.1, own.2)
     own_on (steps.Pends m l given call has live code step) own = own_on step own
     own_on (steps.Lets_reads_go l comment site_below live begins step) own = own_on step own
     own_on (steps.Counts_ack {k = k} s from kept came counts step) own =
-        own_on step (own.0, all_with (λ x. Here x.me) standing_id k.stored.durable.kept (acked_by s from) own.1 (kept_here k s own kept), own.2)
+        own_on step (own.0, all_with (λ x. Here x.me) kept_row_id k.stored.durable.kept (acked_by s from) own.1 (kept_here k s own kept), own.2)
     own_on (steps.Runs {k = k} x s given t asked way) own = ((changed k own (after_run x.live (ran p k x.live.me s t)) (asked_live asked), own.1, own.2), tt)
     own_on (steps.Goes_nowhere {k = k} x s given r asked way) own = ((changed k own x.live (asked_live asked), own.1, own.2), tt)
     own_on (steps.Calls {k = k} x s given i table asked way) own = ((changed k own x.live (asked_live asked), own.1, own.2), tt)

@@ -4,7 +4,7 @@ use Rattle.std.specs.Prelude.{IfSome}
 use Rattle.std.proofs.lemmas.Bool.{cond_both}
 use Rattle.tran_ids.proofs.BranchLemmas.{same_from_equal}
 use Rattle.tran_ids.proofs.ListedLemmas.{item_is}
-use Rattle.node_rules.specs.Data.{Stmt, BranchId, Live, Phase, Standing, Place, Input, RedoRecord}
+use Rattle.node_rules.specs.Data.{Stmt, BranchId, Live, Phase, KeptRow, Place, Input, RedoRecord}
 use Rattle.node_rules.specs.declared.work.Going.{Going}
 use Rattle.node_rules.specs.declared.session.PendingCall.{PendingCall}
 use Rattle.node_rules.specs.Data.inputs
@@ -12,11 +12,11 @@ use Rattle.node_rules.specs.Data.kinds
 use Rattle.node_rules.specs.declared.session.PendingCall.TheVariants as pending
 use Rattle.node_rules.specs.Data.stmts
 use Rattle.node_rules.specs.Words.{same, numbered}
-use Rattle.node_rules.specs.NodeState.{NodeState, live_id, standing_id, live_at, Branch, branch_at}
+use Rattle.node_rules.specs.NodeState.{NodeState, live_id, kept_row_id, live_at, Branch, branch_at}
 use Rattle.node_rules.specs.Sessions.{session_at}
 use Rattle.node_rules.proofs.Steps.{Step}
 use Rattle.std.specs.List.{AllByRecursion}
-use Rattle.node_rules.specs.Turn.{turn_of, start_of, made, heard, deed_of}
+use Rattle.node_rules.specs.Turn.{turn_of, start_of, made, heard, draft_of}
 use Rattle.agreement.specs.Events.{Event}
 use Rattle.run_rules.specs.Data.{Took, Turn, Happening, Command}
 use Rattle.run_rules.specs.Facts.{Facts, first_facts, place_at, node_at, records_at, facts_after, facts_of}
@@ -61,12 +61,12 @@ heard_before k (inputs.Call n s) what before = before
 heard_before k (inputs.GiveUp n) what before = before
 heard_before k inputs.Reco what before = before
 
-turn_rests : (p : Place) (k : NodeState) (input : Input) → Before input k → NodeRests k → Step p input (heard k input) (deed_of p k input) → NodeRests (deed_of p k input).after
+turn_rests : (p : Place) (k : NodeState) (input : Input) → Before input k → NodeRests k → Step p input (heard k input) (draft_of p k input) → NodeRests (draft_of p k input).after
 turn_rests p k input before now step =
     let next : NodeRests (heard k input) = heard_rests k input now in (
       sessions_on p input step next.0,
       elim (commit_or_not input) [
-        | inl is ↦ subst (λ (i : Input). NodeRoots (deed_of p k i).after) (sym is.2) (commit_call_so k now.0 now.1 is.0 (before.free is.0 (stmts.Commit is.1) is.2) is.1)
+        | inl is ↦ subst (λ (i : Input). NodeRoots (draft_of p k i).after) (sym is.2) (commit_call_so k now.0 now.1 is.0 (before.free is.0 (stmts.Commit is.1) is.2) is.1)
         | inr not ↦ roots_on p input not step (heard_before k input input before) next.0 next.1
       ],
     )
@@ -90,19 +90,19 @@ asked_parent bs k names from to child l found none =
     absurd cc
 
 -- each row counts
-rows_count : (ks : List Standing) → AllByRecursion (λ s. 1 ≤ count_of standing_id s.me ks) ks
+rows_count : (ks : List KeptRow) → AllByRecursion (λ s. 1 ≤ count_of kept_row_id s.me ks) ks
 rows_count [] = tt
 rows_count (s ∷ ks) = (
-  subst (λ q. 1 ≤ (if q then 1 + count_of standing_id s.me ks else count_of standing_id s.me ks)) (sym (same_from_equal s.me s.me refl)) (omega arith),
-  all_weaker (λ x. 1 ≤ count_of standing_id x.me ks) (λ x. 1 ≤ count_of standing_id x.me (s ∷ ks))
+  subst (λ q. 1 ≤ (if q then 1 + count_of kept_row_id s.me ks else count_of kept_row_id s.me ks)) (sym (same_from_equal s.me s.me refl)) (omega arith),
+  all_weaker (λ x. 1 ≤ count_of kept_row_id x.me ks) (λ x. 1 ≤ count_of kept_row_id x.me (s ∷ ks))
       (λ x some. cond_both (same s.me x.me) _ _ (λ c. 1 ≤ c) (λ here. omega arith) (λ other. some)) ks (rows_count ks),
 )
 
 not_both : (rs : List RedoRecord) (k : NodeState) → Node rs k → AllByRecursion (λ s. live_at k s.me ≡ None) k.stored.durable.kept
 not_both rs k node =
-    all_weaker (λ s. 1 ≤ count_of standing_id s.me k.stored.durable.kept) (λ s. live_at k s.me ≡ None) (λ s some. none s.me some (live_at k s.me) refl) k.stored.durable.kept (rows_count k.stored.durable.kept)
+    all_weaker (λ s. 1 ≤ count_of kept_row_id s.me k.stored.durable.kept) (λ s. live_at k s.me ≡ None) (λ s some. none s.me some (live_at k s.me) refl) k.stored.durable.kept (rows_count k.stored.durable.kept)
   where
-    none : (b : BranchId) → 1 ≤ count_of standing_id b k.stored.durable.kept → (o : Option Live) → live_at k b ≡ o → o ≡ None
+    none : (b : BranchId) → 1 ≤ count_of kept_row_id b k.stored.durable.kept → (o : Option Live) → live_at k b ≡ o → o ≡ None
     none b some None is = refl
     none b some (Some l) is =
         let here : 1 ≤ count_of live_id l.me k.lives = all_found (λ x. 1 ≤ count_of live_id x.me k.lives) live_id k.lives b l (counts k.lives) is in

@@ -1,7 +1,7 @@
 -- Each step of a node leaves roots as the calls of their sessions tell.
 use Rattle.std.proofs.Common.{◌≡◌, ℕ, ◌&&◌, Bool, true, false, if◌then◌else◌, List, [], unwrap_or, is_none, Option, Some, None, Ok, inl, inr, refl, sym, ap, subst, ◌∙◌, ◌⊎◌, arith, ◌+◌, ◌-◌, filter, length}
 use Rattle.std.proofs.lemmas.Bool.{cond_both}
-use Rattle.node_rules.specs.Data.{Stmt, Answer, BranchId, Decision, Edge, Kind, Phase, Live, Act, Standing, Place, Input}
+use Rattle.node_rules.specs.Data.{Stmt, Answer, BranchId, Decision, Edge, Kind, Phase, Live, Act, KeptRow, Place, Input}
 use Rattle.node_rules.specs.declared.work.Work.{Work}
 use Rattle.node_rules.specs.declared.work.Going.{Going}
 use Rattle.node_rules.specs.Data.acts
@@ -18,7 +18,7 @@ use Rattle.node_rules.specs.Words.{set_numbered, put_item, drop_item}
 use Rattle.node_rules.specs.Inputs.{Came, IsCall, IsSession, Brings, Commit_came, Rollback_came, Rolled_back_came}
 use Rattle.node_rules.specs.Refusals.{dtx}
 use Rattle.session_tree.specs.Live.{new_edge}
-use Rattle.node_rules.specs.NodeState.{NodeState, Branch, Deed, live_id, work_id, standing_id, live_at, branch_at, with_standing}
+use Rattle.node_rules.specs.NodeState.{NodeState, Branch, TurnDraft, live_id, work_id, kept_row_id, live_at, branch_at, with_kept_row}
 use Rattle.node_rules.specs.Sessions.{session_at, with_call, needs_rollback, no_transaction, commit_ended}
 use Rattle.node_rules.specs.Calls.{heard_sessions, is_gone, called, waits_for_opened, with_edge, with_answer, hears_reply, heard_answer, reply_going, reply_of}
 use Rattle.node_rules.specs.Client.{new_root, fresh_root, begun_by, commit_by, commit_call, gives_up, statement_given_up, root_at}
@@ -40,7 +40,7 @@ use Rattle.node_rules.proofs.LiveLemmas.{each_put, each_changed, each_left, each
 use Rattle.run_base_laws.proofs.RootLemmas.{RootsFit, SessionsFit, session_or_before, begun_so}
 use Rattle.run_base_laws.proofs.RestLemmas.{RootIs, set_leaves, taken_leaves, still_leaves, fresh_waits, free_waits, statement_waits, Before, NodeRoots, Works, branch_root, live_root, going_works, asked_works, answered_so, calls_so, heard_so, gone, gone_ended, ended_so, acting_root, ready_below}
 
--- the deeds of a branch that acts
+-- the drafts of a branch that acts
 module _ (k : NodeState) (now : NodeRoots k) (l : Live) (is : RootIs k.sessions l (works_of k.works l.me)) where
   stays_so : (y : Live) → y.me ≡ l.me → RootIs k.sessions y (works_of k.works y.me) → EachLive (RootIs k.sessions) (put_item live_id k.lives y) k.works
   stays_so y me so = each_changed (RootIs k.sessions) (RootIs k.sessions) k.lives k.works now y so (λ z v live other so. so)
@@ -107,13 +107,13 @@ begun_before input k p n s call rows before = record {
   either = λ not. absurd (not n s call rows);
 }
 
-acked_before : (input : Input) (k : NodeState) (s : Standing) (from : BranchId) → steps.IsKept k s → Came input from s.me kinds.Ack → Before input k → Before input (with_standing k (acked_by s from))
+acked_before : (input : Input) (k : NodeState) (s : KeptRow) (from : BranchId) → steps.IsKept k s → Came input from s.me kinds.Ack → Before input k → Before input (with_kept_row k (acked_by s from))
 acked_before input k s from kept came before = record {
   free = before.free;
   asked = before.asked;
   prepared = before.prepared;
-  either = λ not. all_with (λ x. live_at k x.me ≡ None) standing_id k.stored.durable.kept (acked_by s from) (before.either not)
-      (all_found (λ x. live_at k x.me ≡ None) standing_id k.stored.durable.kept s.me s (before.either not) kept);
+  either = λ not. all_with (λ x. live_at k x.me ≡ None) kept_row_id k.stored.durable.kept (acked_by s from) (before.either not)
+      (all_found (λ x. live_at k x.me ≡ None) kept_row_id k.stored.durable.kept s.me s (before.either not) kept);
 }
 
 begun_roots : (k : NodeState) (p : Place) (n : ℕ) → SessionsFit k → IsSession n → (session_at k.sessions n).root ≡ None → NodeRoots k → NodeRoots (begun_by p k n None)
@@ -125,8 +125,8 @@ begun_roots k p n fit range none now =
     (λ y v live any so. set_leaves k.sessions y v n s (λ is. (let had : (session_at k.sessions n).root ≡ Some y.me = is.root in absurd (cc (had, none)))) so)
 
 -- a kept branch is not live
-kept_gone : (k : NodeState) (s : Standing) → steps.IsKept k s → AllByRecursion (λ x. live_at k x.me ≡ None) k.stored.durable.kept → live_at k s.me ≡ None
-kept_gone k s kept all = all_found (λ x. live_at k x.me ≡ None) standing_id k.stored.durable.kept s.me s all kept
+kept_gone : (k : NodeState) (s : KeptRow) → steps.IsKept k s → AllByRecursion (λ x. live_at k x.me ≡ None) k.stored.durable.kept → live_at k s.me ≡ None
+kept_gone k s kept all = all_found (λ x. live_at k x.me ≡ None) kept_row_id k.stored.durable.kept s.me s all kept
 
 -- nor is one whose outcome is forced
 forced_gone : (p : Place) (k : NodeState) (id : List ℕ) (b : BranchId) → AllByRecursion (λ x. live_at k x.me ≡ None) k.stored.durable.kept → branch_to_force p.names k.stored.durable.kept id ≡ Ok b → live_at k b ≡ None
@@ -190,7 +190,7 @@ never_ready {k = k} {input = input} {l = l} {site_below = site_below} a is why =
 
 module _ (p : Place) (input : Input) (quits : (n : ℕ) (c : Option (List ℕ)) → IsCall input n (stmts.Commit c) → ⊥) where
   -- each step of another input than COMMIT keeps it
-  pub roots_on : {k : NodeState} {d : Deed} → Step p input k d → Before input k → SessionsFit k → NodeRoots k → NodeRoots d.after
+  pub roots_on : {k : NodeState} {d : TurnDraft} → Step p input k d → Before input k → SessionsFit k → NodeRoots k → NodeRoots d.after
   roots_on (steps.Begins {k = k} n s call rows range none step) before fit now = roots_on step (begun_before input k p n s call rows before) (begun_so k fit p n) (begun_roots k p n fit range none now)
   roots_on (steps.Pends n l given call has live code step) before fit now = absurd (quits n given call)
   roots_on (steps.Lets_reads_go l comment site_below live begins step) before fit now =

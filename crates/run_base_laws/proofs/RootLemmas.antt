@@ -14,7 +14,7 @@ use Rattle.node_rules.specs.declared.session.Session.{Session}
 use Rattle.node_rules.specs.Words.{numbered, set_numbered, put_item, drop_item}
 use Rattle.node_rules.specs.Refusals.{dtx}
 use Rattle.session_tree.specs.Live.{new_edge}
-use Rattle.node_rules.specs.NodeState.{NodeState, Branch, Deed, Stored, live_id, live_at, branch_at}
+use Rattle.node_rules.specs.NodeState.{NodeState, Branch, TurnDraft, Stored, live_id, live_at, branch_at}
 use Rattle.node_rules.specs.Statement.{ran, after_run}
 use Rattle.node_rules.specs.Sessions.{fresh_session, session_at, with_call, needs_rollback, no_transaction, commit_is_pending, commit_ended}
 use Rattle.node_rules.specs.Calls.{call_pends, answered_sessions, heard_sessions, is_gone, with_edge, hears_reply}
@@ -148,7 +148,7 @@ module _ (k : NodeState) (now : SessionsFit k) where
   }
 
 -- each step keeps it
-pub sessions_on : (p : Place) (input : Input) {k : NodeState} {d : Deed} → Step p input k d → SessionsFit k → SessionsFit d.after
+pub sessions_on : (p : Place) (input : Input) {k : NodeState} {d : TurnDraft} → Step p input k d → SessionsFit k → SessionsFit d.after
 sessions_on p input (steps.Begins {k = k} n s call rows fit none step) now = sessions_on p input step (begun_so k now p n)
 sessions_on p input (steps.Pends {k = k} n l given call has live code step) now = sessions_on p input step (pends_so k now n pending.Commit)
 sessions_on p input (steps.Lets_reads_go l comment site_below live begins step) now = sessions_on p input step (record { roots = now.roots; above = now.above })

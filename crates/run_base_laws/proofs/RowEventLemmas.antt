@@ -8,7 +8,7 @@ use Rattle.redo_record.specs.Durable.{durable_after}
 use Rattle.redo_record.specs.Rows.{sealed_as, decided_as, has_neighbors}
 use Rattle.agreement.specs.Events.{Exit, Sealed, Decided, Event, Make, Seal, Decide, Force, Learn, Forget, first, only_at, exit, learned_by, learned, forced_by, forced}
 use Rattle.agreement.proofs.EventLemmas.{only_at_same}
-use Rattle.node_rules.specs.Data.{Sealed as SealedRecord, Decided as DecidedRecord, BranchId, Decision, State, Standing, RedoRecord}
+use Rattle.node_rules.specs.Data.{Sealed as SealedRecord, Decided as DecidedRecord, BranchId, Decision, State, KeptRow, RedoRecord}
 use Rattle.node_rules.specs.Data.decisions
 use Rattle.node_rules.specs.Data.states
 use Rattle.node_rules.specs.Data.records
@@ -24,7 +24,7 @@ use Rattle.run_base_laws.proofs.LaterLemmas.{Added, One_more, Nothing_more, exit
 -- ---- events that come later
 
 module _ {Q : Event → Type 0} {t r : List Event} (more : Added Q t r) where
-  known_later : (s : Standing) (d : Option Decision) → ((e : Event) → Q e → learned_by e s.me ≡ None) → IsKnown t s d → IsKnown r s d
+  known_later : (s : KeptRow) (d : Option Decision) → ((e : Event) → Q e → learned_by e s.me ≡ None) → IsKnown t s d → IsKnown r s d
   known_later s None none is = (exit_later s.me (Sealed s.scn) more is.0, learned_same s.me none more ∙ is.1)
   known_later s (Some (decisions.Commit n)) none (inl is) = inl (exit_later s.me (Decided n) more is)
   known_later s (Some (decisions.Commit n)) none (inr is) = inr (learned_later s.me (decisions.Commit n) more is)
@@ -44,7 +44,7 @@ module _ {Q : Event → Type 0} {t r : List Event} (more : Added Q t r) where
       by (Some e) is = λ none. (let now : exit r b ≡ Some e = exit_later b e more is in absurd (cc (now, none)))
 
   -- a row that they do not concern stands as before
-  pub row_later : (s : Standing) → ((e : Event) → Q e → learned_by e s.me ≡ None) → ((e : Event) → Q e → forced_by e s.me ≡ None) → RowIs t s → RowIs r s
+  pub row_later : (s : KeptRow) → ((e : Event) → Q e → learned_by e s.me ≡ None) → ((e : Event) → Q e → forced_by e s.me ≡ None) → RowIs t s → RowIs r s
   row_later s unlearned unforced is = record {
     left = left_later s.me is.left;
     known = known_later s s.decision unlearned is.known;
@@ -76,23 +76,23 @@ first_new o p a none is = ap (λ x. first x p) none ∙ is
 
 module _ (t : List Event) (e : Event) where
   -- a row that the event does not concern
-  row_next : (s : Standing) → learned_by e s.me ≡ None → forced_by e s.me ≡ None → RowIs t s → RowIs (e ∷ t) s
+  row_next : (s : KeptRow) → learned_by e s.me ≡ None → forced_by e s.me ≡ None → RowIs t s → RowIs (e ∷ t) s
   row_next s unlearned unforced is =
       row_later {Q = λ x. x ≡ e} (One_more e refl Nothing_more) s (λ x at. subst (λ y. learned_by y s.me ≡ None) (sym at) unlearned) (λ x at. subst (λ y. forced_by y s.me ≡ None) (sym at) unforced) is
 
-  rows_next : ((b : BranchId) → learned_by e b ≡ None) → ((b : BranchId) → forced_by e b ≡ None) → (ks : List Standing) → RowsAre t ks → RowsAre (e ∷ t) ks
+  rows_next : ((b : BranchId) → learned_by e b ≡ None) → ((b : BranchId) → forced_by e b ≡ None) → (ks : List KeptRow) → RowsAre t ks → RowsAre (e ∷ t) ks
   rows_next unlearned unforced ks all = all_weaker (RowIs t) (RowIs (e ∷ t)) (λ s is. row_next s (unlearned s.me) (unforced s.me) is) ks all
 
   -- the rows of its branch are changed
-  rows_changed : (b : BranchId) (g : Standing → Standing) → ((x : Standing) → x.me ≡ b → RowIs t x → RowIs (e ∷ t) (g x))
-      → ((c : BranchId) → same c b ≡ false → (learned_by e c ≡ None) × (forced_by e c ≡ None)) → (ks : List Standing) → RowsAre t ks → RowsAre (e ∷ t) (change_where (stands_at b) g ks)
+  rows_changed : (b : BranchId) (g : KeptRow → KeptRow) → ((x : KeptRow) → x.me ≡ b → RowIs t x → RowIs (e ∷ t) (g x))
+      → ((c : BranchId) → same c b ≡ false → (learned_by e c ≡ None) × (forced_by e c ≡ None)) → (ks : List KeptRow) → RowsAre t ks → RowsAre (e ∷ t) (change_where (stands_at b) g ks)
   rows_changed b g new others ks all =
       all_map (RowIs (e ∷ t)) (λ x. if stands_at b x then g x else x) ks
       (all_weaker (RowIs t) _ (λ x is. cond_both (stands_at b x) (g x) x (RowIs (e ∷ t)) (λ here. new x (equal_from_same x.me b here) is)
       (λ other. row_next x (others x.me other).0 (others x.me other).1 is)) ks all)
 
   -- or are left out
-  rows_left : (b : BranchId) → ((c : BranchId) → same c b ≡ false → (learned_by e c ≡ None) × (forced_by e c ≡ None)) → (ks : List Standing) → RowsAre t ks → RowsAre (e ∷ t) (drop_where (stands_at b) ks)
+  rows_left : (b : BranchId) → ((c : BranchId) → same c b ≡ false → (learned_by e c ≡ None) × (forced_by e c ≡ None)) → (ks : List KeptRow) → RowsAre t ks → RowsAre (e ∷ t) (drop_where (stands_at b) ks)
   rows_left b others ks all =
       all_filter (RowIs t) (RowIs (e ∷ t)) (λ x. not (stands_at b x)) (λ x passes is. (let other : same x.me b ≡ false = not-true (same x.me b) passes in row_next x (others x.me other).0 (others x.me other).1 is)) ks all
 
@@ -107,7 +107,7 @@ module _ (t : List Event) where
   learned_now b c d m none me = first_new (learned t c) (only_at b c d) d (ap (learned t) me ∙ none) (only_at_same b c d (sym me))
 
   -- a row whose branch learns a decision
-  known_now : (b : BranchId) (d : Decision) (m : Option Bool) (s : Standing) → learned t b ≡ None → s.me ≡ b → IsKnown (Learn b d m ∷ t) s (Some d)
+  known_now : (b : BranchId) (d : Decision) (m : Option Bool) (s : KeptRow) → learned t b ≡ None → s.me ≡ b → IsKnown (Learn b d m ∷ t) s (Some d)
   known_now b (decisions.Commit n) m s none me = inr (learned_now b s.me (decisions.Commit n) m none me)
   known_now b decisions.Rollback m s none me = learned_now b s.me decisions.Rollback m none me
 
@@ -136,7 +136,7 @@ module _ (t : List Event) where
   one : (e : Event) → Added (λ x. x ≡ e) t (e ∷ t)
   one e = One_more e refl Nothing_more
 
-  ended_row : (b : BranchId) (n : ℕ) → learned t b ≡ None → (x : Standing) → x.me ≡ b → RowIs t x → RowIs (Learn b (decisions.Commit n) None ∷ t) (ended_commit n x)
+  ended_row : (b : BranchId) (n : ℕ) → learned t b ≡ None → (x : KeptRow) → x.me ≡ b → RowIs t x → RowIs (Learn b (decisions.Commit n) None ∷ t) (ended_commit n x)
   ended_row b n none x me is = record {
     left = left_later (one (Learn b (decisions.Commit n) None)) x.me is.left;
     known = known_now b (decisions.Commit n) None x none me;
@@ -144,11 +144,11 @@ module _ (t : List Event) where
     forgot = λ forgot. inr (is.forgot forgot);
   }
 
-  forced_as : (b : BranchId) (d : Decision) → forced t b ≡ None → (x : Standing) (o : Option Decision) → x.me ≡ b → IsForcedAs (Force b d ∷ t) x.me (forced_state d) o
+  forced_as : (b : BranchId) (d : Decision) → forced t b ≡ None → (x : KeptRow) (o : Option Decision) → x.me ≡ b → IsForcedAs (Force b d ∷ t) x.me (forced_state d) o
   forced_as b (decisions.Commit n) none x o me = first_new (forced t x.me) (only_at b x.me (decisions.Commit n)) (decisions.Commit n) (ap (forced t) me ∙ none) (only_at_same b x.me (decisions.Commit n) (sym me))
   forced_as b decisions.Rollback none x o me = first_new (forced t x.me) (only_at b x.me decisions.Rollback) decisions.Rollback (ap (forced t) me ∙ none) (only_at_same b x.me decisions.Rollback (sym me))
 
-  forced_row : (b : BranchId) (d : Decision) → forced t b ≡ None → (x : Standing) → x.me ≡ b → RowIs t x → RowIs (Force b d ∷ t) (in_state (forced_state d) x)
+  forced_row : (b : BranchId) (d : Decision) → forced t b ≡ None → (x : KeptRow) → x.me ≡ b → RowIs t x → RowIs (Force b d ∷ t) (in_state (forced_state d) x)
   forced_row b d none x me is = record {
     left = left_later (one (Force b d)) x.me is.left;
     known = known_later (one (Force b d)) x x.decision (λ e at. subst (λ y. learned_by y x.me ≡ None) (sym at) refl) is.known;
@@ -157,14 +157,14 @@ module _ (t : List Event) where
   }
 
   -- a forced branch stays forced so
-  met_as_forced : (b : BranchId) (d : Decision) (m : Option Bool) (o : Decision) (state : State) (old : Option Decision) (x : Standing) → x.me ≡ b → forced t b ≡ Some o → IsForcedAs t x.me state old
+  met_as_forced : (b : BranchId) (d : Decision) (m : Option Bool) (o : Decision) (state : State) (old : Option Decision) (x : KeptRow) → x.me ≡ b → forced t b ≡ Some o → IsForcedAs t x.me state old
       → IsForcedAs (Learn b d m ∷ t) x.me state (Some d)
   met_as_forced b d m o states.Sealed old x me was is = let no : None ≡ Some o = sym is.0 ∙ (ap (forced t) me ∙ was) in absurd cc
   met_as_forced b d m o states.Committed old x me was is = λ none. absurd cc
   met_as_forced b d m o (states.ForcedCommit n) old x me was is = ap (λ p. first p None) is
   met_as_forced b d m o states.ForcedRollback old x me was is = ap (λ p. first p None) is
 
-  met_row : (b : BranchId) (d : Decision) (mixed : Bool) (o : Decision) → learned t b ≡ None → forced t b ≡ Some o → (x : Standing) → x.me ≡ b → RowIs t x → RowIs (Learn b d (Some mixed) ∷ t) (met_as d mixed x)
+  met_row : (b : BranchId) (d : Decision) (mixed : Bool) (o : Decision) → learned t b ≡ None → forced t b ≡ Some o → (x : KeptRow) → x.me ≡ b → RowIs t x → RowIs (Learn b d (Some mixed) ∷ t) (met_as d mixed x)
   met_row b d mixed o none was x me is = record {
     left = left_later (one (Learn b d (Some mixed))) x.me is.left;
     known = known_now b d (Some mixed) x none me;
@@ -172,13 +172,13 @@ module _ (t : List Event) where
     forgot = λ forgot. inr (is.forgot forgot);
   }
 
-  forgot_row : (b : BranchId) (x : Standing) → x.me ≡ b → RowIs t x → RowIs (Forget b ∷ t) (forgot_as x)
+  forgot_row : (b : BranchId) (x : KeptRow) → x.me ≡ b → RowIs t x → RowIs (Forget b ∷ t) (forgot_as x)
   forgot_row b x me is =
       let next : RowIs (Forget b ∷ t) x = row_next t (Forget b) x refl refl is in
       record { left = next.left; known = next.known; force = next.force; forgot = λ forgot. inl (ap Forget (sym me)) }
 
   -- the rows after a record whose event may stand
-  pub rows_with : (n : ℕ) (ks : List Standing) (r : RedoRecord) → MayStand t r → RowsAre t ks → RowsAre (with_event (record_event n r) t) (kept_after ks r)
+  pub rows_with : (n : ℕ) (ks : List KeptRow) (r : RedoRecord) → MayStand t r → RowsAre t ks → RowsAre (with_event (record_event n r) t) (kept_after ks r)
   unfolding kept_after
   rows_with n ks (records.Sealed r) may all =
       let e : Event = Seal r.me r.root r.scn r.changes in all_put (RowIs (e ∷ t)) (λ y. y.me) ks (sealed_as r) (rows_next t e (λ b. refl) (λ b. refl) ks all) (sealed_row r n may)

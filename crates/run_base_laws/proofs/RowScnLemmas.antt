@@ -5,7 +5,7 @@ use Rattle.std.proofs.lemmas.Bool.{cond_both}
 use Rattle.redo_record.specs.Kept.{stands_at, ended_commit, forced_state, in_state, met_as, forgot_as, is_done, hidden_as, kept_after}
 use Rattle.redo_record.specs.Durable.{durable_after}
 use Rattle.redo_record.specs.Rows.{sealed_as, decided_as, has_neighbors}
-use Rattle.node_rules.specs.Data.{BranchId, Standing, RedoRecord}
+use Rattle.node_rules.specs.Data.{BranchId, KeptRow, RedoRecord}
 use Rattle.node_rules.specs.Data.decisions
 use Rattle.node_rules.specs.Data.params
 use Rattle.node_rules.specs.Data.records
@@ -17,18 +17,18 @@ use Rattle.run_base_laws.proofs.AckLemmas.{unacked_rows}
 use Rattle.run_base_laws.proofs.StoredLemmas.{StoresOf}
 
 -- no row is above this
-abbrev pub Below : ℕ → List Standing → Type 0
+abbrev pub Below : ℕ → List KeptRow → Type 0
 Below scn ks = AllByRecursion (λ s. s.scn ≤ scn) ks
 
-pub below_further : (scn more : ℕ) → scn ≤ more → (ks : List Standing) → Below scn ks → Below more ks
+pub below_further : (scn more : ℕ) → scn ≤ more → (ks : List KeptRow) → Below scn ks → Below more ks
 below_further scn more up ks all = all_weaker (λ s. s.scn ≤ scn) (λ s. s.scn ≤ more) (λ s is. omega (arith, is, up)) ks all
 
-below_changed : (scn : ℕ) (b : BranchId) (g : Standing → Standing) → ((x : Standing) → (g x).scn ≡ x.scn) → (ks : List Standing) → Below scn ks → Below scn (change_where (stands_at b) g ks)
+below_changed : (scn : ℕ) (b : BranchId) (g : KeptRow → KeptRow) → ((x : KeptRow) → (g x).scn ≡ x.scn) → (ks : List KeptRow) → Below scn ks → Below scn (change_where (stands_at b) g ks)
 below_changed scn b g keeps ks all =
     all_map (λ s. s.scn ≤ scn) (λ x. if stands_at b x then g x else x) ks
     (all_weaker (λ s. s.scn ≤ scn) _ (λ x is. cond_both (stands_at b x) (g x) x (λ y. y.scn ≤ scn) (λ here. subst (λ q. q ≤ scn) (sym (keeps x)) is) (λ other. is)) ks all)
 
-below_left : (scn : ℕ) (p : Standing → Bool) (ks : List Standing) → Below scn ks → Below scn (drop_where p ks)
+below_left : (scn : ℕ) (p : KeptRow → Bool) (ks : List KeptRow) → Below scn ks → Below scn (drop_where p ks)
 below_left scn p ks all = all_filter (λ s. s.scn ≤ scn) (λ s. s.scn ≤ scn) (λ x. not (p x)) (λ x passes is. is) ks all
 
 scn_grows : (scn : ℕ) (r : RedoRecord) → scn ≤ scn_after scn r
@@ -43,7 +43,7 @@ scn_grows scn (records.Met b (decisions.Commit n) mixed) = omega arith
 scn_grows scn (records.Met b decisions.Rollback mixed) = omega arith
 scn_grows scn _ = omega arith
 
-rows_below : (scn : ℕ) (ks : List Standing) (r : RedoRecord) → Below scn ks → Below (scn_after scn r) (kept_after ks r)
+rows_below : (scn : ℕ) (ks : List KeptRow) (r : RedoRecord) → Below scn ks → Below (scn_after scn r) (kept_after ks r)
 unfolding kept_after
 rows_below scn ks (records.Sealed r) all = all_put (λ s. s.scn ≤ max scn r.scn) (λ y. y.me) ks (sealed_as r) (below_further scn (max scn r.scn) (omega arith) ks all) (omega arith)
 rows_below scn ks (records.Decided r) all =
@@ -78,7 +78,7 @@ unfolding stored_by
 stored_below s [] all = all
 stored_below s (r ∷ rs) all = stored_below (applied s r) rs (applied_below s r all)
 
-acked_below : (scn : ℕ) (ks : List Standing) → Below scn (unacked_rows ks) → Below scn ks
+acked_below : (scn : ℕ) (ks : List KeptRow) → Below scn (unacked_rows ks) → Below scn ks
 acked_below scn [] all = tt
 acked_below scn (s ∷ ks) all = (all.0, acked_below scn ks all.1)
 

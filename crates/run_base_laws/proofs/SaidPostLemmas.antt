@@ -25,7 +25,7 @@ use Rattle.run_base_laws.proofs.CallTurnLemmas.{Silent}
 use Rattle.run_base_laws.proofs.KidLemmas.{parent_of, child_parent}
 use Rattle.run_base_laws.proofs.InTurnLemmas.{map_set}
 
--- what a deed says is what its turn sends
+-- what a draft says is what its turn sends
 pub posts_back : (clock : ℕ) (xs : List Post) → map post_of (map (stamped clock) xs) ≡ xs
 posts_back clock [] = refl
 posts_back clock (x ∷ xs) = ap (λ ys. x ∷ ys) (posts_back clock xs)

@@ -6,7 +6,7 @@ use Rattle.std.specs.List.{AllByRecursion}
 use Rattle.std.proofs.lemmas.Bool.{cond_both, and_parts}
 use Rattle.agreement.specs.Events.{Sealed, Decided, Event, Seal, Decide, Learn, Forget, Send_ack, only_at, exit, learned, Has, Knows}
 use Rattle.agreement.proofs.EventLemmas.{only_at_same}
-use Rattle.node_rules.specs.Data.{Answer, BranchId, Decision, Edge, Stmt, Kind, Standing, Live, Place, Input}
+use Rattle.node_rules.specs.Data.{Answer, BranchId, Decision, Edge, Stmt, Kind, KeptRow, Live, Place, Input}
 use Rattle.node_rules.specs.Data.decisions
 use Rattle.node_rules.specs.Data.kinds
 use Rattle.node_rules.specs.Data.acts
@@ -16,7 +16,7 @@ use Rattle.node_rules.specs.declared.session.Session.{Session}
 use Rattle.commit_forget.specs.declared.next.Beyond.{Beyond}
 use Rattle.commit_forget.specs.declared.next.Next.TheVariants as nexts
 use Rattle.node_rules.specs.Words.{put_by_branch}
-use Rattle.node_rules.specs.NodeState.{NodeState, Branch, Deed, post_one, to_each, to_one, standing_id}
+use Rattle.node_rules.specs.NodeState.{NodeState, Branch, TurnDraft, post_one, to_each, to_one, kept_row_id}
 use Rattle.session_tree.specs.Tree.{step as step_from}
 use Rattle.node_rules.specs.Calls.{answer_says, exec_to, with_edge, hears_reply}
 use Rattle.node_rules.specs.Statement.{ran, after_run}
@@ -65,30 +65,30 @@ module _ (r : List Event) (scn : ℕ) where
   prepares_told me comment path i [] = tt
   prepares_told me comment path i (e ∷ es) = (tt, prepares_told me comment path (i + 1) es)
 
-  commit_told : (s : Standing) (n : ℕ) (bs : List Beyond) → Knows r s.me n → Told (passes_commit s n bs)
+  commit_told : (s : KeptRow) (n : ℕ) (bs : List Beyond) → Knows r s.me n → Told (passes_commit s n bs)
   commit_told s n [] knows = one_told s.me kinds.Ack s.toward (λ b. tt)
   commit_told s n (b ∷ bs) knows = each_told s.me (kinds.Committed n) (map (λ c. c.branch) (b ∷ bs)) (λ c. knows)
 
   -- a decision goes on
-  passes_told : (s : Standing) (d : Decision) → ((n : ℕ) → d ≡ decisions.Commit n → Knows r s.me n) → Told (passes s d)
+  passes_told : (s : KeptRow) (d : Decision) → ((n : ℕ) → d ≡ decisions.Commit n → Knows r s.me n) → Told (passes s d)
   passes_told s (decisions.Commit n) knows = commit_told s n (beyond s) (knows n refl)
   passes_told s decisions.Rollback knows =
       all_each May (rollback_to s.me) (beyond s) (λ b. cond_both b.is_parent kinds.RolledBack kinds.Rollback (λ kind. MaySay r s.me b.branch scn kind) (λ up. tt) (λ down. tt))
 
-  known_told : (s : Standing) (to : BranchId) (d : Option Decision) → IsKnown r s d → MaySay r s.me to scn (tells d)
+  known_told : (s : KeptRow) (to : BranchId) (d : Option Decision) → IsKnown r s d → MaySay r s.me to scn (tells d)
   known_told s to None known = tt
   known_told s to (Some (decisions.Commit n)) known = known
   known_told s to (Some decisions.Rollback) known = tt
 
-  asked_told : (s : Standing) (from : BranchId) → RowIs r s → MaySay r s.me from scn (ask_answer s from)
+  asked_told : (s : KeptRow) (from : BranchId) → RowIs r s → MaySay r s.me from scn (ask_answer s from)
   asked_told s from row = cond_both (is_neighbor s from) (told_by s.decision) tolds.RolledBack (λ t. MaySay r s.me from scn (told_kind t)) (λ near. known_told s from s.decision row.known) (λ other. tt)
 
   -- ---- recovery
 
-  again_told : (s : Standing) → Told (acks_again s)
+  again_told : (s : KeptRow) → Told (acks_again s)
   again_told s = cond_both (all_acked s && not s.forgot) (to_one s.me kinds.Ack s.toward) [] Told (λ all. one_told s.me kinds.Ack s.toward (λ b. tt)) (λ some. tt)
 
-  recovers_told : (s : Standing) (d : Option Decision) → IsKnown r s d → Told (recovers s d)
+  recovers_told : (s : KeptRow) (d : Option Decision) → IsKnown r s d → Told (recovers s d)
   recovers_told s None known = one_told s.me kinds.Ask s.toward (λ b. tt)
   recovers_told s (Some (decisions.Commit n)) known =
       all_append May _ (acks_again s) (each_told s.me (kinds.Committed n) (map (λ b. b.branch) (filter (λ b. not b.acked) (beyond s))) (λ b. known)) (again_told s)
@@ -126,34 +126,34 @@ module _ (t : List Event) (n boot : ℕ) (untaught : IsUntaught t) (p : Place) (
   decide_told k l fits live =
       inl (first_new (exit t l.me) (only_at l.me l.me (Decided (k.clock + 1))) (Decided (k.clock + 1)) (live_exit t n boot untaught k fits l.me live) (only_at_same l.me l.me (Decided (k.clock + 1)) refl))
 
-  learn_told : (s : Standing) (d : Decision) (mixed : Option Bool) → learned t s.me ≡ None → (m : ℕ) → d ≡ decisions.Commit m → Knows (Learn s.me d mixed ∷ t) s.me m
+  learn_told : (s : KeptRow) (d : Decision) (mixed : Option Bool) → learned t s.me ≡ None → (m : ℕ) → d ≡ decisions.Commit m → Knows (Learn s.me d mixed ∷ t) s.me m
   learn_told s d mixed none m is_commit = inr (learned_now t s.me s.me d mixed none refl ∙ ap Some is_commit)
 
   -- messages alone
   says_told : (k : NodeState) {says : List Post} → Says k input says → RowsAre t k.stored.durable.kept → Below k.clock k.stored.durable.kept → Told t k.clock says
   says_told k (steps.Prepared_again s from site_below comment came kept again) rows below =
-      let row : RowIs t s = all_found (RowIs t) standing_id k.stored.durable.kept s.me s rows kept in
-      let scn : s.scn ≤ k.clock = all_found (λ x. x.scn ≤ k.clock) standing_id k.stored.durable.kept s.me s below kept in
+      let row : RowIs t s = all_found (RowIs t) kept_row_id k.stored.durable.kept s.me s rows kept in
+      let scn : s.scn ≤ k.clock = all_found (λ x. x.scn ≤ k.clock) kept_row_id k.stored.durable.kept s.me s below kept in
       (by s.decision refl row scn, tt)
     where
       by : (d : Option Decision) → s.decision ≡ d → RowIs t s → s.scn ≤ k.clock → (m : ℕ) × (exit t s.me ≡ Some (Sealed m)) × (m ≤ k.clock)
       by None none row scn = (s.scn, (subst (IsKnown t s) none row.known).0, scn)
       by (Some d) some row scn = let no : is_none s.decision ≡ false = ap is_none some in absurd (true≢false (sym (and_parts (is_none s.decision) _ again).0 ∙ no))
   says_told k (steps.Knows_commit s from m came kept known) rows below =
-      (subst (IsKnown t s) known (all_found (RowIs t) standing_id k.stored.durable.kept s.me s rows kept).known, tt)
-  says_told k (steps.Tells s from came kept) rows below = (asked_told t k.clock s from (all_found (RowIs t) standing_id k.stored.durable.kept s.me s rows kept), tt)
+      (subst (IsKnown t s) known (all_found (RowIs t) kept_row_id k.stored.durable.kept s.me s rows kept).known, tt)
+  says_told k (steps.Tells s from came kept) rows below = (asked_told t k.clock s from (all_found (RowIs t) kept_row_id k.stored.durable.kept s.me s rows kept), tt)
   says_told k (steps.Recovers reco) rows below = askings_told t k.clock k rows
   says_told k (steps.Gone_forgets to from came gone) rows below = (inr (sent from to came), tt)
   says_told k _ rows below = (tt, tt)
 
   -- each step
-  pub step_told : {k : NodeState} {d : Deed} → Step p input k d → Fits t n boot k → Below k.clock k.stored.durable.kept → Told (with_event (wrote_event n d.wrote) t) d.after.clock d.says
+  pub step_told : {k : NodeState} {d : TurnDraft} → Step p input k d → Fits t n boot k → Below k.clock k.stored.durable.kept → Told (with_event (wrote_event n d.wrote) t) d.after.clock d.says
   step_told (steps.Begins {k = k} m s call rows fit none step) fits below = step_told step (begun_all t n boot untaught p k m is fit fits) below
   step_told (steps.Pends {k = k} m l given call has live code step) fits below = step_told step (pends_all t n boot untaught k m fits) below
   step_told (steps.Lets_reads_go {k = k} l comment site_below live begins step) fits below = step_told step (lets_all t n boot untaught k l.me fits) below
   step_told (steps.Counts_ack {k = k} s from kept came counts step) fits below =
       step_told step (acked_all t n boot untaught k s from kept fits)
-      (all_with (λ x. x.scn ≤ k.clock) standing_id k.stored.durable.kept (acked_by s from) below (all_found (λ x. x.scn ≤ k.clock) standing_id k.stored.durable.kept s.me s below kept))
+      (all_with (λ x. x.scn ≤ k.clock) kept_row_id k.stored.durable.kept (acked_by s from) below (all_found (λ x. x.scn ≤ k.clock) kept_row_id k.stored.durable.kept s.me s below kept))
   step_told (steps.Sends {k = k} says why) fits below = says_told k why fits.rows below
   step_told (steps.Runs {k = k} x s given table asked way) fits below = answer_told t _ (record x { live = after_run x.live (ran p k x.live.me s table) }) _ x.live.parent
   step_told (steps.Goes_nowhere {k = k} x s given r asked way) fits below = answer_told t _ x _ x.live.parent

@@ -8,7 +8,7 @@ use Rattle.node_rules.specs.Data.params
 use Rattle.node_rules.specs.Data.records
 use Rattle.node_rules.specs.Data.acts
 use Rattle.commit_forget.specs.declared.next.Next.TheVariants as nexts
-use Rattle.node_rules.specs.NodeState.{NodeState, Stored, Deed}
+use Rattle.node_rules.specs.NodeState.{NodeState, Stored, TurnDraft}
 use Rattle.node_rules.specs.Records.{applied, nothing_stored, stored_by}
 use Rattle.node_rules.proofs.Steps as steps
 use Rattle.node_rules.proofs.Steps.{Step}

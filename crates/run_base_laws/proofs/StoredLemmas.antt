@@ -5,7 +5,7 @@ use Rattle.node_rules.specs.Data.{RedoRecord, Place, Input}
 use Rattle.node_rules.specs.Data.acts
 use Rattle.node_rules.specs.Data.records
 use Rattle.commit_forget.specs.declared.next.Next.TheVariants as nexts
-use Rattle.node_rules.specs.NodeState.{NodeState, Stored, Deed}
+use Rattle.node_rules.specs.NodeState.{NodeState, Stored, TurnDraft}
 use Rattle.node_rules.specs.Records.{applied, nothing_stored, stored_by}
 use Rattle.node_rules.specs.Turn.{start_of}
 use Rattle.node_rules.proofs.Steps as steps
@@ -25,7 +25,7 @@ wrote_same s t (Some r) same = unacked_applied s r ∙ (ap (λ x. applied x r) s
 
 module _ (p : Place) (input : Input) where
   -- a step stores its record
-  pub step_stores : {k : NodeState} {d : Deed} → Step p input k d → unacked d.after.stored ≡ unacked (with_wrote k.stored d.wrote)
+  pub step_stores : {k : NodeState} {d : TurnDraft} → Step p input k d → unacked d.after.stored ≡ unacked (with_wrote k.stored d.wrote)
   step_stores (steps.Begins n s call rows fit none step) = step_stores step
   step_stores (steps.Pends n l given call has live code step) = step_stores step
   step_stores (steps.Lets_reads_go l comment site_below live begins step) = step_stores step
@@ -58,7 +58,7 @@ pub start_stores : (rs : List RedoRecord) → StoresOf rs (start_of rs)
 unfolding start_of
 start_stores rs = unacked_stored nothing_stored rs
 
-pub step_stores_of : (p : Place) (rs : List RedoRecord) (input : Input) (k : NodeState) (d : Deed) → Step p input k d → StoresOf rs k → StoresOf (rs ++ option_to_list d.wrote) d.after
+pub step_stores_of : (p : Place) (rs : List RedoRecord) (input : Input) (k : NodeState) (d : TurnDraft) → Step p input k d → StoresOf rs k → StoresOf (rs ++ option_to_list d.wrote) d.after
 step_stores_of p rs input k d step now = step_stores p input step ∙ wrote_of rs k d.wrote now
 
 pub stores : Keeps (λ p rs. Unit {0}) (λ p rs k. StoresOf rs k)

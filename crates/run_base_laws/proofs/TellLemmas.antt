@@ -3,7 +3,7 @@ use Rattle.std.proofs.Common.{◌≡◌, ℕ, ◌+◌, ◌&&◌, not, Bool, true
 use Rattle.std.proofs.lemmas.Bool.{cond_both}
 use Rattle.std.specs.Prelude.{flat_map}
 use Rattle.std.specs.List.{AllByRecursion}
-use Rattle.node_rules.specs.Data.{Answer, BranchId, Decision, Edge, Stmt, Kind, Msg, RedoRecord, Standing, Place, Input}
+use Rattle.node_rules.specs.Data.{Answer, BranchId, Decision, Edge, Stmt, Kind, Msg, RedoRecord, KeptRow, Place, Input}
 use Rattle.node_rules.specs.Data.decisions
 use Rattle.node_rules.specs.Data.kinds
 use Rattle.node_rules.specs.Data.records
@@ -15,7 +15,7 @@ use Rattle.node_rules.specs.declared.session.Session.{Session}
 use Rattle.commit_forget.specs.declared.next.Beyond.{Beyond}
 use Rattle.commit_forget.specs.declared.next.Next.TheVariants as nexts
 use Rattle.node_rules.specs.Words.{same, item_at, put_item, put_by_branch}
-use Rattle.node_rules.specs.NodeState.{NodeState, Branch, Deed, post_one, to_each, to_one, standing_id}
+use Rattle.node_rules.specs.NodeState.{NodeState, Branch, TurnDraft, post_one, to_each, to_one, kept_row_id}
 use Rattle.session_tree.specs.Tree.{step as step_from}
 use Rattle.node_rules.specs.Calls.{answer_says, exec_to, with_edge, hears_reply}
 use Rattle.node_rules.specs.Statement.{ran, after_run}
@@ -23,7 +23,7 @@ use Rattle.node_rules.specs.Prepare.{path_of, prepares, site_neighbors, sealed_r
 use Rattle.node_rules.specs.Commit.{acked_by, all_acked, beyond, is_neighbor, passes_commit, rollback_to, passes}
 use Rattle.reco.specs.declared.told.Told.TheVariants as tolds
 use Rattle.node_rules.specs.Recovery.{Asking, asking_id, told_by, told_kind, asks_live, asks_kept, acks_again, recovers, askings, tells, ask_answer}
-use Rattle.node_rules.specs.Turn.{turn_of, heard, deed_of, stamped}
+use Rattle.node_rules.specs.Turn.{turn_of, heard, draft_of, stamped}
 use Rattle.node_rules.proofs.Steps as steps
 use Rattle.node_rules.proofs.Steps.{Step, Says, IsKept}
 use Rattle.run_rules.specs.Data.{Turn, Happening, Command}
@@ -39,37 +39,37 @@ use Rattle.run_base_laws.proofs.NodeLemmas.{each_that_may}
 -- ---- what rows know
 
 -- Acks are no part of it
-pub known_unacked : (ks : List Standing) (b : BranchId) (n : ℕ) → KnowsAt ks b n → KnowsAt (unacked_rows ks) b n
+pub known_unacked : (ks : List KeptRow) (b : BranchId) (n : ℕ) → KnowsAt ks b n → KnowsAt (unacked_rows ks) b n
 known_unacked [] b n knows = knows
 known_unacked (x ∷ ks) b n (inl here) = inl here
 known_unacked (x ∷ ks) b n (inr there) = inr (known_unacked ks b n there)
 
-known_acked : (ks : List Standing) (b : BranchId) (n : ℕ) → KnowsAt (unacked_rows ks) b n → KnowsAt ks b n
+known_acked : (ks : List KeptRow) (b : BranchId) (n : ℕ) → KnowsAt (unacked_rows ks) b n → KnowsAt ks b n
 known_acked [] b n knows = knows
 known_acked (x ∷ ks) b n (inl here) = inl here
 known_acked (x ∷ ks) b n (inr there) = inr (known_acked ks b n there)
 
-found_if : (b : BranchId) (ks : List Standing) (x s : Standing) (n : ℕ) (here : Bool) → (if here then Some x else item_at standing_id ks b) ≡ Some s → s.decision ≡ Some (decisions.Commit n)
-    → (item_at standing_id ks b ≡ Some s → KnowsAt ks s.me n) → KnowsAt (x ∷ ks) s.me n
+found_if : (b : BranchId) (ks : List KeptRow) (x s : KeptRow) (n : ℕ) (here : Bool) → (if here then Some x else item_at kept_row_id ks b) ≡ Some s → s.decision ≡ Some (decisions.Commit n)
+    → (item_at kept_row_id ks b ≡ Some s → KnowsAt ks s.me n) → KnowsAt (x ∷ ks) s.me n
 found_if b ks x s n true found is rest = let it : x ≡ s = (let same_row : Some x ≡ Some s = found in cc) in inl (ap (λ y. y.me) it, ap (λ y. y.decision) it ∙ is)
 found_if b ks x s n false found is rest = inr (rest found)
 
 -- what a row that is found knows is known
-found_knows : (b : BranchId) (ks : List Standing) (s : Standing) (n : ℕ) → item_at standing_id ks b ≡ Some s → s.decision ≡ Some (decisions.Commit n) → KnowsAt ks s.me n
+found_knows : (b : BranchId) (ks : List KeptRow) (s : KeptRow) (n : ℕ) → item_at kept_row_id ks b ≡ Some s → s.decision ≡ Some (decisions.Commit n) → KnowsAt ks s.me n
 found_knows b [] s n found is = absurd cc
 found_knows b (x ∷ ks) s n found is = found_if b ks x s n (same x.me b) found is (λ later. found_knows b ks s n later is)
 
 -- what each row knows is known
-abbrev KnowsItsOwn : List Standing → Standing → Type 0
+abbrev KnowsItsOwn : List KeptRow → KeptRow → Type 0
 KnowsItsOwn ks s = (n : ℕ) → s.decision ≡ Some (decisions.Commit n) → KnowsAt ks s.me n
 
-all_know : (ks : List Standing) → AllByRecursion (KnowsItsOwn ks) ks
+all_know : (ks : List KeptRow) → AllByRecursion (KnowsItsOwn ks) ks
 all_know [] = tt
 all_know (s ∷ ks) = ((λ n is. inl (refl, is)), all_weaker _ _ (λ x knows n is. inr (knows n is)) ks (all_know ks))
 
 -- ---- messages
 
-module _ (rows : List Standing) (w : Option RedoRecord) where
+module _ (rows : List KeptRow) (w : Option RedoRecord) where
   abbrev May : Post → Type 0
   May x = MayTell rows w x.from x.kind
 
@@ -96,29 +96,29 @@ module _ (rows : List Standing) (w : Option RedoRecord) where
   prepares_told me comment path i [] = tt
   prepares_told me comment path i (e ∷ es) = (tt, prepares_told me comment path (i + 1) es)
 
-  commit_told : (s : Standing) (n : ℕ) (bs : List Beyond) → CommitsNow w s.me n → Told (passes_commit s n bs)
+  commit_told : (s : KeptRow) (n : ℕ) (bs : List Beyond) → CommitsNow w s.me n → Told (passes_commit s n bs)
   commit_told s n [] now = one_told s.me kinds.Ack s.toward tt
   commit_told s n (b ∷ bs) now = each_told s.me (kinds.Committed n) (map (λ c. c.branch) (b ∷ bs)) (inl now)
 
   -- a decision goes on by the record of this turn
-  passes_told : (s : Standing) (d : Decision) → ((n : ℕ) → d ≡ decisions.Commit n → CommitsNow w s.me n) → Told (passes s d)
+  passes_told : (s : KeptRow) (d : Decision) → ((n : ℕ) → d ≡ decisions.Commit n → CommitsNow w s.me n) → Told (passes s d)
   passes_told s (decisions.Commit n) now = commit_told s n (beyond s) (now n refl)
   passes_told s decisions.Rollback now = all_each May (rollback_to s.me) (beyond s) (λ b. cond_both b.is_parent kinds.RolledBack kinds.Rollback (MayTell rows w s.me) (λ up. tt) (λ down. tt))
 
-  known_told : (s : Standing) (d : Option Decision) → s.decision ≡ d → KnowsItsOwn rows s → MayTell rows w s.me (tells d)
+  known_told : (s : KeptRow) (d : Option Decision) → s.decision ≡ d → KnowsItsOwn rows s → MayTell rows w s.me (tells d)
   known_told s None is knows = tt
   known_told s (Some (decisions.Commit n)) is knows = inr (knows n is)
   known_told s (Some decisions.Rollback) is knows = tt
 
-  asked_told : (s : Standing) (from : BranchId) → KnowsItsOwn rows s → MayTell rows w s.me (ask_answer s from)
+  asked_told : (s : KeptRow) (from : BranchId) → KnowsItsOwn rows s → MayTell rows w s.me (ask_answer s from)
   asked_told s from knows = cond_both (is_neighbor s from) (told_by s.decision) tolds.RolledBack (λ t. MayTell rows w s.me (told_kind t)) (λ near. known_told s s.decision refl knows) (λ other. tt)
 
   -- ---- recovery
 
-  again_told : (s : Standing) → Told (acks_again s)
+  again_told : (s : KeptRow) → Told (acks_again s)
   again_told s = cond_both (all_acked s && not s.forgot) (to_one s.me kinds.Ack s.toward) [] Told (λ all. one_told s.me kinds.Ack s.toward tt) (λ some. tt)
 
-  recovers_told : (s : Standing) (d : Option Decision) → s.decision ≡ d → KnowsItsOwn rows s → Told (recovers s d)
+  recovers_told : (s : KeptRow) (d : Option Decision) → s.decision ≡ d → KnowsItsOwn rows s → Told (recovers s d)
   recovers_told s None is knows = one_told s.me kinds.Ask s.toward tt
   recovers_told s (Some (decisions.Commit n)) is knows =
       all_append May _ (acks_again s) (each_told s.me (kinds.Committed n) (map (λ b. b.branch) (filter (λ b. not b.acked) (beyond s))) (inr (knows n is))) (again_told s)
@@ -138,13 +138,13 @@ module _ (rows : List Standing) (w : Option RedoRecord) where
 -- all that RECO asks and tells
 askings_told : (k : NodeState) (w : Option RedoRecord) → Told k.stored.durable.kept w (flat_map (λ a. a.says) (askings k))
 askings_told k w =
-    let rows : List Standing = k.stored.durable.kept in
+    let rows : List KeptRow = k.stored.durable.kept in
     flat_told rows w (askings k) (sorted_told rows w (map asks_live k.lives ++ map asks_kept rows) [] tt
     (all_append (AsksSo rows w) (map asks_live k.lives) (map asks_kept rows) (all_each (AsksSo rows w) asks_live k.lives (λ l. one_told rows w l.me kinds.Ask l.parent tt))
     (all_map (AsksSo rows w) asks_kept rows (all_weaker _ _ (λ s knows. recovers_told rows w s s.decision refl knows) rows (all_know rows)))))
 
 -- the rows of a node
-abbrev rows_at : NodeState → List Standing
+abbrev rows_at : NodeState → List KeptRow
 rows_at k = k.stored.durable.kept
 
 -- messages alone
@@ -157,14 +157,14 @@ said k input _ = (tt, tt)
 -- ---- steps
 
 -- an Ack teaches nothing
-untaught : (k : NodeState) (s : Standing) (from : BranchId) (w : Option RedoRecord) → IsKept k s → (b : BranchId) (kind : Kind)
-    → MayTell (put_item standing_id k.stored.durable.kept (acked_by s from)) w b kind → MayTell k.stored.durable.kept w b kind
+untaught : (k : NodeState) (s : KeptRow) (from : BranchId) (w : Option RedoRecord) → IsKept k s → (b : BranchId) (kind : Kind)
+    → MayTell (put_item kept_row_id k.stored.durable.kept (acked_by s from)) w b kind → MayTell k.stored.durable.kept w b kind
 untaught k s from w kept b (kinds.Committed n) (inl now) = inl now
 untaught k s from w kept b (kinds.Committed n) (inr knows) = inr (known_acked k.stored.durable.kept b n (subst (λ ks. KnowsAt ks b n) (rows_acked k s from kept) (known_unacked _ b n knows)))
 untaught k s from w kept b _ may = tt
 
 module _ (p : Place) (input : Input) where
-  pub step_tells : {k : NodeState} {d : Deed} → Step p input k d → Told (rows_at k) d.wrote d.says
+  pub step_tells : {k : NodeState} {d : TurnDraft} → Step p input k d → Told (rows_at k) d.wrote d.says
   step_tells (steps.Begins n s call rows fit none step) = step_tells step
   step_tells (steps.Pends n l given call has live code step) = step_tells step
   step_tells (steps.Lets_reads_go l comment site_below live begins step) = step_tells step
@@ -206,15 +206,15 @@ heard_rows k _ = refl
 
 -- what a turn sends, by its record
 pub turn_tells : (p : Place) (k : NodeState) (u : Turn) → Serves p k u
-    → AllByRecursion (λ m. MayTell k.stored.durable.kept (deed_of p k u.input).wrote m.from m.kind) (map (stamped (deed_of p k u.input).after.clock) (deed_of p k u.input).says)
+    → AllByRecursion (λ m. MayTell k.stored.durable.kept (draft_of p k u.input).wrote m.from m.kind) (map (stamped (draft_of p k u.input).after.clock) (draft_of p k u.input).says)
 turn_tells p k u serving =
-    let d : Deed = deed_of p k u.input in
+    let d : TurnDraft = draft_of p k u.input in
     all_map (λ (m : Msg). MayTell k.stored.durable.kept d.wrote m.from m.kind) (stamped d.after.clock) d.says
     (subst (λ s. Told s.durable.kept d.wrote d.says) (heard_rows k u.input) (step_tells p u.input serving.step))
 
 sent_so : (p : Place) (k : NodeState) (u : Turn) → Serves p k u → AllByRecursion (λ m. MayTell k.stored.durable.kept (turn_of p k u.input).wrote m.from m.kind) u.sent
 unfolding turn_of
-sent_so p k u serving = of_sent p k u serving (λ w ms. AllByRecursion (λ m. MayTell k.stored.durable.kept (deed_of p k u.input).wrote m.from m.kind) ms) tt (turn_tells p k u serving)
+sent_so p k u serving = of_sent p k u serving (λ w ms. AllByRecursion (λ m. MayTell k.stored.durable.kept (draft_of p k u.input).wrote m.from m.kind) ms) tt (turn_tells p k u serving)
 
 tells_its_own : (places : List Place) (asked : List Command) (f : Facts) (h : Happening) → MayHappen places asked f h → TellsItsOwn places f h
 tells_its_own places asked f (happenings.Turn u) may = λ k up. sent_so (place_at places u.node) k u (serves places f u k (turn_of_node places f u k asked may up))

@@ -6,13 +6,13 @@ use Rattle.std.specs.List.{AllByRecursion}
 use Rattle.std.proofs.lemmas.Bool.Decides.{nat_tests}
 use Rattle.tran_ids.proofs.NumberedLemmas.{set_length}
 use Rattle.agreement.specs.Events.{Event, exit}
-use Rattle.node_rules.specs.Data.{BranchId, Standing, RedoRecord, Place, Input}
+use Rattle.node_rules.specs.Data.{BranchId, KeptRow, RedoRecord, Place, Input}
 use Rattle.node_rules.specs.Data.inputs
 use Rattle.node_rules.specs.Data.records
 use Rattle.node_rules.specs.Words.{numbered}
-use Rattle.node_rules.specs.NodeState.{NodeState, Deed, live_id}
+use Rattle.node_rules.specs.NodeState.{NodeState, TurnDraft, live_id}
 use Rattle.node_rules.specs.Records.{nothing_stored, stored_by}
-use Rattle.node_rules.specs.Turn.{turn_of, heard, deed_of, stamped}
+use Rattle.node_rules.specs.Turn.{turn_of, heard, draft_of, stamped}
 use Rattle.run_rules.specs.Data.{Turn, Command}
 use Rattle.run_rules.specs.Data.happenings
 use Rattle.run_rules.specs.Branches.{is_among}
@@ -93,8 +93,8 @@ module _ (places : List Place) (asked : List Command) (each : (n : ℕ) (p : Pla
     abbrev rs : List RedoRecord
     rs = records_at f u.node
 
-    abbrev d : Deed
-    d = deed_of p k u.input
+    abbrev d : TurnDraft
+    d = draft_of p k u.input
 
     abbrev g : Facts
     g = facts_after places asked f (happenings.Turn u)
@@ -241,7 +241,7 @@ module _ (places : List Place) (asked : List Command) (each : (n : ℕ) (p : Pla
     ]
 
     -- rows, with the record and with all
-    rows_all : (ks : List Standing) → RowsAre t1 ks → RowsAre r ks
+    rows_all : (ks : List KeptRow) → RowsAre t1 ks → RowsAre r ks
     rows_all ks all = all_weaker (RowIs t1) (RowIs r) (λ s so. row_later added s (λ e later. later_learned s.me e later) (λ e later. later_forced s.me e later) so) ks all
 
     rows_elsewhere : (m : ℕ) → m ≢ n → RowsAre t1 (stored_rows f m)

@@ -1,7 +1,7 @@
 -- What is so of branches that began stays so when more of them are known.
 use Rattle.std.proofs.Common.{ℕ, ◌+◌, List, [], ◌∷◌, Option, Some, None, inl, inr}
 use Rattle.std.specs.Prelude.{IfSome}
-use Rattle.node_rules.specs.Data.{BranchId, Kind, Edge, Standing, Live, RedoRecord}
+use Rattle.node_rules.specs.Data.{BranchId, Kind, Edge, KeptRow, Live, RedoRecord}
 use Rattle.node_rules.specs.Data.kinds
 use Rattle.node_rules.specs.Data.records
 use Rattle.redo_record.specs.Rows.{sealed_as, decided_as}
@@ -44,7 +44,7 @@ module _ (B C : Born → Type 0) (each : (x : Born) → B x → C x) where
   toward_wider me None is = tt
   toward_wider me (Some b) is = near_wider me b is
 
-  row_wider : (s : Standing) → KeptIs B s → KeptIs C s
+  row_wider : (s : KeptRow) → KeptIs B s → KeptIs C s
   row_wider s is = record {
     born = is.born;
     began = each is.born is.began;

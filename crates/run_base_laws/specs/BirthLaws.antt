@@ -2,7 +2,7 @@
 -- what nodes keep and say of a branch's neighbours is as they began.
 use Rattle.std.specs.Prelude.{◌≡◌, ◌≢◌, ℕ, ◌+◌, ◌≤◌, ◌⊎◌, true, List, [], ◌∷◌, Option, Some, None}
 use Rattle.std.specs.List.{AllByRecursion}
-use Rattle.node_rules.specs.Data.{BranchId, Kind, Edge, Live, Kid, Standing, Opening, RedoRecord}
+use Rattle.node_rules.specs.Data.{BranchId, Kind, Edge, Live, Kid, KeptRow, Opening, RedoRecord}
 use Rattle.node_rules.specs.Data.kinds
 use Rattle.node_rules.specs.Data.records
 use Rattle.redo_record.specs.Rows.{sealed_as, decided_as}
@@ -79,7 +79,7 @@ pub record IsRowOf (B : Born → Type 0) (me root : BranchId) (parent : Option B
   pub site_way : TowardIs B me toward
 
 -- of a kept branch
-abbrev pub KeptIs : (Born → Type 0) → Standing → Type 0
+abbrev pub KeptIs : (Born → Type 0) → KeptRow → Type 0
 KeptIs B s = IsRowOf B s.me s.root s.parent s.children s.toward
 
 -- an Opening tells a branch that began so

@@ -3,7 +3,7 @@ use Rattle.std.specs.Prelude.{◌≡◌, ℕ, ◌⊎◌, List, [], ◌∷◌, So
 use Rattle.std.specs.List.{AllByRecursion}
 use Rattle.node_rules.specs.Data.{BranchId, Place}
 use Rattle.node_rules.specs.NodeState.{NodeState}
-use Rattle.node_rules.specs.Turn.{Is_gone, stand_of}
+use Rattle.node_rules.specs.Turn.{Is_gone, status_of}
 use Rattle.node_rules.specs.Records.{nothing_stored, stored_by}
 use Rattle.run_rules.specs.Data.{Happening, Command}
 use Rattle.run_rules.specs.Data.happenings
@@ -62,5 +62,5 @@ SealedAreKept = (t : History) → IsLawfulRun t → (b : BranchId) (n : ℕ) →
 
 -- In every lawful run a sealed branch of which its node knows nothing learned a rollback or forgot.
 abbrev pub GoneAreDone : Type 0
-GoneAreDone = (t : History) → IsLawfulRun t → (b : BranchId) (k : NodeState) → node_at (facts_at t) b.node ≡ Some k → stand_of k b ≡ Is_gone
+GoneAreDone = (t : History) → IsLawfulRun t → (b : BranchId) (k : NodeState) → node_at (facts_at t) b.node ≡ Some k → status_of k b ≡ Is_gone
     → (n : ℕ) → exit (events_of t) b ≡ Some (Sealed n) → IsDone (events_of t) b

@@ -5,14 +5,14 @@ use Rattle.std.specs.List.{AllByRecursion, list_any}
 use Rattle.redo_record.specs.Kept.{stands_at}
 use Rattle.agreement.specs.Outcomes.{differ}
 use Rattle.agreement.specs.Events.{Sealed, Event, Forget, Send_ack, exit, learned, forced, Has, Knows}
-use Rattle.node_rules.specs.Data.{BranchId, Decision, State, Standing, RedoRecord, Kind, Msg}
+use Rattle.node_rules.specs.Data.{BranchId, Decision, State, KeptRow, RedoRecord, Kind, Msg}
 use Rattle.node_rules.specs.Data.decisions
 use Rattle.node_rules.specs.Data.states
 use Rattle.node_rules.specs.Data.records
 use Rattle.node_rules.specs.Data.kinds
 
 -- what a branch knows of its decision
-abbrev pub IsKnown : List Event → Standing → Option Decision → Type 0
+abbrev pub IsKnown : List Event → KeptRow → Option Decision → Type 0
 IsKnown t s None = (exit t s.me ≡ Some (Sealed s.scn)) × (learned t s.me ≡ None)
 IsKnown t s (Some (decisions.Commit n)) = Knows t s.me n
 IsKnown t s (Some decisions.Rollback) = learned t s.me ≡ Some decisions.Rollback
@@ -25,14 +25,14 @@ IsForcedAs t b (states.ForcedCommit n) d = forced t b ≡ Some (decisions.Commit
 IsForcedAs t b states.ForcedRollback d = forced t b ≡ Some decisions.Rollback
 
 -- A row stands as the events say.
-pub record RowIs (t : List Event) (s : Standing) : Type 0 where
+pub record RowIs (t : List Event) (s : KeptRow) : Type 0 where
   pub left : exit t s.me ≢ None
   pub known : IsKnown t s s.decision
   pub force : IsForcedAs t s.me s.state s.decision
   pub forgot : s.forgot ≡ true → Has (Forget s.me) t
 
 -- all rows do
-abbrev pub RowsAre : List Event → List Standing → Type 0
+abbrev pub RowsAre : List Event → List KeptRow → Type 0
 RowsAre t ks = AllByRecursion (RowIs t) ks
 
 -- What a record's event needs of what stands, but for messages.
@@ -59,7 +59,7 @@ abbrev pub MaySayAll : List Event → List Msg → Type 0
 MaySayAll t ms = AllByRecursion (λ m. MaySay t m.from m.to m.scn m.kind) ms
 
 -- a branch has a row
-abbrev pub HasRow : BranchId → List Standing → Type 0
+abbrev pub HasRow : BranchId → List KeptRow → Type 0
 HasRow b ks = list_any (stands_at b) ks ≡ true
 
 -- it learned a rollback or forgot

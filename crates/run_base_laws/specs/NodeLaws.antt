@@ -2,12 +2,12 @@
 -- they give out, and the commits that they tell.
 use Rattle.std.specs.Prelude.{◌≡◌, ℕ, ◌+◌, ◌<◌, ◌≤◌, ◌||◌, ◌⊎◌, Bool, true, false, if◌then◌else◌, List, [], ◌∷◌, ◌++◌, map, option_to_list, Option, Some, None, IfSome}
 use Rattle.std.specs.List.{AllByRecursion, list_any}
-use Rattle.node_rules.specs.Data.{BranchId, Kind, Kid, Standing, RedoRecord, Place}
+use Rattle.node_rules.specs.Data.{BranchId, Kind, Kid, KeptRow, RedoRecord, Place}
 use Rattle.node_rules.specs.Data.decisions
 use Rattle.node_rules.specs.Data.kinds
 use Rattle.node_rules.specs.Data.records
 use Rattle.node_rules.specs.Words.{is_item_of}
-use Rattle.node_rules.specs.NodeState.{NodeState, Stored, live_id, doubt_id, standing_id}
+use Rattle.node_rules.specs.NodeState.{NodeState, Stored, live_id, doubt_id, kept_row_id}
 use Rattle.node_rules.specs.Records.{nothing_stored, stored_by}
 use Rattle.node_rules.specs.Turn.{turn_of}
 use Rattle.run_rules.specs.Data.{Command, Happening}
@@ -67,7 +67,7 @@ abbrev pub unacked_kid : Kid → Kid
 unacked_kid c = record c { acked = false }
 
 -- a row with no Ack heard
-abbrev pub unacked_row : Standing → Standing
+abbrev pub unacked_row : KeptRow → KeptRow
 unacked_row s = record s { parent_acked = false; children = map unacked_kid s.children }
 
 -- what is stored, with no Ack heard
@@ -85,12 +85,12 @@ count_of id b (x ∷ xs) = if is_item_of id b x then 1 + count_of id b xs else c
 
 -- a branch has one row at a node or is live there once, and not both
 abbrev pub IdsAreFresh : Type 0
-IdsAreFresh = OfEachNode (λ p rs k. (b : BranchId) → count_of standing_id b k.stored.durable.kept + count_of live_id b k.lives ≤ 1)
+IdsAreFresh = OfEachNode (λ p rs k. (b : BranchId) → count_of kept_row_id b k.stored.durable.kept + count_of live_id b k.lives ≤ 1)
 
 -- ---- commits
 
 -- a row knows the commit of its branch at this SCN
-abbrev pub KnowsAt : List Standing → BranchId → ℕ → Type 0
+abbrev pub KnowsAt : List KeptRow → BranchId → ℕ → Type 0
 KnowsAt [] b n = ⊥
 KnowsAt (s ∷ ss) b n = ((s.me ≡ b) × (s.decision ≡ Some (decisions.Commit n))) ⊎ KnowsAt ss b n
 
@@ -100,7 +100,7 @@ CommitsNow None b n = ⊥
 CommitsNow (Some r) b n = Commits b n r
 
 -- Committed is told by a branch that knew the commit, or that knows it by the record of this turn
-abbrev pub MayTell : List Standing → Option RedoRecord → BranchId → Kind → Type 0
+abbrev pub MayTell : List KeptRow → Option RedoRecord → BranchId → Kind → Type 0
 MayTell rows w b (kinds.Committed n) = CommitsNow w b n ⊎ KnowsAt rows b n
 MayTell rows w b _ = Unit {0}
 

@@ -14,13 +14,13 @@ use Rattle.node_rules.specs.Data.kinds
 use Rattle.node_rules.specs.Data.votes
 use Rattle.node_rules.specs.declared.session.Session.{Session}
 use Rattle.node_rules.specs.Inputs.{Came, IsCall}
-use Rattle.node_rules.specs.NodeState.{NodeState, Deed, Branch, live_at, to_one}
+use Rattle.node_rules.specs.NodeState.{NodeState, TurnDraft, Branch, live_at, to_one}
 use Rattle.node_rules.specs.Calls.{answer_says, exec_to, with_edge, hears_reply}
 use Rattle.node_rules.specs.Statement.{ran, after_run}
 use Rattle.node_rules.specs.Prepare.{path_of, site_neighbors, without_read_keys}
 use Rattle.node_rules.specs.Commit.{beyond, is_neighbor}
 use Rattle.node_rules.specs.Recovery.{told_by, told_kind}
-use Rattle.node_rules.specs.Turn.{Is_gone, stand_of}
+use Rattle.node_rules.specs.Turn.{Is_gone, status_of}
 use Rattle.node_rules.proofs.Steps as steps
 use Rattle.node_rules.proofs.Steps.{Step, Says, Acting, Answers, Collected}
 use Rattle.run_rules.specs.Trail.{is_abort}
@@ -30,7 +30,7 @@ use Rattle.run_branch_laws.proofs.QuietLemmas.{came_apart}
 
 -- Why a branch says Abort.
 pub data Aborts (k : NodeState) (input : Input) (b : BranchId) : Type 0 where
-  Was_gone : (from : BranchId) (site_below : Bool) (comment : List ℕ) → Came input from b (kinds.Prepare site_below comment) → stand_of k b ≡ Is_gone → Aborts k input b
+  Was_gone : (from : BranchId) (site_below : Bool) (comment : List ℕ) → Came input from b (kinds.Prepare site_below comment) → status_of k b ≡ Is_gone → Aborts k input b
   Hears_one : (z : Live) (from : BranchId) (site_below : Bool) → live_at k z.me ≡ Some z → z.me ≡ b → Answers input z from votes.Abort site_below → Aborts k input b
 
 -- a message is Abort for such a reason, or another
@@ -71,7 +71,7 @@ says_so {k = k} {input = input} (steps.Tells s from came kept) =
 says_so {k = k} {input = input} (steps.Recovers reco) = none_so k input _ (askings_say Other others k)
 says_so _ = (tt, tt)
 
--- ---- what a change before the deed leaves so
+-- ---- what a change before the draft leaves so
 
 called : (n : ℕ) (s : Stmt) (input : Input) → IsCall input n s → (j k : NodeState) (b : BranchId) (kind : Kind) → AbortSo j input b kind → AbortSo k input b kind
 called n s input call j k b kinds.Abort (Was_gone from site_below comment came gone) = absurd (came_apart n s came call)
@@ -79,7 +79,7 @@ called n s input call j k b kinds.Abort (Hears_one z from site_below found me an
 called n s input call j k b _ so = tt
 
 keys_gone : (k : NodeState) (c : BranchId) (input : Input) (b : BranchId) (kind : Kind) → AbortSo (without_read_keys k c) input b kind → AbortSo k input b kind
-unfolding stand_of
+unfolding status_of
 keys_gone k c input b kinds.Abort (Was_gone from site_below comment came gone) = Was_gone from site_below comment came gone
 keys_gone k c input b kinds.Abort (Hears_one z from site_below found me answers) = Hears_one z from site_below found me answers
 keys_gone k c input b _ so = tt
@@ -116,7 +116,7 @@ one_so k input me (Some q) why = (why, tt)
 -- ---- every step
 
 module _ (p : Place) (input : Input) where
-  pub aborts_on : {k : NodeState} {d : Deed} → Step p input k d → SaidSo k input d.says
+  pub aborts_on : {k : NodeState} {d : TurnDraft} → Step p input k d → SaidSo k input d.says
   aborts_on (steps.Begins {k = k} {d = d} n s call rows fit none step) = all_weaker _ _ (λ x so. called n s input call _ k x.from x.kind so) d.says (aborts_on step)
   aborts_on (steps.Pends {k = k} {d = d} n l given call has live code step) = all_weaker _ _ (λ x so. called n _ input call _ k x.from x.kind so) d.says (aborts_on step)
   aborts_on (steps.Lets_reads_go {k = k} {d = d} l comment site_below live begins step) = all_weaker _ _ (λ x so. keys_gone k l.me input x.from x.kind so) d.says (aborts_on step)

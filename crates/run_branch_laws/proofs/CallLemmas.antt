@@ -10,7 +10,7 @@ use Rattle.node_rules.specs.declared.work.Going.{Going}
 use Rattle.node_rules.specs.Data.acts
 use Rattle.node_rules.specs.declared.session.PendingCall.TheVariants as pending
 use Rattle.session_tree.specs.Live.{new_edge}
-use Rattle.node_rules.specs.NodeState.{NodeState, Branch, Deed, live_id, branch_at, with_branch, with_live, without_branch}
+use Rattle.node_rules.specs.NodeState.{NodeState, Branch, TurnDraft, live_id, branch_at, with_branch, with_live, without_branch}
 use Rattle.node_rules.specs.Statement.{ran, after_run}
 use Rattle.node_rules.specs.Calls.{kept_reply, with_answer, called, with_edge, hears_reply, reply_going, reply_of}
 use Rattle.node_rules.specs.Prepare.{with_prepare_sent, ready, has_voted}
@@ -109,7 +109,7 @@ as_many_set : (x : Branch) (i : ℕ) (weight : Option ℕ) (count : ℕ) (e : Ed
 as_many_set x i weight count e = set_length x.live.edges i _
 
 -- each step keeps it
-calls_on : (p : Place) (input : Input) {k : NodeState} {d : Deed} → Step p input k d → SessionsFit k → Nodes k → Nodes d.after
+calls_on : (p : Place) (input : Input) {k : NodeState} {d : TurnDraft} → Step p input k d → SessionsFit k → Nodes k → Nodes d.after
 calls_on p input (steps.Begins {k = k} n s call rows fit none step) ss now =
     calls_on p input step (begun_so k ss p n) (each_begun Fits Fits k.lives k.works now _ (unanswered _ _ _ refl refl) (λ y v live any so. so))
 calls_on p input (steps.Pends {k = k} n l given call has live code step) ss now = calls_on p input step (pends_so k ss n pending.Commit) now

@@ -9,9 +9,9 @@ use Rattle.node_rules.specs.declared.session.PendingCall.{PendingCall}
 use Rattle.node_rules.specs.declared.session.PendingCall.TheVariants as pending
 use Rattle.node_rules.specs.declared.work.Going.{Going}
 use Rattle.node_rules.specs.Words.{numbered, set_numbered}
-use Rattle.node_rules.specs.NodeState.{NodeState, Branch, Deed, live_id, live_at, branch_at}
+use Rattle.node_rules.specs.NodeState.{NodeState, Branch, TurnDraft, live_id, live_at, branch_at}
 use Rattle.node_rules.specs.Sessions.{session_at}
-use Rattle.node_rules.specs.Turn.{turn_of, start_of, made, heard, deed_of}
+use Rattle.node_rules.specs.Turn.{turn_of, start_of, made, heard, draft_of}
 use Rattle.node_rules.proofs.StandLemmas.{live_so}
 use Rattle.agreement.specs.Events.{Event}
 use Rattle.run_rules.specs.Data.{Turn, Happening, Command}
@@ -77,8 +77,8 @@ module _ (places : List Place) (asked : List Command) (each : (n : ℕ) (p : Pla
       abbrev p : Place
       p = place_at places u.node
 
-      abbrev d : Deed
-      d = deed_of p k u.input
+      abbrev d : TurnDraft
+      d = draft_of p k u.input
 
       abbrev g : Facts
       g = facts_after places asked f (happenings.Turn u)

@@ -17,7 +17,7 @@ use Rattle.node_rules.specs.declared.work.Work.{Work}
 use Rattle.node_rules.specs.declared.work.Going.{Going}
 use Rattle.node_rules.specs.Words.{same, numbered, item_at, put_item, drop_item}
 use Rattle.node_rules.specs.Inputs.{Came, IsCall}
-use Rattle.node_rules.specs.NodeState.{NodeState, Branch, Deed, live_id, work_id, live_at, branch_at, post, to_one, to_each, no_work}
+use Rattle.node_rules.specs.NodeState.{NodeState, Branch, TurnDraft, live_id, work_id, live_at, branch_at, post, to_one, to_each, no_work}
 use Rattle.node_rules.specs.Sessions.{session_at}
 use Rattle.node_rules.specs.Names.{passed_on}
 use Rattle.node_rules.specs.Statement.{ran, after_run}
@@ -44,7 +44,7 @@ use Rattle.run_base_laws.proofs.KindSayLemmas.{AllSay, one_says, each_says, prep
 use Rattle.run_base_laws.proofs.CallTurnLemmas.{one_exec, if_zero, silent_other, exec_more, reply_more}
 use Rattle.run_base_laws.proofs.InTurnLemmas as turns
 use Rattle.run_base_laws.proofs.InTurnLemmas.{IsDumb, dumb_decisions, dumb_execs, peer, none_waits}
-use Rattle.run_base_laws.proofs.InTurnStepLemmas as deeds
+use Rattle.run_base_laws.proofs.InTurnStepLemmas as drafts
 use Rattle.run_branch_laws.proofs.WalkLemmas.{plain_way, asks_way, unasked_below, unasked_above}
 use Rattle.run_branch_laws.proofs.FreezeLemmas.{acting_phase, no_ask, IsPlain, plain_decisions, plain_asks, prepares_ask, asked_split, AskedAnswered, asked_answered, Frozen, stays_frozen, asked_frozen, working_or}
 
@@ -75,14 +75,14 @@ module _ (E : BranchId → Option ℕ) (A : BranchId → Option BranchId) (G Her
 
   -- a branch that asked nobody begins
   abbrev pub Unasking : Born → Type 0
-  Unasking x = deeds.NewBorn E A G Here input said received x × ((c : BranchId) → was_asked said x.me c ≡ false)
+  Unasking x = drafts.NewBorn E A G Here input said received x × ((c : BranchId) → was_asked said x.me c ≡ false)
 
   -- messages leave it so, and ask in the name of branches that are here
   abbrev pub Asks : List Post → Type 0
   Asks says = AskedAnswered (said ++ says) × ((b c : BranchId) → (Here b → ⊥) → was_asked says b c ≡ false) × OneWay (said ++ says)
 
   -- what a step leaves
-  abbrev pub Freezes : Deed → Type 0
+  abbrev pub Freezes : TurnDraft → Type 0
   Freezes d = EachLive (Then d.says) d.after.lives d.after.works × Asks d.says
 
   module _ (prepared : Prepared) where
@@ -286,16 +286,16 @@ module _ (E : BranchId → Option ℕ) (A : BranchId → Option BranchId) (G Her
                   omega (arith, before, none, exec_more said says p c, reply_more said says c))
             ]),
             (λ b c not. asks_no_other b c (turns.elsewhere E A G Here input said l.me b here not)),
-            asks_way l.me l.comment (path_of site_below (step_from l)) E l.edges (deeds.acting_begun E A G Here input said received k now why).kids said (λ c. unasked_below said l.me c (asks_first why c)) (λ c. unasked_above said l.me c (asks_first why c)) prepared.one,
+            asks_way l.me l.comment (path_of site_below (step_from l)) E l.edges (drafts.acting_begun E A G Here input said received k now why).kids said (λ c. unasked_below said l.me c (asks_first why c)) (λ c. unasked_above said l.me c (asks_first why c)) prepared.one,
           ),
         )
 
     -- ---- every step
 
     says_freeze : (k : NodeState) (ss : SessionsFit k) (now : Nodes k) (ice : Ices k) {says : List Post} → Says k input says → EachLive (Then says) k.lives k.works × Asks says
-    says_freeze k ss now ice (steps.Gone_replies to from call given advice s came gone) = replies_freeze k ss now ice _ (refl, tt) (λ p c. one_exec to from p c (deeds.refused_kind call) ∙ if_zero (same to p && same from c) 0 refl)
+    says_freeze k ss now ice (steps.Gone_replies to from call given advice s came gone) = replies_freeze k ss now ice _ (refl, tt) (λ p c. one_exec to from p c (drafts.refused_kind call) ∙ if_zero (same to p && same from c) 0 refl)
     says_freeze k ss now ice (steps.Replies_again x to call given advice s t came live last kept) =
-        replies_freeze k ss now ice _ (refl, tt) (λ p c. one_exec x.live.me to p c (deeds.again_kind x t) ∙ if_zero (same x.live.me p && same to c) 0 refl)
+        replies_freeze k ss now ice _ (refl, tt) (λ p c. one_exec x.live.me to p c (drafts.again_kind x t) ∙ if_zero (same x.live.me p && same to c) 0 refl)
     says_freeze k ss now ice (steps.Tells s from came kept) = quiet k ss now ice _ (told_says IsPlain plain_decisions (kept_told s from), tt) (told_says IsDumb dumb_decisions (kept_told s from), tt)
     says_freeze k ss now ice (steps.Recovers reco) = quiet k ss now ice _ (askings_say IsPlain plain_decisions k) (askings_say IsDumb dumb_decisions k)
     says_freeze k ss now ice (steps.Gone_aborts to from site_below comment came gone) = quiet k ss now ice _ (refl, tt) ((refl, refl), tt)
@@ -308,7 +308,7 @@ module _ (E : BranchId → Option ℕ) (A : BranchId → Option BranchId) (G Her
     says_freeze k ss now ice (steps.Knows_rollback s from came kept knows) = quiet k ss now ice _ (refl, tt) ((refl, refl), tt)
     says_freeze k ss now ice (steps.Is_in_doubt l from came live other) = quiet k ss now ice _ (refl, tt) ((refl, refl), tt)
 
-    acts_freeze : (k : NodeState) (ss : SessionsFit k) (now : Nodes k) (ice : Ices k) {l : Live} {site_below : Bool} (a : Act) → Acting k input l site_below a → deeds.Granted E A G Here input said received (act_turn k l site_below a) → Freezes (act_turn k l site_below a)
+    acts_freeze : (k : NodeState) (ss : SessionsFit k) (now : Nodes k) (ice : Ices k) {l : Live} {site_below : Bool} (a : Act) → Acting k input l site_below a → drafts.Granted E A G Here input said received (act_turn k l site_below a) → Freezes (act_turn k l site_below a)
     acts_freeze k ss now ice {l = l} acts.Rest why granted = stays_put k ss now ice l [] tt tt (asked_frozen said [] l.me l.parent l.phase (acting_phase why) (acting_asked k ss now ice why))
     acts_freeze k ss now ice {l = l} acts.AskDown why granted = asks_down k ss now ice why (λ found none code. granted.grants l.me l found none code) (acting_here k ss now ice why)
     acts_freeze k ss now ice {l = l} acts.SayReady why granted =
@@ -340,24 +340,24 @@ module _ (E : BranchId → Option ℕ) (A : BranchId → Option BranchId) (G Her
     rolled l = (each_says IsPlain l.me kinds.Rollback (children_of l) refl, each_says IsDumb l.me kinds.Rollback (children_of l) (refl, refl))
 
     module _ (p : Place) (place : (b : BranchId) → b.node ≡ p.number → Here b) where
-      pub freezes_on : {k : NodeState} {d : Deed} → Step p input k d → deeds.Granted E A G Here input said received d → SessionsFit k → News Unasking p input k → Nodes k → Ices k → Freezes d
+      pub freezes_on : {k : NodeState} {d : TurnDraft} → Step p input k d → drafts.Granted E A G Here input said received d → SessionsFit k → News Unasking p input k → Nodes k → Ices k → Freezes d
       freezes_on (steps.Begins {k = k} n s call rows range none step) granted ss news now ice =
           let root = news.root n s call rows none in
           freezes_on step granted (begun_so k ss p n) (begun_news Unasking p input k n news)
-          (deeds.begins_so E A G Here input said received k now (fresh_root p k (new_root p k n)) refl (place (new_root p k n) refl) root.0)
+          (drafts.begins_so E A G Here input said received k now (fresh_root p k (new_root p k n)) refl (place (new_root p k n) refl) root.0)
           (each_begun Ice Ice k.lives k.works ice (fresh_root p k (new_root p k n)) (begun_ice _ (no_work (new_root p k n)) refl refl root.1) (λ y v live any is. is))
       freezes_on (steps.Pends {k = k} n l given call has live code step) granted ss news now ice = freezes_on step granted (pends_so k ss n pending.Commit) (pends_news Unasking p input k n given call news) now ice
       freezes_on (steps.Lets_reads_go {k = k} l comment site_below live begins step) granted ss news now ice = freezes_on step granted (record { roots = ss.roots; above = ss.above }) (lets_news Unasking p input k l.me news) now ice
       freezes_on (steps.Counts_ack {k = k} s from kept came counts step) granted ss news now ice = freezes_on step granted (record { roots = ss.roots; above = ss.above }) (acked_news Unasking p input k _ news) now ice
       freezes_on (steps.Sends {k = k} posts why) granted ss news now ice = says_freeze k ss now ice why
       freezes_on (steps.Runs {k = k} x s given t asked way) granted ss news now ice =
-          answers k ss now ice (record x { live = after_run x.live (ran p k x.live.me s t) }) _ (deeds.asked_mine E A G Here input said received k asked) (asked_frozen_so k ss now ice asked)
-      freezes_on (steps.Goes_nowhere {k = k} x s given r asked way) granted ss news now ice = answers k ss now ice x _ (deeds.asked_mine E A G Here input said received k asked) (asked_frozen_so k ss now ice asked)
+          answers k ss now ice (record x { live = after_run x.live (ran p k x.live.me s t) }) _ (drafts.asked_mine E A G Here input said received k asked) (asked_frozen_so k ss now ice asked)
+      freezes_on (steps.Goes_nowhere {k = k} x s given r asked way) granted ss news now ice = answers k ss now ice x _ (drafts.asked_mine E A G Here input said received k asked) (asked_frozen_so k ss now ice asked)
       freezes_on (steps.Calls {k = k} x s given i table asked way) granted ss news now ice =
-          calls k ss now ice x i (passed_on s table) given k.sessions (deeds.asked_mine E A G Here input said received k asked) (asked_frozen_so k ss now ice asked) (asked_works k ss now ice asked)
+          calls k ss now ice x i (passed_on s table) given k.sessions (drafts.asked_mine E A G Here input said received k asked) (asked_frozen_so k ss now ice asked) (asked_works k ss now ice asked)
       freezes_on (steps.Opens {k = k} x s given node link table asked way) granted ss news now ice =
           let says : List Post = post x.live.me (nobody_at node) (kinds.Open (next_edge x.live) x.live.root (x.live.depth + 1)) in
-          put k ss now ice says x.live (waits_for_opened x link (passed_on s table) given).work (deeds.asked_mine E A G Here input said received k asked) (refl, tt) (λ p c. inl (dumb_execs p c says ((refl, refl), tt))) (asked_frozen_so k ss now ice asked)
+          put k ss now ice says x.live (waits_for_opened x link (passed_on s table) given).work (drafts.asked_mine E A G Here input said received k asked) (refl, tt) (λ p c. inl (dumb_execs p c says ((refl, refl), tt))) (asked_frozen_so k ss now ice asked)
       freezes_on (steps.Goes_on {k = k} x from strength g link opened) granted ss news now ice =
           calls k ss now ice (with_edge x (new_edge from link strength)) (length x.live.edges + 1) g.statement (g.room - 1) k.sessions (work_is k x.live.me x opened.live)
           (found_ice k ss now ice x opened.live).frozen (waits_working k ss now ice x g opened.live opened.going)

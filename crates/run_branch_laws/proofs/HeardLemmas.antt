@@ -11,7 +11,7 @@ use Rattle.redo_record.specs.Rows.{kid_of, sealed_as, decided_as, has_neighbors}
 use Rattle.commit_forget.specs.declared.next.Next.TheVariants as nexts
 use Rattle.commit_forget.specs.Next.{acks_kid}
 use Rattle.session_tree.specs.Live.{is_branch, new_edge}
-use Rattle.node_rules.specs.Data.{BranchId, Edge, Peer, Vote, Kind, Live, Act, Standing, RedoRecord, Place, Input}
+use Rattle.node_rules.specs.Data.{BranchId, Edge, Peer, Vote, Kind, Live, Act, KeptRow, RedoRecord, Place, Input}
 use Rattle.node_rules.specs.Data.votes
 use Rattle.node_rules.specs.Data.acts
 use Rattle.node_rules.specs.Data.kinds
@@ -20,7 +20,7 @@ use Rattle.node_rules.specs.Data.params
 use Rattle.node_rules.specs.Data.records
 use Rattle.node_rules.specs.Words.{same, numbered, set_numbered, put_item, drop_item}
 use Rattle.node_rules.specs.Inputs.{Came}
-use Rattle.node_rules.specs.NodeState.{NodeState, Branch, Deed, Stored, live_id, standing_id, live_at, branch_at}
+use Rattle.node_rules.specs.NodeState.{NodeState, Branch, TurnDraft, Stored, live_id, kept_row_id, live_at, branch_at}
 use Rattle.node_rules.specs.Records.{applied, stored_by}
 use Rattle.node_rules.specs.Statement.{ran, after_run}
 use Rattle.node_rules.specs.Calls.{with_edge, hears_reply}
@@ -43,16 +43,16 @@ module _ (t : List Event) where
   kids_unacked : (me : BranchId) (ps : List Peer) → AllByRecursion (λ c. c.acked ≡ true → Has (Send_ack c.branch me) t) (map kid_of ps)
   kids_unacked me ps = all_each (λ c. c.acked ≡ true → Has (Send_ack c.branch me) t) kid_of ps (λ q no. absurd cc)
 
-  rows_changed : (c : BranchId) (g : Standing → Standing) → ((x : Standing) → AcksAre t x → AcksAre t (g x)) → (ks : List Standing) → AllByRecursion (AcksAre t) ks → AllByRecursion (AcksAre t) (change_where (stands_at c) g ks)
+  rows_changed : (c : BranchId) (g : KeptRow → KeptRow) → ((x : KeptRow) → AcksAre t x → AcksAre t (g x)) → (ks : List KeptRow) → AllByRecursion (AcksAre t) ks → AllByRecursion (AcksAre t) (change_where (stands_at c) g ks)
   rows_changed c g each ks all =
       all_map (AcksAre t) (λ x. if stands_at c x then g x else x) ks
       (all_weaker (AcksAre t) _ (λ x so. cond_both (stands_at c x) (g x) x (AcksAre t) (λ here. each x so) (λ other. so)) ks all)
 
-  rows_left : (test : Standing → Bool) (ks : List Standing) → AllByRecursion (AcksAre t) ks → AllByRecursion (AcksAre t) (drop_where test ks)
+  rows_left : (test : KeptRow → Bool) (ks : List KeptRow) → AllByRecursion (AcksAre t) ks → AllByRecursion (AcksAre t) (drop_where test ks)
   rows_left test ks all = all_filter (AcksAre t) (AcksAre t) (λ x. not (test x)) (λ x passes so. so) ks all
 
   -- a new row holds no Ack, and no record changes those of others
-  rows_kept : (ks : List Standing) (r : RedoRecord) → AllByRecursion (AcksAre t) ks → AllByRecursion (AcksAre t) (kept_after ks r)
+  rows_kept : (ks : List KeptRow) (r : RedoRecord) → AllByRecursion (AcksAre t) ks → AllByRecursion (AcksAre t) (kept_after ks r)
   unfolding kept_after
   rows_kept ks (records.Sealed r) all = all_put (AcksAre t) (λ y. y.me) ks (sealed_as r) all (record { above = λ no b is. absurd cc; below = kids_unacked r.me r.children })
   rows_kept ks (records.Decided r) all =
@@ -92,7 +92,7 @@ module _ (t : List Event) where
   or_both P false c is first second = second is
 
   -- one more Ack is held
-  pub acked_so : (s : Standing) (from : BranchId) → Has (Send_ack from s.me) t → AcksAre t s → AcksAre t (acked_by s from)
+  pub acked_so : (s : KeptRow) (from : BranchId) → Has (Send_ack from s.me) t → AcksAre t s → AcksAre t (acked_by s from)
   acked_so s from sent is = record {
     above = λ acked b at. or_both (Has (Send_ack b s.me) t) s.parent_acked (is_branch from s.parent) acked (λ old. is.above old b at) (λ new. subst (λ c. Has (Send_ack c s.me) t) (is_it from b s.parent new at) sent);
     below = all_map (λ c. c.acked ≡ true → Has (Send_ack c.branch s.me) t) (acks_kid from) s.children
@@ -111,7 +111,7 @@ pub later_answers : {Q : Event → Type 0} {t r : List Event} → Added Q t r �
 later_answers {t = t} {r = r} more clock ls all =
     all_weaker (AnswersAre t clock) (AnswersAre r clock) (λ l is. all_weaker (EdgeIs t clock) (EdgeIs r clock) (λ e so. later_vote more clock e.peer e.vote so) l.edges is) ls all
 
-pub later_acks : {Q : Event → Type 0} {t r : List Event} → Added Q t r → (ks : List Standing) → AllByRecursion (AcksAre t) ks → AllByRecursion (AcksAre r) ks
+pub later_acks : {Q : Event → Type 0} {t r : List Event} → Added Q t r → (ks : List KeptRow) → AllByRecursion (AcksAre t) ks → AllByRecursion (AcksAre r) ks
 later_acks {t = t} {r = r} more ks all = all_weaker (AcksAre t) (AcksAre r) (λ s is. record {
   above = λ acked b at. has_later (Send_ack b s.me) more (is.above acked b at);
   below = all_weaker (λ c. c.acked ≡ true → Has (Send_ack c.branch s.me) t) _ (λ c so acked. has_later (Send_ack c.branch s.me) more (so acked)) s.children is.below;
@@ -186,7 +186,7 @@ module _ (t : List Event) (c : ℕ) (p : Place) (input : Input) (heard : (from t
     gone : (b : BranchId) → AllByRecursion (AnswersAre t k.clock) (drop_item live_id k.lives b)
     gone b = all_without (AnswersAre t k.clock) live_id k.lives b all
 
-  pub answers_on : {k : NodeState} {d : Deed} → Step p input k d → c ≤ k.clock → AllByRecursion (AnswersAre t k.clock) k.lives → AllByRecursion (AnswersAre t d.after.clock) d.after.lives
+  pub answers_on : {k : NodeState} {d : TurnDraft} → Step p input k d → c ≤ k.clock → AllByRecursion (AnswersAre t k.clock) k.lives → AllByRecursion (AnswersAre t d.after.clock) d.after.lives
   answers_on (steps.Begins {k = k} n s call rows fit none step) met all = answers_on step met (all_last (AnswersAre t k.clock) live_id k.lives _ all tt)
   answers_on (steps.Pends n l comment call has live code step) met all = answers_on step met all
   answers_on (steps.Lets_reads_go l comment site_below live begins step) met all = answers_on step met all
@@ -233,12 +233,12 @@ module _ (t : List Event) (c : ℕ) (p : Place) (input : Input) (heard : (from t
   recorded : (k : NodeState) (r : RedoRecord) → RowsSo k → AllByRecursion (AcksAre t) (applied k.stored r).durable.kept
   recorded k r all = rows_applied t k.stored r all
 
-  pub acks_on : {k : NodeState} {d : Deed} → Step p input k d → RowsSo k → RowsSo d.after
+  pub acks_on : {k : NodeState} {d : TurnDraft} → Step p input k d → RowsSo k → RowsSo d.after
   acks_on (steps.Begins n s call rows fit none step) all = acks_on step all
   acks_on (steps.Pends n l comment call has live code step) all = acks_on step all
   acks_on (steps.Lets_reads_go l comment site_below live begins step) all = acks_on step all
   acks_on (steps.Counts_ack {k = k} s from kept came counts step) all =
-      acks_on step (all_with (AcksAre t) standing_id k.stored.durable.kept (acked_by s from) all (acked_so t s from (heard from s.me kinds.Ack came) (all_found (AcksAre t) standing_id k.stored.durable.kept s.me s all kept)))
+      acks_on step (all_with (AcksAre t) kept_row_id k.stored.durable.kept (acked_by s from) all (acked_so t s from (heard from s.me kinds.Ack came) (all_found (AcksAre t) kept_row_id k.stored.durable.kept s.me s all kept)))
   acks_on (steps.Acts {k = k} l site_below acts.Seal why) all = recorded k (sealed_record k l None) all
   acks_on (steps.Acts {k = k} l site_below (acts.SealAndPass i) why) all = recorded k (sealed_record k l (Some i)) all
   acks_on (steps.Acts {k = k} l site_below acts.Decide why) all = recorded k (decided_record k l) all

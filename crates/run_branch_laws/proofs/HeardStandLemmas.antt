@@ -10,9 +10,9 @@ use Rattle.node_rules.specs.Data.records
 use Rattle.node_rules.specs.Data.inputs
 use Rattle.node_rules.specs.Words.{numbered}
 use Rattle.node_rules.specs.Inputs.{Came}
-use Rattle.node_rules.specs.NodeState.{NodeState, Deed, live_id}
+use Rattle.node_rules.specs.NodeState.{NodeState, TurnDraft, live_id}
 use Rattle.node_rules.specs.Records.{nothing_stored}
-use Rattle.node_rules.specs.Turn.{made, turn_of, start_of, heard, deed_of, stamped}
+use Rattle.node_rules.specs.Turn.{made, turn_of, start_of, heard, draft_of, stamped}
 use Rattle.run_rules.specs.Data.{Turn, Happening, Command}
 use Rattle.run_rules.specs.Data.happenings
 use Rattle.run_rules.specs.Branches.{is_among}
@@ -30,7 +30,7 @@ use Rattle.run_base_laws.proofs.SaidLemmas.{sent_after, came_said}
 use Rattle.run_rules.proofs.AtNodeLemmas.{turn_elsewhere, turn_here, stop_elsewhere, stop_here, start_elsewhere, start_here}
 use Rattle.run_base_laws.proofs.NodesStandLemmas.{lives_among}
 use Rattle.run_base_laws.proofs.TurnEventLemmas.{cases_nat, all_both}
-use Rattle.run_base_laws.proofs.EventsStandLemmas.{first_node, Stand, stand_on, stand_first}
+use Rattle.run_base_laws.proofs.EventsStandLemmas.{first_node, BranchStatus, stand_on, stand_first}
 use Rattle.run_base_laws.proofs.BirthsStandLemmas.{came_so}
 use Rattle.run_branch_laws.proofs.HeardLemmas.{acks_stored, later_answers, later_acks, risen_answers, HeardSo, answers_on, acks_on}
 use Rattle.run_branch_laws.proofs.QuietLemmas.{Quits, QuitsSo, quits_on, quiet_there, quiet_leaves}
@@ -77,7 +77,7 @@ heard_lives k (inputs.GiveUp n) b live = live
 heard_lives k inputs.Reco b live = live
 
 module _ (places : List Place) (asked : List Command) (each : (n : ℕ) (p : Place) → numbered places n ≡ Some p → IsPlace places n p) where
-  module _ (f : Facts) (t : List Event) (stand : Stand places asked each f t) (now : HeardStand f t) where
+  module _ (f : Facts) (t : List Event) (stand : BranchStatus places asked each f t) (now : HeardStand f t) where
     -- ---- a turn
 
     module _ (u : Turn) (k : NodeState) (may : MayTurn places f u k) where
@@ -87,8 +87,8 @@ module _ (places : List Place) (asked : List Command) (each : (n : ℕ) (p : Pla
       abbrev p : Place
       p = place_at places u.node
 
-      abbrev d : Deed
-      d = deed_of p k u.input
+      abbrev d : TurnDraft
+      d = draft_of p k u.input
 
       abbrev g : Facts
       g = facts_after places asked f (happenings.Turn u)
@@ -231,7 +231,7 @@ module _ (places : List Place) (asked : List Command) (each : (n : ℕ) (p : Pla
   made_heard = (tt, acks_stored [] nothing_stored (records.Boot 1 ∷ []) tt)
 
   abbrev pub StandHeard : Facts → List Event → Type 0
-  StandHeard f t = Stand places asked each f t × HeardStand f t
+  StandHeard f t = BranchStatus places asked each f t × HeardStand f t
 
   pub stand_heard_on : (f : Facts) (t : List Event) (h : Happening) → StandHeard f t → MayHappen places asked f h → StandHeard (facts_after places asked f h) (events_after places asked f h t)
   stand_heard_on f t h now may = (stand_on places asked each f t h now.0 may, heard_on f t now.0 now.1 h may)

@@ -11,7 +11,7 @@ use Rattle.redo_record.specs.Durable.{durable_after}
 use Rattle.redo_record.specs.Rows.{sealed_as, decided_as, has_neighbors}
 use Rattle.agreement.specs.Events.{Sealed, Decided, Quiet, Dropped, Event, Learn, Forget, first, only_at, exit_by, exit, learned_by, learned}
 use Rattle.agreement.proofs.EventLemmas.{first_is, only_at_is}
-use Rattle.node_rules.specs.Data.{BranchId, Standing, RedoRecord, Place}
+use Rattle.node_rules.specs.Data.{BranchId, KeptRow, RedoRecord, Place}
 use Rattle.node_rules.specs.Data.decisions
 use Rattle.node_rules.specs.Data.records
 use Rattle.node_rules.specs.Data.params
@@ -32,7 +32,7 @@ use Rattle.run_base_laws.proofs.RowEventLemmas.{same_turned, learned_now}
 use Rattle.run_base_laws.proofs.NodesStandLemmas.{stored_rows}
 use Rattle.run_rules.proofs.AtNodeLemmas.{turn_elsewhere, turn_here, start_elsewhere, start_here}
 use Rattle.run_base_laws.proofs.TurnEventLemmas.{cases_nat, record_may, record_own}
-use Rattle.run_base_laws.proofs.EventsStandLemmas.{Stand, node_so, owned_so, stand_on, stand_first}
+use Rattle.run_base_laws.proofs.EventsStandLemmas.{BranchStatus, node_so, owned_so, stand_on, stand_first}
 
 -- ---- rows
 
@@ -42,14 +42,14 @@ module _ (b : BranchId) where
   or_is false r is = inr is
 
   -- a row that is put in is there
-  pub put_there : (ks : List Standing) (x : Standing) → same x.me b ≡ true → HasRow b (add_kept ks x)
+  pub put_there : (ks : List KeptRow) (x : KeptRow) → same x.me b ≡ true → HasRow b (add_kept ks x)
   put_there [] x here = or_left (same x.me b) false here
   put_there (y ∷ ys) x here =
       cond_both (branch_below x.me y.me) _ _ (HasRow b) (λ below. or_left (same x.me b) (list_any (stands_at b) (y ∷ ys)) here)
       (λ later. or_right (same y.me b) (list_any (stands_at b) (add_kept ys x)) (put_there ys x here))
 
   -- and the others stay
-  put_stays : (ks : List Standing) (x : Standing) → HasRow b ks → HasRow b (add_kept ks x)
+  put_stays : (ks : List KeptRow) (x : KeptRow) → HasRow b ks → HasRow b (add_kept ks x)
   put_stays [] x has = absurd cc
   put_stays (y ∷ ys) x has =
       cond_both (branch_below x.me y.me) _ _ (HasRow b) (λ below. or_right (same x.me b) (list_any (stands_at b) (y ∷ ys)) has)
@@ -58,16 +58,16 @@ module _ (b : BranchId) where
         | inr there ↦ or_right (same y.me b) (list_any (stands_at b) (add_kept ys x)) (put_stays ys x there)
       ])
 
-  pub any_map : (h : Standing → Standing) → ((x : Standing) → (h x).me ≡ x.me) → (ks : List Standing) → list_any (stands_at b) (map h ks) ≡ list_any (stands_at b) ks
+  pub any_map : (h : KeptRow → KeptRow) → ((x : KeptRow) → (h x).me ≡ x.me) → (ks : List KeptRow) → list_any (stands_at b) (map h ks) ≡ list_any (stands_at b) ks
   any_map h me [] = refl
   any_map h me (x ∷ ks) = ap (λ m. same m b || list_any (stands_at b) (map h ks)) (me x) ∙ ap (λ q. same x.me b || q) (any_map h me ks)
 
   -- rows that are changed stay
-  changed_stays : (c : BranchId) (g : Standing → Standing) → ((x : Standing) → (g x).me ≡ x.me) → (ks : List Standing) → HasRow b ks → HasRow b (change_where (stands_at c) g ks)
+  changed_stays : (c : BranchId) (g : KeptRow → KeptRow) → ((x : KeptRow) → (g x).me ≡ x.me) → (ks : List KeptRow) → HasRow b ks → HasRow b (change_where (stands_at c) g ks)
   changed_stays c g me ks has = any_map (λ x. if stands_at c x then g x else x) (λ x. cond_both (stands_at c x) (g x) x (λ y. y.me ≡ x.me) (λ here. me x) (λ other. refl)) ks ∙ has
 
   -- and so does the branch's own, where others are left out
-  left_stays : (p : Standing → Bool) → ((x : Standing) → same x.me b ≡ true → p x ≡ false) → (ks : List Standing) → HasRow b ks → HasRow b (drop_where p ks)
+  left_stays : (p : KeptRow → Bool) → ((x : KeptRow) → same x.me b ≡ true → p x ≡ false) → (ks : List KeptRow) → HasRow b ks → HasRow b (drop_where p ks)
   left_stays p own [] has = absurd cc
   left_stays p own (x ∷ ks) has =
       cond_both (not (p x)) _ _ (HasRow b)
@@ -80,7 +80,7 @@ module _ (b : BranchId) where
         | inr there ↦ left_stays p own ks there
       ])
 
-  own_row : (c : BranchId) → same c b ≡ false → (x : Standing) → same x.me b ≡ true → same x.me c ≡ false
+  own_row : (c : BranchId) → same c b ≡ false → (x : KeptRow) → same x.me b ≡ true → same x.me c ≡ false
   own_row c other x here = ap (λ m. same m c) (equal_from_same x.me b here) ∙ same_turned c b other
 
   module _ (n : ℕ) (t : List Event) where
@@ -88,7 +88,7 @@ module _ (b : BranchId) where
     ended_done c mixed none at = inl (learned_now t c b decisions.Rollback mixed none (sym (equal_from_same c b at)))
 
     -- the row stays with one record more, or the branch is done
-    rows_stay : (ks : List Standing) (r : RedoRecord) → MayStand t r → HasRow b ks → HasRow b (kept_after ks r) ⊎ IsDone (with_event (record_event n r) t) b
+    rows_stay : (ks : List KeptRow) (r : RedoRecord) → MayStand t r → HasRow b ks → HasRow b (kept_after ks r) ⊎ IsDone (with_event (record_event n r) t) b
     unfolding kept_after
     rows_stay ks (records.Sealed r) may has = inl (put_stays ks (sealed_as r) has)
     rows_stay ks (records.Decided r) may has = inl (cond_both (has_neighbors (decided_as r)) _ _ (HasRow b) (λ kept. put_stays ks (decided_as r) has) (λ alone. has))
@@ -182,7 +182,7 @@ seal_there b rs _ at = absurd at
 abbrev pub StaysKept : Facts → List Event → Type 0
 StaysKept f t = (b : BranchId) (m : ℕ) → exit t b ≡ Some (Sealed m) → HasRow b (stored_rows f b.node) ⊎ IsDone t b
 
-module _ (places : List Place) (asked : List Command) (each : (n : ℕ) (p : Place) → numbered places n ≡ Some p → IsPlace places n p) (f : Facts) (t : List Event) (stand : Stand places asked each f t)
+module _ (places : List Place) (asked : List Command) (each : (n : ℕ) (p : Place) → numbered places n ≡ Some p → IsPlace places n p) (f : Facts) (t : List Event) (stand : BranchStatus places asked each f t)
     (kept : StaysKept f t) where
   module _ (u : Turn) (may : MayHappen places asked f (happenings.Turn u)) where
     abbrev g : Facts
@@ -261,6 +261,6 @@ module _ (places : List Place) (asked : List Command) (each : (n : ℕ) (p : Pla
 
 pub sealed_are_kept : SealedAreKept
 sealed_are_kept t lawful b m sealed =
-    (events_keep t.places t.commands (λ f s. Stand t.places t.commands t.of_a_script.each f s × StaysKept f s)
+    (events_keep t.places t.commands (λ f s. BranchStatus t.places t.commands t.of_a_script.each f s × StaysKept f s)
     (λ f s h now may. (stand_on t.places t.commands t.of_a_script.each f s h now.0 may, keeps_on t.places t.commands t.of_a_script.each f s now.0 now.1 h may))
     (first_facts t.places) t.trace [] (stand_first t.places t.commands t.of_a_script.each, (λ c n is. absurd cc)) lawful).1 b m sealed

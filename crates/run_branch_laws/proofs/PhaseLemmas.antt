@@ -11,7 +11,7 @@ use Rattle.node_rules.specs.Data.records
 use Rattle.commit_forget.specs.declared.next.Next.TheVariants as nexts
 use Rattle.node_rules.specs.Words.{numbered, set_numbered, put_item, drop_item}
 use Rattle.session_tree.specs.Live.{new_edge}
-use Rattle.node_rules.specs.NodeState.{NodeState, Branch, Deed, live_id, live_at, branch_at}
+use Rattle.node_rules.specs.NodeState.{NodeState, Branch, TurnDraft, live_id, live_at, branch_at}
 use Rattle.node_rules.specs.Statement.{ran, after_run}
 use Rattle.node_rules.specs.Calls.{with_edge, hears_reply}
 use Rattle.node_rules.specs.Prepare.{is_awaited, collecting, with_comment, with_prepare_sent, ready, voted, has_voted, answers_first}
@@ -154,7 +154,7 @@ module _ (k : NodeState) (all : AllByRecursion Fits k.lives) where
   gone b = all_without Fits live_id k.lives b all
 
 -- each step keeps it
-fits_on : (p : Place) (input : Input) {k : NodeState} {d : Deed} → Step p input k d → AllByRecursion Fits k.lives → AllByRecursion Fits d.after.lives
+fits_on : (p : Place) (input : Input) {k : NodeState} {d : TurnDraft} → Step p input k d → AllByRecursion Fits k.lives → AllByRecursion Fits d.after.lives
 fits_on p input (steps.Begins {k = k} n s call rows fit none step) all = fits_on p input step (all_last Fits live_id k.lives _ all tt)
 fits_on p input (steps.Pends n l comment call has live code step) all = fits_on p input step all
 fits_on p input (steps.Lets_reads_go l comment site_below live begins step) all = fits_on p input step all

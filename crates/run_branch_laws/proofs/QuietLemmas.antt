@@ -9,7 +9,7 @@ use Rattle.commit_forget.specs.declared.next.Next.TheVariants as nexts
 use Rattle.reco.specs.declared.post.Post.{Post}
 use Rattle.session_tree.specs.Live.{children_of, peer_of, new_edge}
 use Rattle.session_tree.specs.Tree.{step as step_from}
-use Rattle.node_rules.specs.Data.{Answer, Stmt, BranchId, Decision, Edge, Kind, Msg, Live, Act, Standing, Place, Input}
+use Rattle.node_rules.specs.Data.{Answer, Stmt, BranchId, Decision, Edge, Kind, Msg, Live, Act, KeptRow, Place, Input}
 use Rattle.node_rules.specs.Data.acts
 use Rattle.node_rules.specs.Data.kinds
 use Rattle.node_rules.specs.Data.stmts
@@ -17,7 +17,7 @@ use Rattle.node_rules.specs.Data.inputs
 use Rattle.node_rules.specs.declared.session.Session.{Session}
 use Rattle.node_rules.specs.Words.{same, drop_item}
 use Rattle.node_rules.specs.Inputs.{Came, IsCall}
-use Rattle.node_rules.specs.NodeState.{NodeState, Branch, Deed, live_id, to_each, to_one}
+use Rattle.node_rules.specs.NodeState.{NodeState, Branch, TurnDraft, live_id, to_each, to_one}
 use Rattle.node_rules.specs.Calls.{answer_says, exec_to, with_edge, hears_reply}
 use Rattle.node_rules.specs.Statement.{ran, after_run}
 use Rattle.node_rules.specs.Prepare.{path_of, prepares, site_neighbors}
@@ -65,7 +65,7 @@ exec_plain ss x i s given (Some to) = (refl, tt)
 prepares_plain : (me : BranchId) (comment : List ℕ) (path : Option ℕ) (i : ℕ) (es : List Edge) → PlainAll (prepares me comment path i es)
 prepares_plain me comment path i es = prepares_say PlainKind (λ site_below c. refl) me comment path i es
 
-passes_plain : (s : Standing) (d : Decision) → PlainAll (passes s d)
+passes_plain : (s : KeptRow) (d : Decision) → PlainAll (passes s d)
 passes_plain s d = passes_say PlainKind plain_decisions s d
 
 says_plain : {k : NodeState} {input : Input} {says : List Post} → Says k input says → PlainAll says
@@ -80,13 +80,13 @@ abbrev pub NoRows : Input → Type 0
 NoRows input = (n : ℕ) (s : Stmt) → IsCall input n s → IsOfRows s → ⊥
 
 -- Its sender was live, and is gone without a record.
-pub record Quits (input : Input) (k : NodeState) (d : Deed) (b : BranchId) : Type 0 where
+pub record Quits (input : Input) (k : NodeState) (d : TurnDraft) (b : BranchId) : Type 0 where
   pub was : IsLive k b
   pub unwritten : d.wrote ≡ None
   pub left : is_among b (map live_id d.after.lives) ≡ false
   pub no_rows : NoRows input
 
-abbrev pub QuitsSo : Input → NodeState → Deed → Post → Type 0
+abbrev pub QuitsSo : Input → NodeState → TurnDraft → Post → Type 0
 QuitsSo input k d x = is_read_only x.kind ≡ true → Quits input k d x.from
 
 pub dropped_gone : (b : BranchId) (xs : List Live) → is_among b (map live_id (drop_item live_id xs b)) ≡ false
@@ -117,10 +117,10 @@ acting_apart (steps.At_point l from a live came is pointed) m s other rows = cam
 
 module _ (p : Place) (input : Input) where
   -- none of these is ReadOnly
-  plainly : (k : NodeState) (d : Deed) (posts : List Post) → PlainAll posts → AllByRecursion (QuitsSo input k d) posts
+  plainly : (k : NodeState) (d : TurnDraft) (posts : List Post) → PlainAll posts → AllByRecursion (QuitsSo input k d) posts
   plainly k d posts all = all_weaker Plain (QuitsSo input k d) (λ x no yes. absurd (true≢false (sym yes ∙ no))) posts all
 
-  pub quits_on : {k : NodeState} {d : Deed} → Step p input k d → AllByRecursion (QuitsSo input k d) d.says
+  pub quits_on : {k : NodeState} {d : TurnDraft} → Step p input k d → AllByRecursion (QuitsSo input k d) d.says
   quits_on (steps.Begins {k = k} {d = d} n s call rows fit none step) =
       all_weaker (QuitsSo input _ d) (QuitsSo input k d) (λ x so yes. absurd ((so yes).no_rows n s call rows)) d.says (quits_on step)
   quits_on (steps.Pends {k = k} {d = d} n l comment call has live code step) =

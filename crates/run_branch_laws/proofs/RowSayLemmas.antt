@@ -12,7 +12,7 @@ use Rattle.reco.specs.declared.post.Post.{Post}
 use Rattle.reco.specs.declared.told.Told.TheVariants as tolds
 use Rattle.session_tree.specs.Live.{children_of, peer_of, new_edge}
 use Rattle.session_tree.specs.Tree.{step as step_from}
-use Rattle.node_rules.specs.Data.{Answer, Stmt, BranchId, Decision, Edge, Kind, Msg, Live, Standing, RedoRecord, Place, Input}
+use Rattle.node_rules.specs.Data.{Answer, Stmt, BranchId, Decision, Edge, Kind, Msg, Live, KeptRow, RedoRecord, Place, Input}
 use Rattle.node_rules.specs.Data.acts
 use Rattle.node_rules.specs.Data.decisions
 use Rattle.node_rules.specs.Data.inputs
@@ -22,13 +22,13 @@ use Rattle.node_rules.specs.Data.stmts
 use Rattle.node_rules.specs.declared.session.Session.{Session}
 use Rattle.node_rules.specs.Words.{put_by_branch}
 use Rattle.node_rules.specs.Inputs.{Came, IsCall}
-use Rattle.node_rules.specs.NodeState.{NodeState, Branch, Deed, live_id, standing_id, live_at, post_one, to_each, to_one}
+use Rattle.node_rules.specs.NodeState.{NodeState, Branch, TurnDraft, live_id, kept_row_id, live_at, post_one, to_each, to_one}
 use Rattle.node_rules.specs.Calls.{answer_says, exec_to, with_edge, hears_reply}
 use Rattle.node_rules.specs.Statement.{ran, after_run}
 use Rattle.node_rules.specs.Prepare.{path_of, prepares, site_neighbors}
 use Rattle.node_rules.specs.Commit.{beyond, all_acked, acked_by, passes_commit, rollback_to, passes}
 use Rattle.node_rules.specs.Recovery.{told_by, kept_told, told_kind, Asking, asking_id, asks_live, asks_kept, acks_again, recovers, askings}
-use Rattle.node_rules.specs.Turn.{Is_gone, stand_of}
+use Rattle.node_rules.specs.Turn.{Is_gone, status_of}
 use Rattle.node_rules.proofs.Steps as steps
 use Rattle.node_rules.proofs.Steps.{Step, Says, IsOfRows, IsKept, Collects}
 use Rattle.node_rules.proofs.StandLemmas.{live_so}
@@ -56,12 +56,12 @@ IsAsked input from to = Came input from to kinds.CommitPoint ⊎ Came input from
 
 -- Its sender was live and is gone without a record; or the record says that it learned a rollback; or it answers one that asks:
 -- it is gone, its row knows the rollback, or names the asker neither as parent nor as child.
-pub data Rolls (k : NodeState) (input : Input) (d : Deed) (e to : BranchId) : Type 0 where
+pub data Rolls (k : NodeState) (input : Input) (d : TurnDraft) (e to : BranchId) : Type 0 where
   Has_left : IsLive k e → d.wrote ≡ None → is_among e (map live_id d.after.lives) ≡ false → NoRows input → Rolls k input d e to
   Has_learned : LearnsRollback d.wrote e → Rolls k input d e to
-  Is_not_there : stand_of k e ≡ Is_gone → IsAsked input to e → Rolls k input d e to
-  Knows_so : (s : Standing) → IsKept k s → s.me ≡ e → s.decision ≡ Some decisions.Rollback → IsAsked input to e → Rolls k input d e to
-  Names_not : (s : Standing) → IsKept k s → s.me ≡ e → is_neighbor s to ≡ false → IsAsked input to e → Rolls k input d e to
+  Is_not_there : status_of k e ≡ Is_gone → IsAsked input to e → Rolls k input d e to
+  Knows_so : (s : KeptRow) → IsKept k s → s.me ≡ e → s.decision ≡ Some decisions.Rollback → IsAsked input to e → Rolls k input d e to
+  Names_not : (s : KeptRow) → IsKept k s → s.me ≡ e → is_neighbor s to ≡ false → IsAsked input to e → Rolls k input d e to
 
 asked_call : {input : Input} {from to : BranchId} (n : ℕ) (s : Stmt) → IsAsked input from to → IsCall input n s → ⊥
 asked_call n s (inl came) call = came_apart n s came call
@@ -83,17 +83,17 @@ module _ (t : List Event) where
 
   -- by its row all beyond acknowledged; or it is gone, and a commit came
   pub data Acks (k : NodeState) (input : Input) (b to : BranchId) : Type 0 where
-    All_have : (s : Standing) → IsRowLike k.stored.durable.kept b s → AllAcked t s → Acks k input b to
-    Is_done : (n : ℕ) → stand_of k b ≡ Is_gone → Came input to b (kinds.Committed n) → Acks k input b to
+    All_have : (s : KeptRow) → IsRowLike k.stored.durable.kept b s → AllAcked t s → Acks k input b to
+    Is_done : (n : ℕ) → status_of k b ≡ Is_gone → Came input to b (kinds.Committed n) → Acks k input b to
 
-  abbrev pub SaysSo : NodeState → Input → Deed → BranchId → BranchId → Kind → Type 0
+  abbrev pub SaysSo : NodeState → Input → TurnDraft → BranchId → BranchId → Kind → Type 0
   SaysSo k input d from to kinds.Ack = Acks k input from to
   SaysSo k input d from to kinds.Rollback = Rolls k input d from to
   SaysSo k input d from to kinds.RolledBack = Rolls k input d from to
   SaysSo k input d from to _ = Unit {0}
 
   -- before a change that no question leads to, and that leaves lives and rows
-  module _ (k j : NodeState) (input : Input) (d : Deed) (lives : (b : BranchId) → IsLive j b → NoRows input → IsLive k b) (rows : (b : BranchId) (s : Standing) → IsRowLike j.stored.durable.kept b s → IsRowLike k.stored.durable.kept b s)
+  module _ (k j : NodeState) (input : Input) (d : TurnDraft) (lives : (b : BranchId) → IsLive j b → NoRows input → IsLive k b) (rows : (b : BranchId) (s : KeptRow) → IsRowLike j.stored.durable.kept b s → IsRowLike k.stored.durable.kept b s)
       (unasked : (from to : BranchId) → IsAsked input from to → ⊥) (uncommitted : (from to : BranchId) (n : ℕ) → Came input from to (kinds.Committed n) → ⊥) where
     rolls_before : (e to : BranchId) → Rolls j input d e to → Rolls k input d e to
     rolls_before e to (Has_left live unwritten left no_rows) = Has_left (lives e live no_rows) unwritten left no_rows
@@ -116,7 +116,7 @@ module _ (t : List Event) where
     all_before posts all = all_weaker _ _ (λ x so. so_before x.from x.to x.kind so) posts all
 
   module _ (p : Place) (input : Input) (told : (from to : BranchId) (kind : Kind) → Came input from to kind → ToldSo t from to kind) where
-    module _ (k : NodeState) (d : Deed) where
+    module _ (k : NodeState) (d : TurnDraft) where
       abbrev So : Post → Type 0
       So x = SaysSo k input d x.from x.to x.kind
 
@@ -146,35 +146,35 @@ module _ (t : List Event) where
       leaves_so : (l : Live) → IsLive k l.me → d.wrote ≡ None → is_among l.me (map live_id d.after.lives) ≡ false → NoRows input → AllSo (to_each l.me kinds.Rollback (children_of l))
       leaves_so l live unwritten left no_rows = each_so l.me kinds.Rollback (children_of l) (λ b. Has_left live unwritten left no_rows)
 
-      commit_so : (s : Standing) (n : ℕ) (bs : List Beyond) → IsRowLike k.stored.durable.kept s.me s → beyond s ≡ bs → AllSo (passes_commit s n bs)
+      commit_so : (s : KeptRow) (n : ℕ) (bs : List Beyond) → IsRowLike k.stored.durable.kept s.me s → beyond s ≡ bs → AllSo (passes_commit s n bs)
       commit_so s n [] like is = one_so s.me kinds.Ack s.toward (λ b. All_have s like (subst (λ (xs : List Beyond). AllByRecursion (λ x. Has (Send_ack x.branch s.me) t) xs) (sym is) tt))
       commit_so s n (b ∷ bs) like is = each_so s.me (kinds.Committed n) (map (λ c. c.branch) (b ∷ bs)) (λ c. tt)
 
-      passes_so : (s : Standing) (e : Decision) → IsRowLike k.stored.durable.kept s.me s → (e ≡ decisions.Rollback → LearnsRollback d.wrote s.me) → AllSo (passes s e)
+      passes_so : (s : KeptRow) (e : Decision) → IsRowLike k.stored.durable.kept s.me s → (e ≡ decisions.Rollback → LearnsRollback d.wrote s.me) → AllSo (passes s e)
       passes_so s (decisions.Commit n) like learns = commit_so s n (beyond s) like refl
       passes_so s decisions.Rollback like learns =
           all_each So (rollback_to s.me) (beyond s) (λ b. cond_both b.is_parent kinds.RolledBack kinds.Rollback (λ kind. SaysSo k input d s.me b.branch kind) (λ up. Has_learned (learns refl)) (λ down. Has_learned (learns refl)))
 
       -- ---- recovery
 
-      again_so : (s : Standing) → IsRowLike k.stored.durable.kept s.me s → AcksAre t s → AllSo (acks_again s)
+      again_so : (s : KeptRow) → IsRowLike k.stored.durable.kept s.me s → AcksAre t s → AllSo (acks_again s)
       again_so s like acks =
           cond_both (all_acked s && not s.forgot) (to_one s.me kinds.Ack s.toward) [] AllSo
           (λ all. one_so s.me kinds.Ack s.toward (λ b. All_have s like (acked_all t s acks (and_parts (all_acked s) (not s.forgot) all).0))) (λ some. tt)
 
-      recovers_so : (s : Standing) → IsRowLike k.stored.durable.kept s.me s → AcksAre t s → (e : Option Decision) → AllSo (recovers s e)
+      recovers_so : (s : KeptRow) → IsRowLike k.stored.durable.kept s.me s → AcksAre t s → (e : Option Decision) → AllSo (recovers s e)
       recovers_so s like acks None = one_so s.me kinds.Ask s.toward (λ b. tt)
       recovers_so s like acks (Some (decisions.Commit n)) =
           all_append So _ (acks_again s) (each_so s.me (kinds.Committed n) (map (λ b. b.branch) (filter (λ b. not b.acked) (beyond s))) (λ b. tt)) (again_so s like acks)
       recovers_so s like acks (Some decisions.Rollback) = tt
 
     -- what a row knows, to one that asks
-    known_so : (k : NodeState) (d : Deed) (s : Standing) (from : BranchId) (e : Option Decision) → IsKept k s → s.decision ≡ e → IsAsked input from s.me → SaysSo k input d s.me from (told_kind (told_by e))
+    known_so : (k : NodeState) (d : TurnDraft) (s : KeptRow) (from : BranchId) (e : Option Decision) → IsKept k s → s.decision ≡ e → IsAsked input from s.me → SaysSo k input d s.me from (told_kind (told_by e))
     known_so k d s from None kept is asked = tt
     known_so k d s from (Some (decisions.Commit n)) kept is asked = tt
     known_so k d s from (Some decisions.Rollback) kept is asked = Knows_so s kept refl is asked
 
-    asked_so : (k : NodeState) (d : Deed) (s : Standing) (from : BranchId) → IsKept k s → IsAsked input from s.me → SaysSo k input d s.me from (told_kind (kept_told s from))
+    asked_so : (k : NodeState) (d : TurnDraft) (s : KeptRow) (from : BranchId) → IsKept k s → IsAsked input from s.me → SaysSo k input d s.me from (told_kind (kept_told s from))
     asked_so k d s from kept asked =
         cond_both (is_neighbor s from) (told_by s.decision) tolds.RolledBack (λ x. SaysSo k input d s.me from (told_kind x)) (λ near. known_so k d s from s.decision kept refl asked) (λ other. Names_not s kept refl other asked)
 
@@ -182,7 +182,7 @@ module _ (t : List Event) where
     abbrev pub RowsFound : NodeState → Type 0
     RowsFound k = input ≡ inputs.Reco → AllByRecursion (λ s. IsKept k s) k.stored.durable.kept
 
-    module _ (k : NodeState) (d : Deed) where
+    module _ (k : NodeState) (d : TurnDraft) where
       abbrev AskingSo : Asking → Type 0
       AskingSo a = AllSo k d a.says
 
@@ -194,7 +194,7 @@ module _ (t : List Event) where
       flat_so [] all = tt
       flat_so (a ∷ asked) all = all_append (So k d) a.says _ all.0 (flat_so asked all.1)
 
-      rows_so : (ks : List Standing) → AllByRecursion (λ s. IsKept k s) ks → AllByRecursion (AcksAre t) ks → AllByRecursion AskingSo (map asks_kept ks)
+      rows_so : (ks : List KeptRow) → AllByRecursion (λ s. IsKept k s) ks → AllByRecursion (AcksAre t) ks → AllByRecursion AskingSo (map asks_kept ks)
       rows_so [] found acks = tt
       rows_so (s ∷ ks) found acks = (recovers_so k d s (itself k.stored.durable.kept s found.0) acks.0 s.decision, rows_so ks found.1 acks.1)
 
@@ -212,7 +212,7 @@ module _ (t : List Event) where
       says_so found acks (steps.Recovers reco) = askings_so (found reco) acks
       says_so found acks _ = (tt, tt)
 
-    -- ---- changes before a deed
+    -- ---- changes before a draft
 
     call_unasked : (n : ℕ) (s : Stmt) → IsCall input n s → (from to : BranchId) → IsAsked input from to → ⊥
     call_unasked n s call from to asked = asked_call n s asked call
@@ -239,10 +239,10 @@ module _ (t : List Event) where
 
     -- ---- steps
 
-    abbrev pub StepSo : NodeState → Deed → Type 0
+    abbrev pub StepSo : NodeState → TurnDraft → Type 0
     StepSo k d = AllByRecursion (λ x. SaysSo k input d x.from x.to x.kind) d.says
 
-    pub says_on : {k : NodeState} {d : Deed} → Step p input k d → RowsFound k → AllByRecursion (AcksAre t) k.stored.durable.kept → StepSo k d
+    pub says_on : {k : NodeState} {d : TurnDraft} → Step p input k d → RowsFound k → AllByRecursion (AcksAre t) k.stored.durable.kept → StepSo k d
     says_on (steps.Begins {k = k} {d = d} n s call rows fit none step) found acks =
         all_before k _ input d (λ b live no_rows. absurd (no_rows n s call rows)) (λ b x like. like) (call_unasked n s call) (call_uncommitted n s call) d.says (says_on step found acks)
     says_on (steps.Pends {k = k} {d = d} n l comment call has live code step) found acks =
@@ -252,7 +252,7 @@ module _ (t : List Event) where
     says_on (steps.Counts_ack {k = k} {d = d} s from kept came counts step) found acks =
         all_before k _ input d (λ b alive no_rows. alive) (λ b x like. like_acked k.stored.durable.kept s from kept b x like) (ack_unasked from s.me came) (ack_uncommitted from s.me came) d.says
         (says_on step (λ reco. absurd (no_reco from s.me came reco))
-        (all_with (AcksAre t) standing_id k.stored.durable.kept (acked_by s from) acks (acked_so t s from (told from s.me kinds.Ack came) (all_found (AcksAre t) standing_id k.stored.durable.kept s.me s acks kept))))
+        (all_with (AcksAre t) kept_row_id k.stored.durable.kept (acked_by s from) acks (acked_so t s from (told from s.me kinds.Ack came) (all_found (AcksAre t) kept_row_id k.stored.durable.kept s.me s acks kept))))
     says_on (steps.Sends {k = k} says why) found acks = says_so k _ found acks why
     says_on (steps.Runs {k = k} x s given table asked way) found acks = answer_so k _ (record x { live = after_run x.live (ran p k x.live.me s table) }) _ x.live.parent
     says_on (steps.Goes_nowhere {k = k} x s given r asked way) found acks = answer_so k _ x _ x.live.parent
@@ -279,11 +279,11 @@ module _ (t : List Event) where
     says_on (steps.Does {k = k} s from (nexts.End e) kept why) found acks = passes_so k _ s e (itself k.stored.durable.kept s kept) (λ is. subst (λ x. LearnsRollback (Some (records.Ended s.me x)) s.me) (sym is) refl)
     says_on (steps.Does {k = k} s from (nexts.Meet e mixed) kept why) found acks = passes_so k _ s e (itself k.stored.durable.kept s kept) (λ is. subst (λ x. LearnsRollback (Some (records.Met s.me x mixed)) s.me) (sym is) refl)
     says_on (steps.Does {k = k} s from nexts.AckToward kept (steps.Acks_on came knows new all other)) found acks =
-        one_so k _ s.me kinds.Ack s.toward (λ b. All_have s (itself k.stored.durable.kept s kept) (acked_all t s (all_found (AcksAre t) standing_id k.stored.durable.kept s.me s acks kept) all))
+        one_so k _ s.me kinds.Ack s.toward (λ b. All_have s (itself k.stored.durable.kept s kept) (acked_all t s (all_found (AcksAre t) kept_row_id k.stored.durable.kept s.me s acks kept) all))
     says_on (steps.Does {k = k} s from nexts.Forget kept why) found acks = each_so k _ s.me kinds.Forgotten (map (λ b. b.branch) (beyond s)) (λ b. tt)
     says_on (steps.Does s from nexts.SayForgotten kept why) found acks = (tt, tt)
     says_on (steps.Does {k = k} s from nexts.SayAck kept (steps.Acks_again n m came toward knows all)) found acks =
-        (All_have s (itself k.stored.durable.kept s kept) (acked_all t s (all_found (AcksAre t) standing_id k.stored.durable.kept s.me s acks kept) all), tt)
+        (All_have s (itself k.stored.durable.kept s kept) (acked_all t s (all_found (AcksAre t) kept_row_id k.stored.durable.kept s.me s acks kept) all), tt)
     says_on (steps.Does s from nexts.Rest kept why) found acks = tt
     says_on (steps.Rolls_back {k = k} n x call has live) found acks =
         leaves_so k _ x.live (x.live, live_so k x.live.me x live) refl (dropped_gone x.live.me k.lives) (λ m s other rows. rollback_apart n m s call other rows)

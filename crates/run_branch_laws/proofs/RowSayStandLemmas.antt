@@ -7,15 +7,15 @@ use Rattle.tran_ids.proofs.BranchLemmas.{equal_from_same, same_from_equal}
 use Rattle.tran_ids.proofs.ListedLemmas.{item_is}
 use Rattle.agreement.specs.Events.{Exit, Sealed, Decided, Quiet, Dropped, Event, Answer_read_only, Drop, first, exit_by, exit, learned, Gone}
 use Rattle.agreement.proofs.EventLemmas.{only_at_same}
-use Rattle.node_rules.specs.Data.{BranchId, Kind, Msg, Live, Standing, RedoRecord, Place, Input}
+use Rattle.node_rules.specs.Data.{BranchId, Kind, Msg, Live, KeptRow, RedoRecord, Place, Input}
 use Rattle.node_rules.specs.Data.decisions
 use Rattle.node_rules.specs.Data.inputs
 use Rattle.node_rules.specs.Data.kinds
 use Rattle.node_rules.specs.Data.records
 use Rattle.node_rules.specs.Words.{same, numbered, item_at}
 use Rattle.node_rules.specs.Inputs.{Came}
-use Rattle.node_rules.specs.NodeState.{NodeState, Deed, live_id, standing_id, with_work, standing_at}
-use Rattle.node_rules.specs.Turn.{Is_gone, live_or, stand_of, turn_of, heard, deed_of, stamped}
+use Rattle.node_rules.specs.NodeState.{NodeState, TurnDraft, live_id, kept_row_id, with_work, kept_row_at}
+use Rattle.node_rules.specs.Turn.{Is_gone, live_or, status_of, turn_of, heard, draft_of, stamped}
 use Rattle.run_rules.specs.Data.{Took, Turn, Happening, Command}
 use Rattle.run_rules.specs.Data.happenings
 use Rattle.run_rules.specs.Branches.{is_among}
@@ -41,7 +41,7 @@ use Rattle.run_rules.proofs.AtNodeLemmas.{turn_here}
 use Rattle.run_base_laws.proofs.NodesStandLemmas.{stored_rows, acked_back, some_or_none}
 use Rattle.run_branch_laws.proofs.KeptRowLemmas.{any_map, StaysKept, keeps_on}
 use Rattle.run_branch_laws.proofs.GoneLemmas.{kept_not_gone}
-use Rattle.run_base_laws.proofs.EventsStandLemmas.{Stand as StandAll, node_so, tells_so, stand_on, stand_first}
+use Rattle.run_base_laws.proofs.EventsStandLemmas.{BranchStatus as StandAll, node_so, tells_so, stand_on, stand_first}
 use Rattle.run_base_laws.proofs.BirthsStandLemmas.{BirthsStand, came_so}
 use Rattle.run_base_laws.proofs.BirthRunLemmas.{births_on, stand_born_first}
 use Rattle.run_branch_laws.proofs.HeardStandLemmas.{NodeHeard, HeardStand, heard_on, stand_heard_first, live_among, heard_lives}
@@ -101,43 +101,43 @@ live_there b (x ∷ ls) is = by (same x.me b) refl (live_there b ls)
         let rest : (l : Live) × (item_at live_id ls b ≡ Some l) = later (sym (ap (λ q. q || is_among b (map live_id ls)) at) ∙ is) in
         (rest.0, ap (λ q. if q then Some x else item_at live_id ls b) at ∙ rest.1)
 
-live_not_gone : (k : NodeState) (b : BranchId) → is_among b (map live_id k.lives) ≡ true → stand_of k b ≡ Is_gone → ⊥
-unfolding stand_of
+live_not_gone : (k : NodeState) (b : BranchId) → is_among b (map live_id k.lives) ≡ true → status_of k b ≡ Is_gone → ⊥
+unfolding status_of
 live_not_gone k b among gone =
     let live = live_there b k.lives among in
-    let at : live_or (with_work k (Some live.0)) (standing_at k b) ≡ Is_gone = subst (λ o. live_or (with_work k o) (standing_at k b) ≡ Is_gone) live.1 gone in absurd cc
+    let at : live_or (with_work k (Some live.0)) (kept_row_at k b) ≡ Is_gone = subst (λ o. live_or (with_work k o) (kept_row_at k b) ≡ Is_gone) live.1 gone in absurd cc
 
-heard_gone : (k : NodeState) (input : Input) (b : BranchId) → stand_of (heard k input) b ≡ Is_gone → stand_of k b ≡ Is_gone
-unfolding stand_of
+heard_gone : (k : NodeState) (input : Input) (b : BranchId) → status_of (heard k input) b ≡ Is_gone → status_of k b ≡ Is_gone
+unfolding status_of
 heard_gone k (inputs.Message m) b gone = gone
 heard_gone k (inputs.Call n s) b gone = gone
 heard_gone k (inputs.GiveUp n) b gone = gone
 heard_gone k inputs.Reco b gone = gone
 
 -- each row is found, where no branch has two
-pub rows_found : (ks : List Standing) → ((b : BranchId) → count_of standing_id b ks ≤ 1) → AllByRecursion (λ s. item_at standing_id ks s.me ≡ Some s) ks
+pub rows_found : (ks : List KeptRow) → ((b : BranchId) → count_of kept_row_id b ks ≤ 1) → AllByRecursion (λ s. item_at kept_row_id ks s.me ≡ Some s) ks
 rows_found [] one = tt
 rows_found (x ∷ ks) one = (
-  ap (λ q. if q then Some x else item_at standing_id ks x.me) (same_from_equal x.me x.me refl),
-  all_weaker (λ s. (item_at standing_id ks s.me ≡ Some s) × (1 ≤ count_of standing_id s.me ks)) _ (λ s both. by s (same x.me s.me) refl both.0 both.1 (one s.me)) ks
+  ap (λ q. if q then Some x else item_at kept_row_id ks x.me) (same_from_equal x.me x.me refl),
+  all_weaker (λ s. (item_at kept_row_id ks s.me ≡ Some s) × (1 ≤ count_of kept_row_id s.me ks)) _ (λ s both. by s (same x.me s.me) refl both.0 both.1 (one s.me)) ks
       (with_counts ks (rows_found ks (λ b. omega (arith, one b, fewer b (same x.me b) refl)))),
 )
   where
-    fewer : (b : BranchId) (q : Bool) → same x.me b ≡ q → count_of standing_id b ks ≤ count_of standing_id b (x ∷ ks)
-    fewer b true is = subst (λ q. count_of standing_id b ks ≤ (if q then 1 + count_of standing_id b ks else count_of standing_id b ks)) (sym is) (omega arith)
-    fewer b false is = subst (λ q. count_of standing_id b ks ≤ (if q then 1 + count_of standing_id b ks else count_of standing_id b ks)) (sym is) (omega arith)
+    fewer : (b : BranchId) (q : Bool) → same x.me b ≡ q → count_of kept_row_id b ks ≤ count_of kept_row_id b (x ∷ ks)
+    fewer b true is = subst (λ q. count_of kept_row_id b ks ≤ (if q then 1 + count_of kept_row_id b ks else count_of kept_row_id b ks)) (sym is) (omega arith)
+    fewer b false is = subst (λ q. count_of kept_row_id b ks ≤ (if q then 1 + count_of kept_row_id b ks else count_of kept_row_id b ks)) (sym is) (omega arith)
 
-    counted : (zs : List Standing) (s : Standing) → item_at standing_id zs s.me ≡ Some s → 1 ≤ count_of standing_id s.me zs
+    counted : (zs : List KeptRow) (s : KeptRow) → item_at kept_row_id zs s.me ≡ Some s → 1 ≤ count_of kept_row_id s.me zs
     counted [] s is = absurd cc
     counted (z ∷ zs) s is = grind (arith, counted zs s)
 
-    with_counts : (zs : List Standing) → AllByRecursion (λ s. item_at standing_id zs s.me ≡ Some s) zs → AllByRecursion (λ s. (item_at standing_id zs s.me ≡ Some s) × (1 ≤ count_of standing_id s.me zs)) zs
+    with_counts : (zs : List KeptRow) → AllByRecursion (λ s. item_at kept_row_id zs s.me ≡ Some s) zs → AllByRecursion (λ s. (item_at kept_row_id zs s.me ≡ Some s) × (1 ≤ count_of kept_row_id s.me zs)) zs
     with_counts zs all = all_weaker _ _ (λ s is. (is, counted zs s is)) zs all
 
-    by : (s : Standing) (q : Bool) → same x.me s.me ≡ q → item_at standing_id ks s.me ≡ Some s → 1 ≤ count_of standing_id s.me ks → count_of standing_id s.me (x ∷ ks) ≤ 1 → (if same x.me s.me then Some x else item_at standing_id ks s.me) ≡ Some s
+    by : (s : KeptRow) (q : Bool) → same x.me s.me ≡ q → item_at kept_row_id ks s.me ≡ Some s → 1 ≤ count_of kept_row_id s.me ks → count_of kept_row_id s.me (x ∷ ks) ≤ 1 → (if same x.me s.me then Some x else item_at kept_row_id ks s.me) ≡ Some s
     by s true is found some most =
-        let two : 1 + count_of standing_id s.me ks ≤ 1 = subst (λ q. (if q then 1 + count_of standing_id s.me ks else count_of standing_id s.me ks) ≤ 1) is most in absurd (omega (arith, two, some))
-    by s false is found some most = ap (λ q. if q then Some x else item_at standing_id ks s.me) is ∙ found
+        let two : 1 + count_of kept_row_id s.me ks ≤ 1 = subst (λ q. (if q then 1 + count_of kept_row_id s.me ks else count_of kept_row_id s.me ks) ≤ 1) is most in absurd (omega (arith, two, some))
+    by s false is found some most = ap (λ q. if q then Some x else item_at kept_row_id ks s.me) is ∙ found
 
 -- a message comes to a branch of the node
 module _ (f : Facts) (k : NodeState) (node : ℕ) where
@@ -188,8 +188,8 @@ module _ (places : List Place) (asked : List Command) (each : (n : ℕ) (q : Pla
     abbrev p : Place
     p = place_at places u.node
 
-    abbrev d : Deed
-    d = deed_of p k u.input
+    abbrev d : TurnDraft
+    d = draft_of p k u.input
 
     abbrev g : Facts
     g = facts_after places asked f (happenings.Turn u)
@@ -237,7 +237,7 @@ module _ (places : List Place) (asked : List Command) (each : (n : ℕ) (q : Pla
     asked_here from to (inr came) = came_to f k n u.input u.took may.comes from to kinds.Ask came
 
     -- a sealed one is done
-    sealed_over : (b : BranchId) (m : ℕ) → b.node ≡ n → stand_of k b ≡ Is_gone → exit t b ≡ Some (Sealed m) → IsOver t b
+    sealed_over : (b : BranchId) (m : ℕ) → b.node ≡ n → status_of k b ≡ Is_gone → exit t b ≡ Some (Sealed m) → IsOver t b
     sealed_over b m here gone sealed = elim (now.kept b m sealed) [
       | inl row ↦ absurd (kept_not_gone k b
           (sym (any_map b unacked_row (λ x. refl) k.stored.durable.kept)
@@ -249,13 +249,13 @@ module _ (places : List Place) (asked : List Command) (each : (n : ℕ) (q : Pla
         done_gone (inl learned_it) = inr (inr (inl learned_it))
         done_gone (inr forgot) = inr (inr (inr forgot))
 
-    exit_over : (b : BranchId) (e : Exit) → b.node ≡ n → stand_of k b ≡ Is_gone → exit t b ≡ Some e → IsOver t b
+    exit_over : (b : BranchId) (e : Exit) → b.node ≡ n → status_of k b ≡ Is_gone → exit t b ≡ Some e → IsOver t b
     exit_over b (Sealed m) here gone is = sealed_over b m here gone is
     exit_over b (Decided m) here gone is = inr (m, is)
     exit_over b Quiet here gone is = inl (inr (inl is))
     exit_over b Dropped here gone is = inl (inl is)
 
-    gone_over : (b : BranchId) → b.node ≡ n → HasBegun B b → stand_of k b ≡ Is_gone → IsOver t b
+    gone_over : (b : BranchId) → b.node ≡ n → HasBegun B b → status_of k b ≡ Is_gone → IsOver t b
     gone_over b here begun gone = elim (now.born.there b (λ none. (let at : born_at now.births b ≡ Some begun.0 = subst (λ c. born_at now.births c ≡ Some begun.0) begun.2 begun.1 in absurd (cc (at, none))))) [
       | inr living ↦ absurd (live_not_gone k b (subst (λ o. is_among b (lives_at o) ≡ true) may.up (subst (λ i. is_among b (lives_at (node_at f i)) ≡ true) here living)) gone)
       | inl left ↦ elim (some_or_none (exit t b)) [
@@ -270,7 +270,7 @@ module _ (places : List Place) (asked : List Command) (each : (n : ℕ) (q : Pla
     rows_are = heard_rows k u.input
 
     ack_is : (b to : BranchId) → Acks t (heard k u.input) u.input b to → AckIs t k.stored.durable.kept b to
-    ack_is b to (All_have s like all) = inl (s, subst (λ (ks : List Standing). IsRowLike ks b s) rows_are like, all)
+    ack_is b to (All_have s like all) = inl (s, subst (λ (ks : List KeptRow). IsRowLike ks b s) rows_are like, all)
     ack_is b to (Is_done m gone came) =
         inr (gone_over b (came_to f k n u.input u.took may.comes to b (kinds.Committed m) came) (near_begun to b (goes to b (kinds.Committed m) came)) (heard_gone k u.input b gone), (m, told_so to b (kinds.Committed m) came))
 
@@ -280,12 +280,12 @@ module _ (places : List Place) (asked : List Command) (each : (n : ℕ) (q : Pla
     learned_so (Some (records.Met b decisions.Rollback mixed)) e stands is = learned_now t b e decisions.Rollback (Some mixed) stands.1 (sym is)
     learned_so _ e stands is = absurd is
 
-    row_of : (s : Standing) → item_at standing_id (heard k u.input).stored.durable.kept s.me ≡ Some s → item_at standing_id k.stored.durable.kept s.me ≡ Some s
-    row_of s is = subst (λ (ks : List Standing). item_at standing_id ks s.me ≡ Some s) rows_are is
+    row_of : (s : KeptRow) → item_at kept_row_id (heard k u.input).stored.durable.kept s.me ≡ Some s → item_at kept_row_id k.stored.durable.kept s.me ≡ Some s
+    row_of s is = subst (λ (ks : List KeptRow). item_at kept_row_id ks s.me ≡ Some s) rows_are is
 
-    row_is : (s : Standing) → item_at standing_id k.stored.durable.kept s.me ≡ Some s → RowIs t s
+    row_is : (s : KeptRow) → item_at kept_row_id k.stored.durable.kept s.me ≡ Some s → RowIs t s
     row_is s is =
-        all_found (RowIs t) standing_id k.stored.durable.kept s.me s
+        all_found (RowIs t) kept_row_id k.stored.durable.kept s.me s
         (acked_back t k.stored.durable.kept (subst (λ x. RowsAre t x.durable.kept) (sym (node_so places asked each f t now.stand n k may.up).stored) (now.stand.1.rows n))) is
 
     none_yet : (b : BranchId) → IsLive k b → exit t b ≡ None
@@ -314,7 +314,7 @@ module _ (places : List Place) (asked : List Command) (each : (n : ℕ) (q : Pla
     roll_is cut wrote e to (Knows_so s kept me knows asked) =
         let learned_it : learned t s.me ≡ Some decisions.Rollback = subst (IsKnown t s) knows (row_is s (row_of s kept)).known in
         inl (inl (inr (inr (inl (learned_later e decisions.Rollback added (subst (λ c. learned t c ≡ Some decisions.Rollback) me learned_it))))))
-    roll_is cut wrote e to (Names_not s kept me other asked) = inr (s, subst (λ c. item_at standing_id k.stored.durable.kept c ≡ Some s) me (row_of s kept), other)
+    roll_is cut wrote e to (Names_not s kept me other asked) = inr (s, subst (λ c. item_at kept_row_id k.stored.durable.kept c ≡ Some s) me (row_of s kept), other)
 
     says_is : u.cut ≡ false → u.wrote ≡ d.wrote → (from to : BranchId) (kind : Kind) → SaysSo t (heard k u.input) u.input d from to kind → SaysByRow t r k.stored.durable.kept from to kind
     says_is cut wrote from to kinds.Ack so = ack_is from to so
@@ -323,11 +323,11 @@ module _ (places : List Place) (asked : List Command) (each : (n : ℕ) (q : Pla
     says_is cut wrote from to _ so = tt
 
     acks : AllByRecursion (AcksAre t) (heard k u.input).stored.durable.kept
-    acks = subst (λ (ks : List Standing). AllByRecursion (AcksAre t) ks) (sym rows_are) (subst (λ o. IfSome o (NodeHeard t)) may.up (now.heard.nodes n)).1
+    acks = subst (λ (ks : List KeptRow). AllByRecursion (AcksAre t) ks) (sym rows_are) (subst (λ o. IfSome o (NodeHeard t)) may.up (now.heard.nodes n)).1
 
     found : RowsFound t p u.input told_so (heard k u.input)
     found reco =
-        subst (λ (ks : List Standing). AllByRecursion (λ s. item_at standing_id ks s.me ≡ Some s) ks) (sym rows_are)
+        subst (λ (ks : List KeptRow). AllByRecursion (λ s. item_at kept_row_id ks s.me ≡ Some s) ks) (sym rows_are)
         (rows_found k.stored.durable.kept (λ b. (let one = (node_so places asked each f t now.stand n k may.up).ids.one b in omega (arith, one))))
 
     sent_so : (cut : Bool) → u.cut ≡ cut → IsOwed p k u.input u.wrote u.sent cut → AllByRecursion (λ m. SaysByRow t r k.stored.durable.kept m.from m.to m.kind) u.sent

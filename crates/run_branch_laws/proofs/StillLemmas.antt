@@ -10,7 +10,7 @@ use Rattle.node_rules.specs.Data.phases
 use Rattle.node_rules.specs.declared.session.PendingCall.TheVariants as pending
 use Rattle.node_rules.specs.declared.work.Work.{Work}
 use Rattle.node_rules.specs.Words.{item_at, put_item, drop_item}
-use Rattle.node_rules.specs.NodeState.{NodeState, Branch, Deed, live_id, work_id}
+use Rattle.node_rules.specs.NodeState.{NodeState, Branch, TurnDraft, live_id, work_id}
 use Rattle.node_rules.specs.Names.{passed_on}
 use Rattle.node_rules.specs.Statement.{ran, after_run, answer_of_run}
 use Rattle.node_rules.specs.Calls.{with_answer, called, next_child, strength_of, with_edge, waits_for_opened, hears_reply}
@@ -29,7 +29,7 @@ use Rattle.run_base_laws.proofs.RestStepLemmas.{going_of}
 use Rattle.run_base_laws.proofs.NeighborLemmas.{News}
 use Rattle.run_base_laws.proofs.NeighborStepLemmas.{begun_news, pends_news, lets_news, acked_news}
 use Rattle.run_base_laws.proofs.InTurnLemmas as turns
-use Rattle.run_base_laws.proofs.InTurnStepLemmas as deeds
+use Rattle.run_base_laws.proofs.InTurnStepLemmas as drafts
 use Rattle.run_branch_laws.proofs.FreezeStepLemmas as frost
 
 -- what a change of edges leaves of each, it leaves of all
@@ -137,19 +137,19 @@ module _ (k0 : NodeState) where
     asked_put k ss nodes ice now asked y w mine me =
         let there = asked_found k asked in put k now there.0 y w mine there.1 (there.2 ∙ frost.asked_works E A G Here input said received prepared k ss nodes ice asked) (me ∙ there.3)
 
-    pub stills_on : {k : NodeState} {d : Deed} → Step p input k d → SessionsFit k → News NewThere p input k → EachLive (turns.Begun E A G Here input said) k.lives k.works → frost.Ices E A G Here input said received k → Stills k → Stills d.after
+    pub stills_on : {k : NodeState} {d : TurnDraft} → Step p input k d → SessionsFit k → News NewThere p input k → EachLive (turns.Begun E A G Here input said) k.lives k.works → frost.Ices E A G Here input said received k → Stills k → Stills d.after
     stills_on (steps.Begins {k = k} n s call rows range none step) ss news nodes ice now =
         let root = news.root n s call rows none in
-        stills_on step (begun_so k ss p n) (begun_news NewThere p input k n news) (deeds.begins_so E A G Here input said received k nodes (fresh_root p k (new_root p k n)) refl (place (new_root p k n) refl) root.0.0)
+        stills_on step (begun_so k ss p n) (begun_news NewThere p input k n news) (drafts.begins_so E A G Here input said received k nodes (fresh_root p k (new_root p k n)) refl (place (new_root p k n) refl) root.0.0)
         (frost.begins_ice E A G Here input said received prepared k ice (fresh_root p k (new_root p k n)) refl root.0.1) (begun k now (fresh_root p k (new_root p k n)) root.1)
     stills_on (steps.Pends {k = k} n l given call has live code step) ss news nodes ice now = stills_on step (pends_so k ss n pending.Commit) (pends_news NewThere p input k n given call news) nodes ice now
     stills_on (steps.Lets_reads_go {k = k} l comment site_below live begins step) ss news nodes ice now = stills_on step (record { roots = ss.roots; above = ss.above }) (lets_news NewThere p input k l.me news) nodes ice now
     stills_on (steps.Counts_ack {k = k} s from kept came counts step) ss news nodes ice now = stills_on step (record { roots = ss.roots; above = ss.above }) (acked_news NewThere p input k _ news) nodes ice now
     stills_on (steps.Runs {k = k} x s given t asked way) ss news nodes ice now =
-        let y : Branch = record x { live = after_run x.live (ran p k x.live.me s t) } in asked_put k ss nodes ice now asked y.live (with_answer y (answer_of_run (ran p k x.live.me s t))).work (deeds.asked_mine E A G Here input said received k asked) refl
-    stills_on (steps.Goes_nowhere {k = k} x s given r asked way) ss news nodes ice now = asked_put k ss nodes ice now asked x.live _ (deeds.asked_mine E A G Here input said received k asked) refl
-    stills_on (steps.Calls {k = k} x s given i table asked way) ss news nodes ice now = asked_put k ss nodes ice now asked x.live (called x i (passed_on s table) given).work (deeds.asked_mine E A G Here input said received k asked) refl
-    stills_on (steps.Opens {k = k} x s given node link table asked way) ss news nodes ice now = asked_put k ss nodes ice now asked x.live (waits_for_opened x link (passed_on s table) given).work (deeds.asked_mine E A G Here input said received k asked) refl
+        let y : Branch = record x { live = after_run x.live (ran p k x.live.me s t) } in asked_put k ss nodes ice now asked y.live (with_answer y (answer_of_run (ran p k x.live.me s t))).work (drafts.asked_mine E A G Here input said received k asked) refl
+    stills_on (steps.Goes_nowhere {k = k} x s given r asked way) ss news nodes ice now = asked_put k ss nodes ice now asked x.live _ (drafts.asked_mine E A G Here input said received k asked) refl
+    stills_on (steps.Calls {k = k} x s given i table asked way) ss news nodes ice now = asked_put k ss nodes ice now asked x.live (called x i (passed_on s table) given).work (drafts.asked_mine E A G Here input said received k asked) refl
+    stills_on (steps.Opens {k = k} x s given node link table asked way) ss news nodes ice now = asked_put k ss nodes ice now asked x.live (waits_for_opened x link (passed_on s table) given).work (drafts.asked_mine E A G Here input said received k asked) refl
     stills_on (steps.Goes_on {k = k} x from strength g link opened) ss news nodes ice now =
         put k now x.live (with_edge x (new_edge from link strength)).live (called (with_edge x (new_edge from link strength)) (length x.live.edges + 1) g.statement (g.room - 1)).work (work_is k x.live.me x opened.live) (branch_parts k x.live.me x opened.live).0
         (frost.waits_working E A G Here input said received prepared k ss nodes ice x g opened.live opened.going) refl

@@ -9,16 +9,16 @@ use Rattle.commit_forget.specs.declared.next.Beyond.{Beyond}
 use Rattle.commit_forget.specs.declared.next.Next.TheVariants as nexts
 use Rattle.commit_forget.specs.Beyond.{beyond, parent_beyond, kid_beyond, all_acked}
 use Rattle.session_tree.specs.Live.{is_branch}
-use Rattle.node_rules.specs.Data.{BranchId, Decision, Kind, Standing, RedoRecord, Place, Input}
+use Rattle.node_rules.specs.Data.{BranchId, Decision, Kind, KeptRow, RedoRecord, Place, Input}
 use Rattle.node_rules.specs.Data.acts
 use Rattle.node_rules.specs.Data.inputs
 use Rattle.node_rules.specs.Data.kinds
 use Rattle.node_rules.specs.Data.records
 use Rattle.node_rules.specs.Words.{numbered, item_at, put_item}
 use Rattle.node_rules.specs.Inputs.{Came, Brings, Commit_came, Rollback_came, Rolled_back_came}
-use Rattle.node_rules.specs.NodeState.{NodeState, Deed, standing_id}
+use Rattle.node_rules.specs.NodeState.{NodeState, TurnDraft, kept_row_id}
 use Rattle.node_rules.specs.Commit.{acked_by}
-use Rattle.node_rules.specs.Turn.{heard, deed_of}
+use Rattle.node_rules.specs.Turn.{heard, draft_of}
 use Rattle.node_rules.proofs.Steps as steps
 use Rattle.node_rules.proofs.Steps.{Step, Doing, IsKept}
 use Rattle.run_rules.specs.Data.{Turn, Happening, Command}
@@ -43,31 +43,31 @@ none_found None is = refl
 none_found (Some b) is = absurd cc
 
 -- a row is like itself
-pub itself : (ks : List Standing) (s : Standing) → item_at standing_id ks s.me ≡ Some s → IsRowLike ks s.me s
+pub itself : (ks : List KeptRow) (s : KeptRow) → item_at kept_row_id ks s.me ≡ Some s → IsRowLike ks s.me s
 itself ks s stands = record { row = s; stands = stands; like = refl }
 
 -- and like the row before an Ack was counted
-pub like_acked : (ks : List Standing) (s : Standing) (from : BranchId) → item_at standing_id ks s.me ≡ Some s → (b : BranchId) (x : Standing) → IsRowLike (put_item standing_id ks (acked_by s from)) b x → IsRowLike ks b x
-like_acked ks s from stands b x is = elim (put_or_before standing_id ks (acked_by s from) b) [
+pub like_acked : (ks : List KeptRow) (s : KeptRow) (from : BranchId) → item_at kept_row_id ks s.me ≡ Some s → (b : BranchId) (x : KeptRow) → IsRowLike (put_item kept_row_id ks (acked_by s from)) b x → IsRowLike ks b x
+like_acked ks s from stands b x is = elim (put_or_before kept_row_id ks (acked_by s from) b) [
   | inl same ↦ record { row = is.row; stands = sym same ∙ is.stands; like = is.like }
   | inr new ↦ (let it : Some (acked_by s from) ≡ Some is.row = sym new.1 ∙ is.stands in
       let here : acked_by s from ≡ is.row = cc in
-      record { row = s; stands = subst (λ c. item_at standing_id ks c ≡ Some s) new.0 stands; like = is.like ∙ (ap unacked_row (sym here) ∙ row_acked s from) })
+      record { row = s; stands = subst (λ c. item_at kept_row_id ks c ≡ Some s) new.0 stands; like = is.like ∙ (ap unacked_row (sym here) ∙ row_acked s from) })
 ]
 
-goes_acked : (t : List Event) (ks : List Standing) (s : Standing) (from : BranchId) → item_at standing_id ks s.me ≡ Some s → (r : RedoRecord) → GoesByRow t (put_item standing_id ks (acked_by s from)) r → GoesByRow t ks r
+goes_acked : (t : List Event) (ks : List KeptRow) (s : KeptRow) (from : BranchId) → item_at kept_row_id ks s.me ≡ Some s → (r : RedoRecord) → GoesByRow t (put_item kept_row_id ks (acked_by s from)) r → GoesByRow t ks r
 goes_acked t ks s from stands (records.Ended b d) is = (is.0, like_acked ks s from stands b is.0 is.1, is.2)
 goes_acked t ks s from stands (records.Met b d mixed) is = (is.0, like_acked ks s from stands b is.0 is.1, is.2)
 goes_acked t ks s from stands (records.Forgot b) is = (is.0, like_acked ks s from stands b is.0 is.1, is.2)
 goes_acked t ks s from stands _ is = tt
 
-wrote_acked : (t : List Event) (ks : List Standing) (s : Standing) (from : BranchId) → item_at standing_id ks s.me ≡ Some s → (w : Option RedoRecord) → IfSome w (GoesByRow t (put_item standing_id ks (acked_by s from))) → IfSome w (GoesByRow t ks)
+wrote_acked : (t : List Event) (ks : List KeptRow) (s : KeptRow) (from : BranchId) → item_at kept_row_id ks s.me ≡ Some s → (w : Option RedoRecord) → IfSome w (GoesByRow t (put_item kept_row_id ks (acked_by s from))) → IfSome w (GoesByRow t ks)
 wrote_acked t ks s from stands None is = tt
 wrote_acked t ks s from stands (Some r) is = goes_acked t ks s from stands r is
 
 -- ---- all beyond acknowledged
 
-module _ (t : List Event) (s : Standing) (acks : AcksAre t s) where
+module _ (t : List Event) (s : KeptRow) (acks : AcksAre t s) where
   abbrev HeldAck : Beyond → Type 0
   HeldAck x = x.acked ≡ true → Has (Send_ack x.branch s.me) t
 
@@ -106,7 +106,7 @@ module _ (t : List Event) (p : Place) (input : Input) (told : (from to : BranchI
   brings_told {from = from} {to = to} (Rollback_came came) = told from to kinds.Rollback came
   brings_told {from = from} {to = to} (Rolled_back_came came) = told from to kinds.RolledBack came
 
-  module _ (ks : List Standing) (s : Standing) (stands : item_at standing_id ks s.me ≡ Some s) where
+  module _ (ks : List KeptRow) (s : KeptRow) (stands : item_at kept_row_id ks s.me ≡ Some s) where
     ends_so : {clock : ℕ} {from : BranchId} {d : Decision} → Doing clock input s from (nexts.End d) → LearnsSo t ks s.me d
     ends_so {from = from} (steps.Ends_so d brings toward none sealed met) = (s, itself ks s stands, (from, branch_found from s.toward toward, brings_told brings))
 
@@ -117,13 +117,13 @@ module _ (t : List Event) (p : Place) (input : Input) (told : (from to : BranchI
     forgets_so acks (steps.Forgets_first came knows new all site) = (s, itself ks s stands, inl (none_found s.toward site, acked_all t s acks all))
     forgets_so {from = from} acks (steps.Forgets_after came knows toward new) = (s, itself ks s stands, inr (from, branch_found from s.toward toward, told from s.me kinds.Forgotten came))
 
-  pub goes_on : {k : NodeState} {d : Deed} → Step p input k d → AllByRecursion (AcksAre t) k.stored.durable.kept → IfSome d.wrote (GoesByRow t k.stored.durable.kept)
+  pub goes_on : {k : NodeState} {d : TurnDraft} → Step p input k d → AllByRecursion (AcksAre t) k.stored.durable.kept → IfSome d.wrote (GoesByRow t k.stored.durable.kept)
   goes_on (steps.Begins n s call rows fit none step) acks = goes_on step acks
   goes_on (steps.Pends n l comment call has live code step) acks = goes_on step acks
   goes_on (steps.Lets_reads_go l comment site_below live begins step) acks = goes_on step acks
   goes_on (steps.Counts_ack {k = k} {d = d} s from kept came counts step) acks =
       wrote_acked t k.stored.durable.kept s from kept d.wrote
-      (goes_on step (all_with (AcksAre t) standing_id k.stored.durable.kept (acked_by s from) acks (acked_so t s from (told from s.me kinds.Ack came) (all_found (AcksAre t) standing_id k.stored.durable.kept s.me s acks kept))))
+      (goes_on step (all_with (AcksAre t) kept_row_id k.stored.durable.kept (acked_by s from) acks (acked_so t s from (told from s.me kinds.Ack came) (all_found (AcksAre t) kept_row_id k.stored.durable.kept s.me s acks kept))))
   goes_on (steps.Acts l site_below acts.Seal why) acks = tt
   goes_on (steps.Acts l site_below (acts.SealAndPass i) why) acks = tt
   goes_on (steps.Acts l site_below acts.Decide why) acks = tt
@@ -135,7 +135,7 @@ module _ (t : List Event) (p : Place) (input : Input) (told : (from to : BranchI
   goes_on (steps.Acts l site_below acts.Abandon why) acks = tt
   goes_on (steps.Does {k = k} s from (nexts.End d) kept why) acks = ends_so k.stored.durable.kept s kept why
   goes_on (steps.Does {k = k} s from (nexts.Meet d mixed) kept why) acks = meets_so k.stored.durable.kept s kept why
-  goes_on (steps.Does {k = k} s from nexts.Forget kept why) acks = forgets_so k.stored.durable.kept s kept (all_found (AcksAre t) standing_id k.stored.durable.kept s.me s acks kept) why
+  goes_on (steps.Does {k = k} s from nexts.Forget kept why) acks = forgets_so k.stored.durable.kept s kept (all_found (AcksAre t) kept_row_id k.stored.durable.kept s.me s acks kept) why
   goes_on (steps.Does s from nexts.Rest kept why) acks = tt
   goes_on (steps.Does s from nexts.AckToward kept why) acks = tt
   goes_on (steps.Does s from nexts.SayForgotten kept why) acks = tt
@@ -174,8 +174,8 @@ module _ (places : List Place) (asked : List Command) (each : (n : ℕ) (q : Pla
     turn_goes : IfSome u.wrote (GoesByRow t k.stored.durable.kept)
     turn_goes =
         of_wrote (place_at places u.node) k u (serves places f u k may) (λ w. IfSome w (GoesByRow t k.stored.durable.kept)) tt
-        (subst (λ (ks : List Standing). IfSome (deed_of (place_at places u.node) k u.input).wrote (GoesByRow t ks)) (heard_rows k u.input)
-        (goes_on t (place_at places u.node) u.input told_so (serves places f u k may).step (subst (λ (ks : List Standing). AllByRecursion (AcksAre t) ks) (sym (heard_rows k u.input)) acks)))
+        (subst (λ (ks : List KeptRow). IfSome (draft_of (place_at places u.node) k u.input).wrote (GoesByRow t ks)) (heard_rows k u.input)
+        (goes_on t (place_at places u.node) u.input told_so (serves places f u k may).step (subst (λ (ks : List KeptRow). AllByRecursion (AcksAre t) ks) (sym (heard_rows k u.input)) acks)))
 
   writes_so : (f : Facts) (t : List Event) (h : Happening) → StandHeard places asked each f t → MayHappen places asked f h → WritesByRow f t h
   writes_so f t (happenings.Turn u) now may = λ k up. turn_goes f t now u k (turn_of_node places f u k asked may up)

@@ -18,7 +18,7 @@ use Rattle.run_base_laws.specs.EventRows.{MayStand, MaySay, MaySayAll}
 use Rattle.run_branch_laws.specs.TreeJust.{TreeAllows, IsTreeAllowed, TreeSends, TreeLeaves, HappensByTree, GoByTree, RunsByTreesAreJust, RunsByTreesAgree}
 use Rattle.run_base_laws.proofs.LaterLemmas.{Added, Nothing_more, One_more, leavers_added}
 use Rattle.run_branch_laws.proofs.JustLemmas.{said_stays, none_is, just_runs_agree}
-use Rattle.run_base_laws.proofs.EventsStandLemmas.{Stand, tells_so, stand_on, stand_first}
+use Rattle.run_base_laws.proofs.EventsStandLemmas.{BranchStatus, tells_so, stand_on, stand_first}
 
 module _ (p : Forest) where
   -- ---- records
@@ -77,7 +77,7 @@ module _ (p : Forest) where
   -- ---- happenings
 
   module _ (places : List Place) (asked : List Command) (each : (n : ℕ) (q : Place) → numbered places n ≡ Some q → IsPlace places n q) where
-    happens_justly : (f : Facts) (t : List Event) (h : Happening) → Stand places asked each f t → MayHappen places asked f h → HappensByTree p f (facts_after places asked f h) h t → HappensJustly p f (facts_after places asked f h) h t
+    happens_justly : (f : Facts) (t : List Event) (h : Happening) → BranchStatus places asked each f t → MayHappen places asked f h → HappensByTree p f (facts_after places asked f h) h t → HappensJustly p f (facts_after places asked f h) h t
     happens_justly f t (happenings.Turn u) now may tree =
         let g : Facts = facts_after places asked f (happenings.Turn u) in
         let tells : IfSome u.wrote (MayStand t) × MaySayAll (with_record u t) u.sent = tells_so places asked each f t (happenings.Turn u) now may in
@@ -88,7 +88,7 @@ module _ (p : Forest) where
         }
     happens_justly f t _ now may tree = tt
 
-    are_just : (f : Facts) (hs : List Happening) (t : List Event) → Stand places asked each f t → IsLawful places asked f hs → GoByTree p places asked f hs t → AreJust p places asked f hs t
+    are_just : (f : Facts) (hs : List Happening) (t : List Event) → BranchStatus places asked each f t → IsLawful places asked f hs → GoByTree p places asked f hs t → AreJust p places asked f hs t
     unfolding IsLawful GoByTree AreJust
     are_just f [] t now lawful tree = tt
     are_just f (h ∷ hs) t now lawful tree =

@@ -12,7 +12,7 @@ use Rattle.node_rules.specs.Statement.{ran}
 use Rattle.node_rules.specs.Names.{way_of}
 use Rattle.node_rules.specs.Calls.{admit, reply_of}
 use Rattle.node_rules.specs.Commit.{beyond, next_on_decision, next_on_ack, next_on_forgotten}
-use Rattle.node_rules.specs.Turn.{turn_of, start_of, stand_of}
+use Rattle.node_rules.specs.Turn.{turn_of, start_of, status_of}
 use Rattle.net_bag.specs.Net.{sent_on, delivered}
 use Rattle.run_rules.specs.Facts.{facts_after}
 use Rattle.run_base_laws.specs.RunEvents.{events_from}
@@ -20,5 +20,5 @@ use Rattle.run_rules.specs.Births.{births_from}
 use Rattle.run_branch_laws.specs.TriedRun.{TheTriedRun}
 
 pub the_tried_run : TheTriedRun
-unfolding digits decimal hex8 kept_after durable_after checked examined written meant_over applied stored_by weight step ran_over ran way_of admit reply_of beyond next_on_decision next_on_ack next_on_forgotten turn_of start_of stand_of sent_on delivered facts_after events_from births_from
+unfolding digits decimal hex8 kept_after durable_after checked examined written meant_over applied stored_by weight step ran_over ran way_of admit reply_of beyond next_on_decision next_on_ack next_on_forgotten turn_of start_of status_of sent_on delivered facts_after events_from births_from
 the_tried_run = record { births = refl; told = refl }

@@ -17,7 +17,7 @@ use Rattle.run_base_laws.specs.EventRows.{MaySay, MaySayAll}
 use Rattle.run_branch_laws.specs.VoteLaws.{VotesAreOfSealed, LiveHaveNotVoted}
 use Rattle.run_rules.proofs.ListLemmas.{all_weaker}
 use Rattle.run_base_laws.proofs.LaterLemmas.{Added, Any, added_on, added_wider, exit_later, wrote_added, turn_added, stop_added, events_keep}
-use Rattle.run_base_laws.proofs.EventsStandLemmas.{Stand, tells_so, stand_on, stand_first, nodes_are_as_events}
+use Rattle.run_base_laws.proofs.EventsStandLemmas.{BranchStatus, tells_so, stand_on, stand_first, nodes_are_as_events}
 
 -- a branch is sealed, at an SCN that this clock has met
 abbrev IsSealed : List Event → BranchId → ℕ → Type 0
@@ -92,7 +92,7 @@ votes_later : {Q : Event → Type 0} {t r : List Event} → Added Q t r → Vote
 votes_later more old b j has = let so = old b j has in (so.0, exit_later b (Sealed so.0) more so.1, so.2)
 
 module _ (places : List Place) (asked : List Command) (each : (n : ℕ) (p : Place) → numbered places n ≡ Some p → IsPlace places n p) where
-  votes_on : (f : Facts) (t : List Event) (h : Happening) → Stand places asked each f t → Votes t t → MayHappen places asked f h → Votes (events_after places asked f h t) (events_after places asked f h t)
+  votes_on : (f : Facts) (t : List Event) (h : Happening) → BranchStatus places asked each f t → Votes t t → MayHappen places asked f h → Votes (events_after places asked f h t) (events_after places asked f h t)
   votes_on f t (happenings.Turn u) now old may =
       let g : Facts = facts_after places asked f (happenings.Turn u) in
       let r : List Event = with_happening f g (happenings.Turn u) t in
@@ -108,7 +108,7 @@ module _ (places : List Place) (asked : List Command) (each : (n : ℕ) (p : Pla
 
 pub votes_are_of_sealed : VotesAreOfSealed
 votes_are_of_sealed t lawful =
-    (events_keep t.places t.commands (λ f s. Stand t.places t.commands t.of_a_script.each f s × Votes s s)
+    (events_keep t.places t.commands (λ f s. BranchStatus t.places t.commands t.of_a_script.each f s × Votes s s)
     (λ f s h now may. (stand_on t.places t.commands t.of_a_script.each f s h now.0 may, votes_on t.places t.commands t.of_a_script.each f s h now.0 now.1 may))
     (first_facts t.places) t.trace [] (stand_first t.places t.commands t.of_a_script.each, (λ b j has. absurd has)) lawful).1
 

@@ -2,7 +2,7 @@
 -- an answer without changes that is under way.
 use Rattle.std.specs.Prelude.{◌≡◌, ℕ, ◌≤◌, Bool, true, List, Option, Some}
 use Rattle.std.specs.List.{AllByRecursion}
-use Rattle.node_rules.specs.Data.{BranchId, Kind, Edge, Vote, Live, Kid, Standing}
+use Rattle.node_rules.specs.Data.{BranchId, Kind, Edge, Vote, Live, Kid, KeptRow}
 use Rattle.node_rules.specs.Data.votes
 use Rattle.node_rules.specs.Data.kinds
 use Rattle.node_rules.specs.NodeState.{NodeState}
@@ -31,7 +31,7 @@ pub record HasAcks (t : List Event) (me : BranchId) (parent : Option BranchId) (
   pub below : AllByRecursion (λ c. c.acked ≡ true → Has (Send_ack c.branch me) t) children
 
 -- of a kept branch
-abbrev pub AcksAre : List Event → Standing → Type 0
+abbrev pub AcksAre : List Event → KeptRow → Type 0
 AcksAre t s = HasAcks t s.me s.parent s.parent_acked s.children
 
 -- an answer without changes comes from a branch that is gone so

@@ -7,7 +7,7 @@ use Rattle.node_rules.specs.Data.terms
 use Rattle.node_rules.specs.Data.stmts
 use Rattle.node_rules.specs.Data.decisions
 use Rattle.node_rules.specs.Data.inputs
-use Rattle.node_rules.specs.NodeState.{Outcome}
+use Rattle.node_rules.specs.NodeState.{TurnOutput}
 use Rattle.net_bag.specs.Net.{packet_at}
 use Rattle.agreement.specs.Events.{Event, Make, Seal, Decide, Learn, Forget, Send_vote, Send_commit, Send_ack, Send_forgotten}
 use Rattle.run_rules.specs.Data.{Packet, Took, Turn, Happening}
@@ -31,7 +31,7 @@ abbrev pub places : List Place
 places = place_of 1 ∷ place_of 2 ∷ []
 
 -- a turn that writes and says what it owes
-abbrev pub owing : ℕ → Input → Option Took → Option Outcome → Turn
+abbrev pub owing : ℕ → Input → Option Took → Option TurnOutput → Turn
 owing n input took None = record { node = n; input = input; took = took; wrote = None; sent = []; cut = false }
 owing n input took (Some o) = record { node = n; input = input; took = took; wrote = o.wrote; sent = o.sent; cut = false }
 

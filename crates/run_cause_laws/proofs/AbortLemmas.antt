@@ -1,42 +1,39 @@
 -- In a lawful run where what is told of live branches is what their nodes keep, Abort is said on Prepare to a branch that is gone, or on a
 -- child's Abort.
 use Rattle.std.proofs.Common.{◌≡◌, ◌≢◌, ℕ, Bool, true, false, if◌then◌else◌, is_none, List, [], ◌∷◌, ◌++◌, map, Option, Some, None, inl, inr, refl, sym, ap, subst, ◌∙◌}
-use Rattle.std.specs.Prelude.{fold, ◌⊎◌}
 use Rattle.std.specs.Option.{option_to_list}
 use Rattle.std.specs.List.{AllByRecursion}
 use Rattle.tran_ids.proofs.ListedLemmas.{item_is}
-use Rattle.redo_record.specs.Durable.{durable_after, durable}
+use Rattle.redo_record.specs.Durable.{durable}
 use Rattle.agreement.specs.Events.{Exit, exit}
-use Rattle.node_rules.specs.Data.{BranchId, Kind, Live, Msg, RedoRecord, Standing, Input, Place}
+use Rattle.node_rules.specs.Data.{BranchId, Kind, Live, Msg, RedoRecord, KeptRow, Input}
 use Rattle.node_rules.specs.Data.inputs
 use Rattle.node_rules.specs.Data.kinds
 use Rattle.node_rules.specs.Data.votes
 use Rattle.node_rules.specs.Inputs.{Came}
 use Rattle.node_rules.specs.Words.{same, item_at}
-use Rattle.node_rules.specs.NodeState.{NodeState, Stored, Deed, Branch, live_at, standing_id, standing_at, branch_at, with_work}
-use Rattle.node_rules.specs.Records.{applied, nothing_stored, stored_by}
-use Rattle.node_rules.specs.Turn.{Is_gone, kept_or_gone, live_or, stand_of, heard, deed_of, stamped}
+use Rattle.node_rules.specs.NodeState.{NodeState, Stored, Branch, live_at, kept_row_id, kept_row_at, branch_at, with_work}
+use Rattle.node_rules.specs.Records.{nothing_stored}
+use Rattle.node_rules.specs.Turn.{Is_gone, kept_or_gone, live_or, status_of, heard, stamped}
 use Rattle.node_rules.proofs.Steps.{Answers}
 use Rattle.run_rules.specs.Births.{Born, births_of, born_at}
 use Rattle.run_base_laws.specs.BirthLaws.{Began, IsChild, GoesSo}
-use Rattle.run_rules.specs.Branches.{Live as Told_live, Gone, Seen, Trail, seen_id, seen_at, is_live, is_among, life_kept, life_of, life_at}
+use Rattle.run_rules.specs.Branches.{Live as Told_live, Gone, Seen, seen_id, seen_at, is_live, is_among, life_kept, life_of, life_at}
 use Rattle.run_rules.specs.Data.{Took, Turn, Happening}
 use Rattle.run_rules.specs.Data.happenings
-use Rattle.run_rules.specs.Facts.{Facts, place_at, node_at, records_at}
+use Rattle.run_rules.specs.Facts.{node_at, records_at}
 use Rattle.run_claims.specs.Knowledge.{IsAbortTo}
-use Rattle.run_rules.specs.Lawful.{MayHappen, Comes, History, IsLawfulRun}
+use Rattle.run_rules.specs.Lawful.{Comes, History, IsLawfulRun}
 use Rattle.run_base_laws.specs.NodeLaws.{unacked_row}
 use Rattle.run_base_laws.specs.RunEvents.{lives_at}
-use Rattle.run_rules.specs.Trail.{trail_after}
 use Rattle.run_base_laws.proofs.BirthRunLemmas.{born_are_live_or_left, messages_are_of_neighbors}
 use Rattle.run_base_laws.proofs.BirthsStandLemmas.{came_so}
 use Rattle.run_base_laws.proofs.LawfulLemmas.{of_sent, serves}
 use Rattle.run_rules.proofs.ListLemmas.{all_weaker, all_map}
 use Rattle.run_base_laws.proofs.StoredLemmas.{StoresOf, records_are_kept}
-use Rattle.tree_laws.proofs.PrefixLemmas.{so_far, f_at, e_at}
+use Rattle.tree_laws.proofs.PrefixLemmas.{f_at, e_at}
 use Rattle.book_laws.proofs.ForceLemmas.{one_born}
-use Rattle.tree_site_laws.proofs.FateLemmas.{among_found}
-use Rattle.tree_site_laws.proofs.TimeLemmas.{Part, part_lawful, may_of}
+use Rattle.tree_laws.proofs.FateLemmas.{among_found}
 use Rattle.tree_trail_laws.proofs.FullLemmas.{Sees, SeesAll, full}
 use Rattle.tree_trail_laws.proofs.MomentLemmas.{tr_at, at_moment, by_moment}
 use Rattle.tree_trail_laws.proofs.SeenRunLemmas.{all_is_seen}
@@ -44,46 +41,39 @@ use Rattle.run_cause_laws.specs.AbortLaws.{MayAbort, AbortsDuly, AbortsAreDue}
 use Rattle.run_cause_laws.proofs.LeftExitLemmas.{abort_first, abort_came}
 use Rattle.run_cause_laws.proofs.LeftLemmas.{IsToldLeft, left_are_told}
 use Rattle.run_branch_laws.proofs.AbortStepLemmas.{Was_gone, Hears_one, AbortSo, aborts_on}
+use Rattle.tree_laws.proofs.AtTurn.{at_turn}
+use Rattle.tree_trail_laws.proofs.AtTrail.{at_trail}
+use Rattle.tree_laws.proofs.AckForestLemmas.{gone_before as heard_gone}
+use Rattle.book_laws.proofs.KeptLemmas.{durable_stored}
+use Rattle.run_cause_laws.proofs.QuietLemmas.{exit_or as some_or_none}
 
 -- ---- a branch of which its node knows nothing
 
-durable_stored : (s : Stored) (rs : List RedoRecord) → (stored_by s rs).durable ≡ fold durable_after s.durable rs
-unfolding stored_by applied
-durable_stored s [] = refl
-durable_stored s (r ∷ rs) = durable_stored (applied s r) rs
-
-row_none : (ks : List Standing) (b : BranchId) → item_at standing_id ks b ≡ None → item_at standing_id (map unacked_row ks) b ≡ None
+row_none : (ks : List KeptRow) (b : BranchId) → item_at kept_row_id ks b ≡ None → item_at kept_row_id (map unacked_row ks) b ≡ None
 row_none [] b none = refl
 row_none (x ∷ ks) b none = by (same x.me b) none (row_none ks b)
   where
-    by : (q : Bool) → (if q then Some x else item_at standing_id ks b) ≡ None → (item_at standing_id ks b ≡ None → item_at standing_id (map unacked_row ks) b ≡ None) → (if q then Some (unacked_row x) else item_at standing_id (map unacked_row ks) b) ≡ None
+    by : (q : Bool) → (if q then Some x else item_at kept_row_id ks b) ≡ None → (item_at kept_row_id ks b ≡ None → item_at kept_row_id (map unacked_row ks) b ≡ None) → (if q then Some (unacked_row x) else item_at kept_row_id (map unacked_row ks) b) ≡ None
     by true none rest = absurd cc
     by false none rest = rest none
 
 -- its records make no row of it either
-no_row : (k : NodeState) (rs : List RedoRecord) (b : BranchId) → StoresOf rs k → standing_at k b ≡ None → item_at standing_id (durable rs).kept b ≡ None
+no_row : (k : NodeState) (rs : List RedoRecord) (b : BranchId) → StoresOf rs k → kept_row_at k b ≡ None → item_at kept_row_id (durable rs).kept b ≡ None
 no_row k rs b stored none =
     let rows : map unacked_row k.stored.durable.kept ≡ (durable rs).kept = ap (λ (s : Stored). s.durable.kept) stored ∙ ap (λ d. d.kept) (durable_stored nothing_stored rs) in
-    subst (λ (ks : List Standing). item_at standing_id ks b ≡ None) rows (row_none k.stored.durable.kept b none)
+    subst (λ (ks : List KeptRow). item_at kept_row_id ks b ≡ None) rows (row_none k.stored.durable.kept b none)
 
-kept_none : (o : Option Standing) → kept_or_gone o ≡ Is_gone → o ≡ None
+kept_none : (o : Option KeptRow) → kept_or_gone o ≡ Is_gone → o ≡ None
 kept_none None is = refl
 kept_none (Some s) is = absurd (cc is)
 
-gone_parts : (l : Option Branch) (o : Option Standing) → live_or l o ≡ Is_gone → (l ≡ None) × (o ≡ None)
+gone_parts : (l : Option Branch) (o : Option KeptRow) → live_or l o ≡ Is_gone → (l ≡ None) × (o ≡ None)
 gone_parts None o is = (refl, kept_none o is)
 gone_parts (Some x) o is = absurd (cc is)
 
-gone_so : (k : NodeState) (b : BranchId) → stand_of k b ≡ Is_gone → (branch_at k b ≡ None) × (standing_at k b ≡ None)
-unfolding stand_of
-gone_so k b is = gone_parts (branch_at k b) (standing_at k b) is
-
-heard_gone : (k : NodeState) (input : Input) (b : BranchId) → stand_of (heard k input) b ≡ Is_gone → stand_of k b ≡ Is_gone
-unfolding stand_of
-heard_gone k (inputs.Message m) b is = is
-heard_gone k (inputs.Call n s) b is = is
-heard_gone k (inputs.GiveUp n) b is = is
-heard_gone k inputs.Reco b is = is
+gone_so : (k : NodeState) (b : BranchId) → status_of k b ≡ Is_gone → (branch_at k b ≡ None) × (kept_row_at k b ≡ None)
+unfolding status_of
+gone_so k b is = gone_parts (branch_at k b) (kept_row_at k b) is
 
 heard_live : (k : NodeState) (input : Input) (b : BranchId) → live_at (heard k input) b ≡ live_at k b
 heard_live k (inputs.Message y) b = refl
@@ -91,42 +81,11 @@ heard_live k (inputs.Call n o) b = refl
 heard_live k (inputs.GiveUp n) b = refl
 heard_live k inputs.Reco b = refl
 
-some_or_none : (o : Option Exit) → (o ≡ None) ⊎ ((y : Exit) × (o ≡ Some y))
-some_or_none None = inl refl
-some_or_none (Some y) = inr (y, refl)
-
 -- ---- a turn
 
 module _ (t : History) (whole : IsLawfulRun t) (sees : SeesAll t) (hs : List Happening) (u : Turn) (rest : List Happening) (is : hs ++ happenings.Turn u ∷ rest ≡ t.trace) where
-  abbrev s0 : History
-  s0 = so_far t hs
-
-  part0 : Part t whole hs
-  part0 = record { rest = happenings.Turn u ∷ rest; is = is }
-
-  lawful0 : IsLawfulRun s0
-  lawful0 = part_lawful t whole hs part0
-
-  abbrev f0 : Facts
-  f0 = f_at t hs
-
-  abbrev tr0 : Trail
-  tr0 = tr_at t hs
-
-  abbrev tr1 : Trail
-  tr1 = trail_after t.places f0 tr0 (happenings.Turn u)
-
-  abbrev may : MayHappen t.places t.commands f0 (happenings.Turn u)
-  may = may_of t whole hs (happenings.Turn u) rest is
-
-  abbrev k : NodeState
-  k = may.0
-
-  abbrev p : Place
-  p = place_at t.places u.node
-
-  abbrev d : Deed
-  d = deed_of p k u.input
+  open at_turn t whole hs u rest is use {s as s0, part as part0, lawful as lawful0, f as f0, may, k, p, d}
+  open at_trail t hs u use {tr as tr0, tr_on as tr1}
 
   saw : Sees f0 tr0
   saw = at_moment t (λ places f tr h. Sees f tr) sees hs (happenings.Turn u) rest is
@@ -154,7 +113,7 @@ module _ (t : History) (whole : IsLawfulRun t) (sees : SeesAll t) (hs : List Hap
       ]
 
   -- and is told so
-  told_gone : (b from : BranchId) → IsChild B b from → (it : IsToldLeft (births_of s0) f0 tr0 b) → item_at standing_id (durable (records_at f0 b.node)).kept b ≡ None → life_at f0 tr0 b ≡ Gone
+  told_gone : (b from : BranchId) → IsChild B b from → (it : IsToldLeft (births_of s0) f0 tr0 b) → item_at kept_row_id (durable (records_at f0 b.node)).kept b ≡ None → life_at f0 tr0 b ≡ Gone
   unfolding life_at
   told_gone b from child it none =
       let one : it.born ≡ child.0 = one_born (births_of s0) it.born child.0 it.began child.1 (it.is_me ∙ sym child.2) in
@@ -163,9 +122,9 @@ module _ (t : History) (whole : IsLawfulRun t) (sees : SeesAll t) (hs : List Hap
         | inl some ↦ ap is_none some.1
         | inr stops ↦ (let upright = may.1.settled.upright in absurd (cc (upright, stops)))
       ] in
-      ap (life_of f0 b) it.at ∙ (ap (λ q. if q then Told_live else life_kept (item_at standing_id (durable (records_at f0 b.node)).kept b)) out ∙ ap life_kept none)
+      ap (life_of f0 b) it.at ∙ (ap (λ q. if q then Told_live else life_kept (item_at kept_row_id (durable (records_at f0 b.node)).kept b)) out ∙ ap life_kept none)
 
-  gone_told : (b from : BranchId) (sb : Bool) (comment : List ℕ) → Came u.input from b (kinds.Prepare sb comment) → stand_of k b ≡ Is_gone → life_at f0 tr0 b ≡ Gone
+  gone_told : (b from : BranchId) (sb : Bool) (comment : List ℕ) → Came u.input from b (kinds.Prepare sb comment) → status_of k b ≡ Is_gone → life_at f0 tr0 b ≡ Gone
   gone_told b from sb comment came gone =
       let parts = gone_so k b gone in
       let up : node_at f0 b.node ≡ Some k = ap (node_at f0) (came_here b from (kinds.Prepare sb comment) came) ∙ may.1.up in

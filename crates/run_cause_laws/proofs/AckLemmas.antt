@@ -9,14 +9,14 @@ use Rattle.tran_ids.proofs.BranchLemmas.{same_from_equal}
 use Rattle.tran_ids.proofs.ListedLemmas.{item_is}
 use Rattle.tran_ids.proofs.NumberedLemmas.{set_or_before}
 use Rattle.agreement.specs.Events.{Exit, exit}
-use Rattle.node_rules.specs.Data.{BranchId, Kind, Kid, Peer, RedoRecord, Decided, Standing, Input, Place}
+use Rattle.node_rules.specs.Data.{BranchId, Kind, Kid, Peer, RedoRecord, Decided, KeptRow, Input}
 use Rattle.node_rules.specs.Data.inputs
 use Rattle.node_rules.specs.Data.kinds
 use Rattle.node_rules.specs.Data.records
 use Rattle.node_rules.specs.Words.{same, item_at, numbered, set_numbered}
-use Rattle.node_rules.specs.NodeState.{NodeState, Deed, standing_id}
+use Rattle.node_rules.specs.NodeState.{NodeState, kept_row_id}
 use Rattle.node_rules.specs.Records.{nothing_stored}
-use Rattle.node_rules.specs.Turn.{turn_of, heard, deed_of, start_of}
+use Rattle.node_rules.specs.Turn.{turn_of, heard, start_of}
 use Rattle.node_rules.proofs.Steps.{IsKept}
 use Rattle.redo_record.specs.Rows.{kid_of, decided_as}
 use Rattle.run_rules.specs.Births.{births_of}
@@ -24,23 +24,23 @@ use Rattle.run_rules.specs.Branches.{Dropped, Seen, Trail, seen_id, seen_at, is_
 use Rattle.run_rules.specs.Data.{Turn, Happening}
 use Rattle.run_rules.specs.Data.happenings
 use Rattle.run_base_laws.specs.EventRows.{RowIs}
-use Rattle.run_rules.specs.Facts.{Facts, first_facts, place_at, flat, node_at, records_at, kept_after, with_boot, facts_after, facts_of}
+use Rattle.run_rules.specs.Facts.{Facts, first_facts, flat, node_at, records_at, kept_after, with_boot, facts_after, facts_of}
 use Rattle.run_base_laws.specs.IdLaws.{IsRecordOf}
 use Rattle.run_claims.specs.Knowledge.{acks_of, neighbors_of}
 use Rattle.run_rules.specs.BranchRecords.{decided_in}
-use Rattle.run_rules.specs.Lawful.{MayHappen, History, IsLawfulRun}
+use Rattle.run_rules.specs.Lawful.{History, IsLawfulRun}
 use Rattle.run_rules.specs.Trail.{acked_by, acks_after, stopped_by, trail_after}
 use Rattle.run_rules.proofs.AtNodeLemmas.{turn_elsewhere, turn_here}
-use Rattle.run_base_laws.proofs.EventsStandLemmas.{Stand, run_stands, node_so, owned_so, nodes_are_as_events, first_node}
+use Rattle.run_base_laws.proofs.EventsStandLemmas.{BranchStatus, run_stands, node_so, owned_so, nodes_are_as_events, first_node}
 use Rattle.run_base_laws.proofs.LawfulLemmas.{of_wrote, serves}
 use Rattle.run_rules.proofs.ListLemmas.{all_weaker, map_after}
 use Rattle.run_base_laws.proofs.OwnLemmas.{all_found}
 use Rattle.run_base_laws.proofs.StoredLemmas.{records_are_kept}
 use Rattle.run_branch_laws.proofs.TowardLemmas.{heard_rows}
 use Rattle.run_base_laws.proofs.TurnEventLemmas.{cases_nat, record_own}
-use Rattle.tree_laws.proofs.PrefixLemmas.{so_far, f_at, e_at, one_on}
+use Rattle.tree_laws.proofs.PrefixLemmas.{f_at, e_at, one_on}
 use Rattle.tree_laws.proofs.RowLemmas.{rows_so}
-use Rattle.tree_site_laws.proofs.TimeLemmas.{Part, part_lawful, may_of, keep_on}
+use Rattle.tree_laws.proofs.TimeLemmas.{Part, keep_on}
 use Rattle.tree_trail_laws.proofs.FullLemmas.{SeesAll, full}
 use Rattle.tree_trail_laws.proofs.MomentLemmas.{tr_at, trail_one_on, by_moment}
 use Rattle.tree_trail_laws.proofs.SeenLemmas.{item_mapped, turned, seen_turned}
@@ -49,6 +49,8 @@ use Rattle.run_cause_laws.specs.ForgetLaws.{SiteMayForget, ForgetsDuly, SitesFor
 use Rattle.run_cause_laws.proofs.AckStepLemmas.{RowHasAcks, Heard, IsOfDecision, ForgetsSo, acks_stored, acks_on, forgets_on}
 use Rattle.run_cause_laws.proofs.LeftLemmas.{IsToldLeft, left_are_told}
 use Rattle.run_cause_laws.proofs.OnceLemmas.{IsOnly, disks_only}
+use Rattle.tree_laws.proofs.AtTurn.{at_turn}
+use Rattle.tree_trail_laws.proofs.AtTrail.{at_trail}
 
 -- the Ack of a neighbour is told to have come to a branch
 abbrev pub IsAcked : Trail → BranchId → BranchId → Type 0
@@ -90,7 +92,7 @@ stopped_acks n s = by (is_live_at n s)
     by false = (refl, refl)
 
 -- rows with Acks that tell more
-wider_acks : (P Q : BranchId → BranchId → Type 0) → ((c b : BranchId) → P c b → Q c b) → (ks : List Standing) → AllByRecursion (RowHasAcks P) ks → AllByRecursion (RowHasAcks Q) ks
+wider_acks : (P Q : BranchId → BranchId → Type 0) → ((c b : BranchId) → P c b → Q c b) → (ks : List KeptRow) → AllByRecursion (RowHasAcks P) ks → AllByRecursion (RowHasAcks Q) ks
 wider_acks P Q more ks all = all_weaker (RowHasAcks P) (RowHasAcks Q) (λ s is. record {
   above = λ acked b at. more b s.me (is.above acked b at);
   below = all_weaker (λ c. c.acked ≡ true → P c.branch s.me) _ (λ c so acked. more c.branch s.me (so acked)) s.children is.below;
@@ -114,61 +116,31 @@ module _ (t : History) (whole : IsLawfulRun t) (sees : SeesAll t) where
   AcksAreTold hs = AckedAt (f_at t hs) (tr_at t hs)
 
   module _ (hs : List Happening) (u : Turn) (rest : List Happening) (is : hs ++ happenings.Turn u ∷ rest ≡ t.trace) (now : AcksAreTold hs) where
-    abbrev s0 : History
-    s0 = so_far t hs
-
-    part0 : Part t whole hs
-    part0 = record { rest = happenings.Turn u ∷ rest; is = is }
-
-    lawful0 : IsLawfulRun s0
-    lawful0 = part_lawful t whole hs part0
-
-    abbrev f0 : Facts
-    f0 = f_at t hs
-
-    abbrev f1 : Facts
-    f1 = facts_after t.places t.commands f0 (happenings.Turn u)
-
-    abbrev tr0 : Trail
-    tr0 = tr_at t hs
-
-    abbrev tr1 : Trail
-    tr1 = trail_after t.places f0 tr0 (happenings.Turn u)
-
-    abbrev may : MayHappen t.places t.commands f0 (happenings.Turn u)
-    may = may_of t whole hs (happenings.Turn u) rest is
-
-    abbrev k : NodeState
-    k = may.0
-
-    abbrev p : Place
-    p = place_at t.places u.node
-
-    abbrev d : Deed
-    d = deed_of p k u.input
+    open at_turn t whole hs u rest is use {s as s0, part as part0, lawful as lawful0, f as f0, g as f1, may, k, p, d}
+    open at_trail t hs u use {tr as tr0, tr_on as tr1}
 
     abbrev Q : BranchId → BranchId → Type 0
     Q = IsAcked tr1
 
-    stands : Stand t.places t.commands t.of_a_script.each f0 (e_at t hs)
+    stands : BranchStatus t.places t.commands t.of_a_script.each f0 (e_at t hs)
     stands = run_stands s0 lawful0
 
     more : (c b : BranchId) → IsAcked tr0 c b → Q c b
     more c b it = (turned t.places f0 tr0 u it.0, seen_turned t.places f0 tr0 u b it.0 it.1, acks_stay it.0 u.input c it.2)
 
     -- a branch that has a row is told
-    row_told : (s : Standing) → IsKept k s → IsToldLeft (births_of s0) f0 tr0 s.me
+    row_told : (s : KeptRow) → IsKept k s → IsToldLeft (births_of s0) f0 tr0 s.me
     row_told s kept =
-        let row : RowIs (e_at t hs) s = all_found (RowIs (e_at t hs)) standing_id k.stored.durable.kept s.me s (nodes_are_as_events s0 lawful0 u.node k may.1.up).1 kept in
+        let row : RowIs (e_at t hs) s = all_found (RowIs (e_at t hs)) kept_row_id k.stored.durable.kept s.me s (nodes_are_as_events s0 lawful0 u.node k may.1.up).1 kept in
         by s (exit (e_at t hs) s.me) refl row.left
       where
-        by : (s : Standing) (o : Option Exit) → exit (e_at t hs) s.me ≡ o → exit (e_at t hs) s.me ≢ None → IsToldLeft (births_of s0) f0 tr0 s.me
+        by : (s : KeptRow) (o : Option Exit) → exit (e_at t hs) s.me ≡ o → exit (e_at t hs) s.me ≢ None → IsToldLeft (births_of s0) f0 tr0 s.me
         by s None at some = absurd (some at)
         by s (Some x) at some = left_are_told t whole sees hs part0 s.me x at
 
     heard_so : (j : NodeState) → j.stored.durable.kept ≡ k.stored.durable.kept → Heard Q p u.input j
     heard_so j rows s from kept came =
-        let it : IsToldLeft (births_of s0) f0 tr0 s.me = row_told s (subst (λ (ks : List Standing). item_at standing_id ks s.me ≡ Some s) rows kept) in
+        let it : IsToldLeft (births_of s0) f0 tr0 s.me = row_told s (subst (λ (ks : List KeptRow). item_at kept_row_id ks s.me ≡ Some s) rows kept) in
         let b : Seen = it.seen in
         let me : b.me ≡ s.me = item_is seen_id tr0.seen s.me b it.at in (
           turned t.places f0 tr0 u b,
@@ -177,7 +149,7 @@ module _ (t : History) (whole : IsLawfulRun t) (sees : SeesAll t) where
         )
 
     rows_now : AllByRecursion (RowHasAcks Q) (heard k u.input).stored.durable.kept
-    rows_now = subst (λ (ks : List Standing). AllByRecursion (RowHasAcks Q) ks) (sym (heard_rows k u.input)) (wider_acks (IsAcked tr0) Q more k.stored.durable.kept (now u.node k may.1.up))
+    rows_now = subst (λ (ks : List KeptRow). AllByRecursion (RowHasAcks Q) ks) (sym (heard_rows k u.input)) (wider_acks (IsAcked tr0) Q more k.stored.durable.kept (now u.node k may.1.up))
 
     rows_after : AllByRecursion (RowHasAcks Q) d.after.stored.durable.kept
     rows_after = acks_on Q p u.input (serves t.places f0 u k may.1).step (heard_so (heard k u.input) (heard_rows k u.input)) rows_now
@@ -208,7 +180,7 @@ module _ (t : History) (whole : IsLawfulRun t) (sees : SeesAll t) where
     abbrev rs : List RedoRecord
     rs = records_at f0 u.node
 
-    rows_decided : AllByRecursion (λ (s : Standing). IsOfDecision Q p u.input rs s.me s.parent (map (λ (c : Kid). c.branch) s.children) s.toward) k.stored.durable.kept
+    rows_decided : AllByRecursion (λ (s : KeptRow). IsOfDecision Q p u.input rs s.me s.parent (map (λ (c : Kid). c.branch) s.children) s.toward) k.stored.durable.kept
     rows_decided =
         rows_so (IsOfDecision Q p u.input rs) (IsOnly rs) (λ r only x found. absurd (cc (only, found)))
         (λ r only x found. decided_row r x (let both : Some r ≡ Some x = sym only ∙ found in let it : r ≡ x = cc in it)) k rs (records_are_kept s0 lawful0 u.node k may.1.up) (disks_only t whole hs part0 u.node).1
@@ -227,7 +199,7 @@ module _ (t : History) (whole : IsLawfulRun t) (sees : SeesAll t) where
         forget_due u.wrote (record_own t.places t.commands t.of_a_script.each f0 (e_at t hs) u k stands.1 stands.0.even (node_so t.places t.commands t.of_a_script.each f0 (e_at t hs) stands) (owned_so t.places t.commands t.of_a_script.each f0 (e_at t hs) stands) may.1)
         (of_wrote p k u (serves t.places f0 u k may.1) (λ w. IfSome w (ForgetsSo Q p u.input rs)) tt
         (forgets_on Q p u.input rs (serves t.places f0 u k may.1).step (heard_so (heard k u.input) (heard_rows k u.input)) rows_now
-        (subst (λ (ks : List Standing). AllByRecursion (λ (s : Standing). IsOfDecision Q p u.input rs s.me s.parent (map (λ (c : Kid). c.branch) s.children) s.toward) ks) (sym (heard_rows k u.input)) rows_decided)))
+        (subst (λ (ks : List KeptRow). AllByRecursion (λ (s : KeptRow). IsOfDecision Q p u.input rs s.me s.parent (map (λ (c : Kid). c.branch) s.children) s.toward) ks) (sym (heard_rows k u.input)) rows_decided)))
 
   -- ---- other happenings
 

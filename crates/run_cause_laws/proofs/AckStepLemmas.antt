@@ -13,7 +13,7 @@ use Rattle.redo_record.specs.Durable.{durable_after}
 use Rattle.redo_record.specs.Rows.{kid_of, sealed_as, decided_as, has_neighbors}
 use Rattle.redo_record.specs.Lists.{change_where, drop_where}
 use Rattle.session_tree.specs.Live.{is_branch}
-use Rattle.node_rules.specs.Data.{BranchId, Kid, Peer, RedoRecord, Decided, Standing, Place, Input}
+use Rattle.node_rules.specs.Data.{BranchId, Kid, Peer, RedoRecord, Decided, KeptRow, Place, Input}
 use Rattle.node_rules.specs.Data.acts
 use Rattle.node_rules.specs.Data.decisions
 use Rattle.node_rules.specs.Data.inputs
@@ -22,7 +22,7 @@ use Rattle.node_rules.specs.Data.params
 use Rattle.node_rules.specs.Data.records
 use Rattle.node_rules.specs.Words.{same, put_item}
 use Rattle.node_rules.specs.Inputs.{Came}
-use Rattle.node_rules.specs.NodeState.{NodeState, Stored, Deed, standing_id, with_standing}
+use Rattle.node_rules.specs.NodeState.{NodeState, Stored, TurnDraft, kept_row_id, with_kept_row}
 use Rattle.node_rules.specs.Prepare.{sealed_record, decided_record}
 use Rattle.node_rules.specs.Records.{applied, stored_by}
 use Rattle.node_rules.specs.Commit.{acks_kid, acked_by}
@@ -41,22 +41,22 @@ module _ (Q : BranchId → BranchId → Type 0) where
     pub above : parent_acked ≡ true → (b : BranchId) → parent ≡ Some b → Q b me
     pub below : AllByRecursion (λ c. c.acked ≡ true → Q c.branch me) children
 
-  abbrev pub RowHasAcks : Standing → Type 0
+  abbrev pub RowHasAcks : KeptRow → Type 0
   RowHasAcks s = HasAcks s.me s.parent s.parent_acked s.children
 
   kids_unacked : (me : BranchId) (ps : List Peer) → AllByRecursion (λ c. c.acked ≡ true → Q c.branch me) (map kid_of ps)
   kids_unacked me ps = all_each (λ c. c.acked ≡ true → Q c.branch me) kid_of ps (λ q none. absurd cc)
 
-  rows_changed : (c : BranchId) (g : Standing → Standing) → ((x : Standing) → RowHasAcks x → RowHasAcks (g x)) → (ks : List Standing) → AllByRecursion RowHasAcks ks → AllByRecursion RowHasAcks (change_where (stands_at c) g ks)
+  rows_changed : (c : BranchId) (g : KeptRow → KeptRow) → ((x : KeptRow) → RowHasAcks x → RowHasAcks (g x)) → (ks : List KeptRow) → AllByRecursion RowHasAcks ks → AllByRecursion RowHasAcks (change_where (stands_at c) g ks)
   rows_changed c g each ks all =
       all_map RowHasAcks (λ x. if stands_at c x then g x else x) ks
       (all_weaker RowHasAcks _ (λ x so. cond_both (stands_at c x) (g x) x RowHasAcks (λ here. each x so) (λ other. so)) ks all)
 
-  rows_left : (test : Standing → Bool) (ks : List Standing) → AllByRecursion RowHasAcks ks → AllByRecursion RowHasAcks (drop_where test ks)
+  rows_left : (test : KeptRow → Bool) (ks : List KeptRow) → AllByRecursion RowHasAcks ks → AllByRecursion RowHasAcks (drop_where test ks)
   rows_left test ks all = all_filter RowHasAcks RowHasAcks (λ x. not (test x)) (λ x passes so. so) ks all
 
   -- a new row holds no Ack, and no record changes those of others
-  rows_kept : (ks : List Standing) (r : RedoRecord) → AllByRecursion RowHasAcks ks → AllByRecursion RowHasAcks (kept_after ks r)
+  rows_kept : (ks : List KeptRow) (r : RedoRecord) → AllByRecursion RowHasAcks ks → AllByRecursion RowHasAcks (kept_after ks r)
   unfolding kept_after
   rows_kept ks (records.Sealed r) all = all_put RowHasAcks (λ y. y.me) ks (sealed_as r) all (record { above = λ none b is. absurd cc; below = kids_unacked r.me r.children })
   rows_kept ks (records.Decided r) all =
@@ -96,7 +96,7 @@ module _ (Q : BranchId → BranchId → Type 0) where
   or_both P false c is first second = second is
 
   -- one more Ack is held
-  acked_so : (s : Standing) (from : BranchId) → Q from s.me → RowHasAcks s → RowHasAcks (acked_by s from)
+  acked_so : (s : KeptRow) (from : BranchId) → Q from s.me → RowHasAcks s → RowHasAcks (acked_by s from)
   acked_so s from came is = record {
     above = λ acked b at. or_both (Q b s.me) s.parent_acked (is_branch from s.parent) acked (λ old. is.above old b at) (λ new. subst (λ c. Q c s.me) (is_it from b s.parent new at) came);
     below = all_map (λ c. c.acked ≡ true → Q c.branch s.me) (acks_kid from) s.children
@@ -110,7 +110,7 @@ module _ (Q : BranchId → BranchId → Type 0) where
 
     -- an Ack to a branch of these rows tells it
     abbrev pub Heard : NodeState → Type 0
-    Heard k = (s : Standing) (from : BranchId) → IsKept k s → Came input from s.me kinds.Ack → Q from s.me
+    Heard k = (s : KeptRow) (from : BranchId) → IsKept k s → Came input from s.me kinds.Ack → Q from s.me
 
     recorded : (k : NodeState) (r : RedoRecord) → RowsSo k → AllByRecursion RowHasAcks (applied k.stored r).durable.kept
     recorded k r all = rows_applied k.stored r all
@@ -133,13 +133,13 @@ module _ (Q : BranchId → BranchId → Type 0) where
         subst₂ Q from_is to_is is
 
     -- with one Ack more
-    pub counted : (k : NodeState) (s : Standing) (from : BranchId) → IsKept k s → Came input from s.me kinds.Ack → Heard k → RowsSo k → AllByRecursion RowHasAcks (put_item standing_id k.stored.durable.kept (acked_by s from))
-    counted k s from kept came heard all = all_with RowHasAcks standing_id k.stored.durable.kept (acked_by s from) all (acked_so s from (heard s from kept came) (all_found RowHasAcks standing_id k.stored.durable.kept s.me s all kept))
+    pub counted : (k : NodeState) (s : KeptRow) (from : BranchId) → IsKept k s → Came input from s.me kinds.Ack → Heard k → RowsSo k → AllByRecursion RowHasAcks (put_item kept_row_id k.stored.durable.kept (acked_by s from))
+    counted k s from kept came heard all = all_with RowHasAcks kept_row_id k.stored.durable.kept (acked_by s from) all (acked_so s from (heard s from kept came) (all_found RowHasAcks kept_row_id k.stored.durable.kept s.me s all kept))
 
-    pub heard_on : (k : NodeState) (s : Standing) (from : BranchId) → IsKept k s → Came input from s.me kinds.Ack → Heard k → Heard (with_standing k (acked_by s from))
+    pub heard_on : (k : NodeState) (s : KeptRow) (from : BranchId) → IsKept k s → Came input from s.me kinds.Ack → Heard k → Heard (with_kept_row k (acked_by s from))
     heard_on k s from kept came heard x c at ack = told_again from s.me c x.me came ack (heard s from kept came)
 
-    pub acks_on : {k : NodeState} {d : Deed} → Step p input k d → Heard k → RowsSo k → RowsSo d.after
+    pub acks_on : {k : NodeState} {d : TurnDraft} → Step p input k d → Heard k → RowsSo k → RowsSo d.after
     acks_on (steps.Begins n s call rows fit none step) heard all = acks_on step heard all
     acks_on (steps.Pends n l comment call has live code step) heard all = acks_on step heard all
     acks_on (steps.Lets_reads_go l comment site_below live begins step) heard all = acks_on step heard all
@@ -178,7 +178,7 @@ module _ (Q : BranchId → BranchId → Type 0) where
       abbrev pub IsOfDecision : BranchId → Option BranchId → List BranchId → Option BranchId → Type 0
       IsOfDecision me parent kids toward = (r : Decided) → decided_in rs me ≡ Some r → (toward ≡ None) × (parent ≡ r.parent) × (kids ≡ map (λ c. c.branch) r.children)
 
-      abbrev pub RowDecided : Standing → Type 0
+      abbrev pub RowDecided : KeptRow → Type 0
       RowDecided s = IsOfDecision s.me s.parent (map (λ (c : Kid). c.branch) s.children) s.toward
 
       abbrev pub RowsDecided : NodeState → Type 0
@@ -189,7 +189,7 @@ module _ (Q : BranchId → BranchId → Type 0) where
       ForgetsSo (records.Forgot b) = (r : Decided) → decided_in rs b ≡ Some r → AllByRecursion (λ c. Q c b) (neighbors_of r)
       ForgetsSo _ = Unit {0}
 
-      module _ (s : Standing) (acks : RowHasAcks s) where
+      module _ (s : KeptRow) (acks : RowHasAcks s) where
         -- the parent and the children, where nobody is toward
         kids_all : (cs : List Kid) → list_all (λ (b : Beyond). b.acked) (map kid_beyond (filter (λ c. not (is_branch c.branch None)) cs)) ≡ true → AllByRecursion (λ c. c.acked ≡ true → Q c.branch s.me) cs → AllByRecursion (λ c. Q c s.me) (map (λ (c : Kid). c.branch) cs)
         kids_all [] all held = tt
@@ -217,15 +217,15 @@ module _ (Q : BranchId → BranchId → Type 0) where
             let some : s.toward ≡ Some from = branch_found from s.toward toward in
             absurd (let none = so.0 in cc (none, some))
 
-      pub forgets_on : {k : NodeState} {d : Deed} → Step p input k d → Heard k → RowsSo k → RowsDecided k → IfSome d.wrote ForgetsSo
+      pub forgets_on : {k : NodeState} {d : TurnDraft} → Step p input k d → Heard k → RowsSo k → RowsDecided k → IfSome d.wrote ForgetsSo
       forgets_on (steps.Begins n s call rows fit none step) heard all decided = forgets_on step heard all decided
       forgets_on (steps.Pends n l comment call has live code step) heard all decided = forgets_on step heard all decided
       forgets_on (steps.Lets_reads_go l comment site_below live begins step) heard all decided = forgets_on step heard all decided
       forgets_on (steps.Counts_ack {k = k} s from kept came counts step) heard all decided =
           forgets_on step (heard_on k s from kept came heard) (counted k s from kept came heard all)
-          (all_with RowDecided standing_id k.stored.durable.kept (acked_by s from) decided (acked_decided s from (all_found RowDecided standing_id k.stored.durable.kept s.me s decided kept)))
+          (all_with RowDecided kept_row_id k.stored.durable.kept (acked_by s from) decided (acked_decided s from (all_found RowDecided kept_row_id k.stored.durable.kept s.me s decided kept)))
         where
-          acked_decided : (s : Standing) (from : BranchId) → RowDecided s → RowDecided (acked_by s from)
+          acked_decided : (s : KeptRow) (from : BranchId) → RowDecided s → RowDecided (acked_by s from)
           acked_decided s from so r is =
               let old = so r is in
               (old.0, old.1, map_after (λ (c : Kid). c.branch) (acks_kid from) (λ (c : Kid). c.branch) (λ c. cond_both (same c.branch from) (record c { acked = true }) c (λ (x : Kid). x.branch ≡ c.branch) (λ here. refl) (λ other. refl)) s.children ∙ old.2)
@@ -239,7 +239,7 @@ module _ (Q : BranchId → BranchId → Type 0) where
       forgets_on (steps.Acts l site_below acts.Finish why) heard all decided = tt
       forgets_on (steps.Acts l site_below acts.Abandon why) heard all decided = tt
       forgets_on (steps.Does {k = k} s from nexts.Forget kept why) heard all decided =
-          forgets s (all_found RowHasAcks standing_id k.stored.durable.kept s.me s all kept) (all_found RowDecided standing_id k.stored.durable.kept s.me s decided kept) why
+          forgets s (all_found RowHasAcks kept_row_id k.stored.durable.kept s.me s all kept) (all_found RowDecided kept_row_id k.stored.durable.kept s.me s decided kept) why
       forgets_on (steps.Does s from (nexts.End d) kept why) heard all decided = tt
       forgets_on (steps.Does s from (nexts.Meet d mixed) kept why) heard all decided = tt
       forgets_on (steps.Does s from nexts.Rest kept why) heard all decided = tt

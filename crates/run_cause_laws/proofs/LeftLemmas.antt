@@ -8,19 +8,19 @@ use Rattle.tran_ids.proofs.BranchLemmas.{same_from_equal}
 use Rattle.tran_ids.proofs.ListedLemmas.{item_is}
 use Rattle.agreement.specs.Events.{Exit, exit}
 use Rattle.session_tree.specs.Live.{is_branch}
-use Rattle.node_rules.specs.Data.{BranchId, Kind, Live, Input, Place}
+use Rattle.node_rules.specs.Data.{BranchId, Kind, Live, Input}
 use Rattle.node_rules.specs.Data.inputs
 use Rattle.node_rules.specs.Data.kinds
 use Rattle.node_rules.specs.Inputs.{Came}
 use Rattle.node_rules.specs.Words.{item_at}
-use Rattle.node_rules.specs.NodeState.{NodeState, Deed, live_id, live_at}
-use Rattle.node_rules.specs.Turn.{turn_of, heard, deed_of, stamped}
+use Rattle.node_rules.specs.NodeState.{NodeState, live_id, live_at}
+use Rattle.node_rules.specs.Turn.{turn_of, heard, stamped}
 use Rattle.run_rules.specs.Births.{Born, births_of}
 use Rattle.run_base_laws.specs.BirthLaws.{Began, LiveIs}
 use Rattle.run_rules.specs.Branches.{Seen, Trail, seen_id, seen_at, is_among}
 use Rattle.run_rules.specs.Data.{Turn, Happening}
 use Rattle.run_rules.specs.Data.happenings
-use Rattle.run_rules.specs.Facts.{Facts, first_facts, place_at, node_at, outcome_at, kept_after, facts_after}
+use Rattle.run_rules.specs.Facts.{Facts, first_facts, node_at, outcome_at, kept_after, facts_after}
 use Rattle.run_rules.specs.Lawful.{MayHappen, MayStop, IsOwed, History, IsLawfulRun}
 use Rattle.run_base_laws.specs.NodeLaws.{EachFactFrom}
 use Rattle.run_base_laws.specs.RunEvents.{lives_at, events_after, events_from}
@@ -34,10 +34,10 @@ use Rattle.run_base_laws.proofs.NodeLemmas.{kept_alone}
 use Rattle.run_base_laws.proofs.OwnLemmas.{all_found}
 use Rattle.run_base_laws.proofs.RootLemmas.{SessionsFit, sessions_keep}
 use Rattle.tree_laws.proofs.PrefixLemmas.{so_far, f_at, e_at, one_on, more_on}
-use Rattle.tree_site_laws.proofs.FateLemmas.{among_found}
+use Rattle.tree_laws.proofs.FateLemmas.{among_found}
 use Rattle.book_laws.specs.LeaveLaws.{LeavesOn, LeavesDuly}
 use Rattle.book_laws.proofs.LeaveLemmas.{branches_leave_duly}
-use Rattle.tree_site_laws.proofs.TimeLemmas.{Part, part_on, part_lawful, may_of, fact_at, born_end, keep_on}
+use Rattle.tree_laws.proofs.TimeLemmas.{Part, part_on, part_lawful, may_of, fact_at, born_end, keep_on}
 use Rattle.tree_trail_laws.specs.LowerLaws.{IsToldLive}
 use Rattle.tree_trail_laws.proofs.FullLemmas.{Sees, SeesAll}
 use Rattle.tree_trail_laws.proofs.MomentLemmas.{tr_at, trail_one_on, at_moment}
@@ -45,6 +45,8 @@ use Rattle.tree_trail_laws.proofs.SeenLemmas.{item_mapped, planned, brings, turn
 use Rattle.run_cause_laws.proofs.LeftExitLemmas.{whole_left, exit_or, stopped_me, stopped_left, stopped_there, none_among, kind_so, abort_so}
 use Rattle.run_cause_laws.proofs.LeftStepLemmas.{Why, By_record, By_quiet, By_abort, By_rollback, By_parent, By_ask, why_on}
 use Rattle.run_cause_laws.proofs.LeftRecordLemmas.{wrote_exit, exit_live}
+use Rattle.tree_laws.proofs.AtTurn.{at_turn}
+use Rattle.tree_trail_laws.proofs.AtTrail.{at_trail}
 
 -- What is told of a branch that has left: where it is no root, that it is live no more, or its node has to stop.
 pub record IsToldLeft (bs : List Born) (f : Facts) (tr : Trail) (b : BranchId) : Type 0 where
@@ -109,38 +111,11 @@ module _ (t : History) (whole : IsLawfulRun t) (sees : SeesAll t) where
   -- ---- a turn
 
   module _ (hs : List Happening) (u : Turn) (rest : List Happening) (is : hs ++ happenings.Turn u ∷ rest ≡ t.trace) (now : LeftAreTold hs) where
-    abbrev hs1 : List Happening
-    hs1 = hs ++ happenings.Turn u ∷ []
-
-    abbrev s0 : History
-    s0 = so_far t hs
+    open at_turn t whole hs u rest is use {after as hs1, s as s0, f as f0, g as f1, may, k, p, d}
+    open at_trail t hs u use {tr as tr0, tr_on as tr1}
 
     lawful0 : IsLawfulRun s0
     lawful0 = part_lawful t whole hs (part_here hs (happenings.Turn u) rest is)
-
-    abbrev f0 : Facts
-    f0 = f_at t hs
-
-    abbrev f1 : Facts
-    f1 = facts_after t.places t.commands f0 (happenings.Turn u)
-
-    abbrev tr0 : Trail
-    tr0 = tr_at t hs
-
-    abbrev tr1 : Trail
-    tr1 = trail_after t.places f0 tr0 (happenings.Turn u)
-
-    abbrev may : MayHappen t.places t.commands f0 (happenings.Turn u)
-    may = may_of t whole hs (happenings.Turn u) rest is
-
-    abbrev k : NodeState
-    k = may.0
-
-    abbrev p : Place
-    p = place_at t.places u.node
-
-    abbrev d : Deed
-    d = deed_of p k u.input
 
     abbrev new : Seen → Seen
     new s = with_turn f0.book u (outcome_at t.places f0 u) (brings t.places f0 tr0 u) s

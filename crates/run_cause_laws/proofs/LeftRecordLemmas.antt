@@ -11,7 +11,7 @@ use Rattle.run_base_laws.specs.RunEvents.{with_event, wrote_event}
 use Rattle.run_rules.specs.Trail.{recorded_exit}
 use Rattle.book_laws.specs.LeaveLaws.{LeavesOn}
 
-first_by : (o p : Option Exit) → o ≡ None → first o p ≡ p
+pub first_by : (o p : Option Exit) → o ≡ None → first o p ≡ p
 first_by None p is = refl
 first_by (Some a) p is = absurd cc
 

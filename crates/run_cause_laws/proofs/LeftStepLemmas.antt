@@ -1,30 +1,17 @@
 -- Why a live branch below a root is live no more after a step of its node.
-use Rattle.std.proofs.Common.{◌≡◌, ◌≢◌, ℕ, ◌+◌, Bool, true, false, if◌then◌else◌, is_none, List, [], ◌∷◌, ◌++◌, Option, Some, None, inl, inr, refl, sym, ap, subst, ◌∙◌}
-use Rattle.tran_ids.proofs.BranchLemmas.{equal_from_same, same_from_equal}
-use Rattle.tran_ids.proofs.ListedLemmas.{item_is, put_or_before, drop_leaves}
-use Rattle.agreement.specs.Events.{Exit, Sealed, Decided}
-use Rattle.commit_forget.specs.declared.next.Next.TheVariants as nexts
+use Rattle.std.proofs.Common.{◌≡◌, ◌≢◌, Bool, true, List, Option, Some, None}
+use Rattle.agreement.specs.Events.{Exit}
 use Rattle.reco.specs.declared.post.Post.{Post}
-use Rattle.session_tree.specs.Live.{is_branch, fresh_live}
-use Rattle.node_rules.specs.Data.{BranchId, RedoRecord, Live, Act, Place, Input}
-use Rattle.node_rules.specs.Data.acts
+use Rattle.session_tree.specs.Live.{is_branch}
+use Rattle.node_rules.specs.Data.{BranchId, RedoRecord, Live, Place, Input}
 use Rattle.node_rules.specs.Data.kinds
-use Rattle.node_rules.specs.Data.phases
 use Rattle.node_rules.specs.Data.votes
-use Rattle.node_rules.specs.declared.session.PendingCall.TheVariants as pending
-use Rattle.node_rules.specs.Words.{same, is_item_of, item_at, put_item, drop_item}
 use Rattle.node_rules.specs.Inputs.{Came}
-use Rattle.node_rules.specs.NodeState.{NodeState, Deed, live_id, live_at, post, to_one}
-use Rattle.node_rules.specs.Sessions.{session_at}
-use Rattle.node_rules.specs.Client.{new_root, fresh_root}
-use Rattle.node_rules.specs.Calls.{next_child, strength_of}
-use Rattle.node_rules.specs.Prepare.{act_turn}
-use Rattle.node_rules.proofs.Steps as steps
-use Rattle.node_rules.proofs.Steps.{Step, Acting, Answers, Collected, Drops}
-use Rattle.node_rules.proofs.StepLemmas.{acting_so}
+use Rattle.node_rules.specs.NodeState.{NodeState, TurnDraft, live_at, post}
+use Rattle.node_rules.proofs.Steps.{Step, Answers}
 use Rattle.run_rules.specs.Trail.{recorded_exit}
-use Rattle.run_base_laws.proofs.RootLemmas.{SessionsFit, root_alone, pends_so, begun_so}
-use Rattle.tree_trail_laws.proofs.PlanLemmas.{find_more}
+use Rattle.run_base_laws.proofs.RootLemmas.{SessionsFit, root_alone}
+use Rattle.tree_laws.proofs.TopStepLemmas as top
 
 module _ (input : Input) (b : BranchId) (z : Live) where
   -- Why it is live no more.
@@ -36,125 +23,18 @@ module _ (input : Input) (b : BranchId) (z : Live) where
     By_parent : (from : BranchId) → Came input from b kinds.RolledBack → is_branch from z.parent ≡ true → Why wrote says
     By_ask : (from : BranchId) → Came input from b kinds.Ask → is_branch from z.parent ≡ true → Why wrote says
 
-  root_by : (o : Option BranchId) → is_none o ≡ true → o ≡ None
-  root_by None is = refl
-  root_by (Some q) is = absurd cc
-
-  no_site : {l : Live} {sb : Bool} → Collected l sb acts.Finish → l.parent ≡ None
-  no_site {l = l} (steps.Has_no_site root is) = root_by l.parent root
-
-  never_abandons : {l : Live} {sb : Bool} → Collected l sb acts.Abandon → ⊥
-  never_abandons collected = elim collected [ ]
-
   module _ (p : Place) (below : z.parent ≢ None) where
-    module _ (k : NodeState) (live : live_at k b ≡ Some z) where
-      abbrev After : List Live → Type 0
-      After ls = item_at live_id ls b ≡ None
+    -- what makes a root alone leave does not
+    below_root : (k : NodeState) → SessionsFit k → live_at k b ≡ Some z → (wrote : Option RedoRecord) (says : List Post) → top.Why input b z k.sessions wrote says → Why wrote says
+    below_root k fit live wrote says (top.By_record e is) = By_record e is
+    below_root k fit live wrote says (top.By_quiet q above said) = By_quiet q said
+    below_root k fit live wrote says (top.By_finish root why) = absurd (below root)
+    below_root k fit live wrote says (top.By_abort from sb answers) = By_abort from sb answers
+    below_root k fit live wrote says (top.By_rollback from came) = By_rollback from came
+    below_root k fit live wrote says (top.By_parent from came above) = By_parent from came above
+    below_root k fit live wrote says (top.By_ask from came above) = By_ask from came above
+    below_root k fit live wrote says (top.By_call n call at root) = absurd (below root)
+    below_root k fit live wrote says (top.By_give_up n gives has calls) = absurd (below (root_alone k fit n b has z live))
 
-      -- the live branch of its id
-      mine : (l : Live) → live_at k l.me ≡ Some l → l.me ≡ b → l ≡ z
-      mine l found me = let both : Some l ≡ Some z = sym (subst (λ c. live_at k c ≡ Some l) me found) ∙ live in let it : l ≡ z = cc in it
-
-      there : After k.lives → ⊥
-      there none = absurd (cc (none, live))
-
-      put : (y : Live) → After (put_item live_id k.lives y) → ⊥
-      put y none = elim (put_or_before live_id k.lives y b) [ inl before ↦ there (sym before ∙ none) | inr new ↦ absurd (let found = new.1 in cc (none, found)) ]
-
-      more : (y : Live) → After (k.lives ++ y ∷ []) → ⊥
-      more y none = let found : item_at live_id (k.lives ++ y ∷ []) b ≡ Some z = find_more (is_item_of live_id b) k.lives (y ∷ []) z live in absurd (cc (none, found))
-
-      left : (c : BranchId) → After (drop_item live_id k.lives c) → c ≡ b
-      left c none = by (same c b) refl
-        where
-          by : (q : Bool) → same c b ≡ q → c ≡ b
-          by true here = equal_from_same c b here
-          by false other = absurd (there (sym (drop_leaves live_id k.lives c b other) ∙ none))
-
-      -- ---- who acts
-
-      acting_parent : {l : Live} {sb : Bool} {a : Act} → Acting k input l sb a → l.me ≡ b → l.parent ≡ z.parent
-      acting_parent why = acting_so (λ (l : Live). l.me ≡ b → l.parent ≡ z.parent) (λ l comment sb is. is) (λ l from v is. is) (λ c l found me. ap (λ (y : Live). y.parent) (mine l (subst (λ d. live_at k d ≡ Some l) (sym (item_is live_id k.lives c l found)) found) me)) why
-
-      -- a root alone ends without a site
-      no_finish : {l : Live} {sb : Bool} → Acting k input l sb acts.Finish → l.me ≡ b → ⊥
-      no_finish (steps.Has_no_children l comment sb _ found begins none collected) me = below (ap (λ (y : Live). y.parent) (sym (mine l found me)) ∙ no_site collected)
-      no_finish (steps.Hears_last l from v sb _ found answers other all collected) me = below (ap (λ (y : Live). y.parent) (sym (mine l found me)) ∙ no_site collected)
-      no_finish (steps.At_point l from _ found came ready pointed) me = elim pointed [ ]
-
-      abort_why : {l : Live} {sb : Bool} → Acting k input l sb acts.Abandon → l.me ≡ b → (from : BranchId) × (sb : Bool) × Answers input z from votes.Abort sb
-      abort_why (steps.Has_no_children l comment sb _ found begins none collected) me = absurd (never_abandons collected)
-      abort_why (steps.Hears_abort l from sb found answers) me = (from, sb, subst (λ (y : Live). Answers input y from votes.Abort sb) (mine l found me) answers)
-      abort_why (steps.Hears_last l from v sb _ found answers other all collected) me = absurd (never_abandons collected)
-      abort_why (steps.At_point l from _ found came ready pointed) me = elim pointed [ ]
-
-      one_said : (me : BranchId) (o : Option BranchId) → me ≡ b → o ≢ None → (q : BranchId) × (to_one me kinds.ReadOnly o ≡ post b q kinds.ReadOnly)
-      one_said me None is some = absurd (some refl)
-      one_said me (Some q) is some = (q, ap (λ c. post c q kinds.ReadOnly) is)
-
-      sealed_by : (me : BranchId) (e : Exit) → me ≡ b → (if same me b then Some e else None) ≡ Some e
-      sealed_by me e is = ap (λ q. if q then Some e else None) (same_from_equal me b is)
-
-      act_why : (l : Live) (sb : Bool) (a : Act) → Acting k input l sb a → live_at (act_turn k l sb a).after b ≡ None → Why (act_turn k l sb a).wrote (act_turn k l sb a).says
-      act_why l sb acts.Rest why none = absurd (put l none)
-      act_why l sb acts.AskDown why none = absurd (put l none)
-      act_why l sb acts.SayReady why none = absurd (put (record l { phase = phases.Ready }) none)
-      act_why l sb acts.SayReadOnly why none =
-          let me : l.me ≡ b = left l.me none in
-          let up : l.parent ≡ z.parent = acting_parent why me in
-          let so = one_said l.me l.parent me (λ is. below (sym up ∙ is)) in
-          By_quiet so.0 so.1
-      act_why l sb acts.Seal why none = By_record (Sealed k.clock) (sealed_by l.me (Sealed k.clock) (left l.me none))
-      act_why l sb (acts.SealAndPass i) why none = By_record (Sealed k.clock) (sealed_by l.me (Sealed k.clock) (left l.me none))
-      act_why l sb acts.Decide why none = By_record (Decided (k.clock + 1)) (sealed_by l.me (Decided (k.clock + 1)) (left l.me none))
-      act_why l sb acts.Finish why none = absurd (no_finish why (left l.me none))
-      act_why l sb acts.Abandon why none = (let so = abort_why why (left l.me none) in By_abort so.0 so.1 so.2)
-
-      told_why : (l : Live) (w : Option RedoRecord) (says : List Post) → live_at k l.me ≡ Some l → Drops input l → l.me ≡ b → Why w says
-      told_why l w says found (steps.By_rollback from came) me = By_rollback from (subst (λ c. Came input from c kinds.Rollback) me came)
-      told_why l w says found (steps.By_parent from came above) me = By_parent from (subst (λ c. Came input from c kinds.RolledBack) me came) (subst (λ (y : Live). is_branch from y.parent ≡ true) (mine l found me) above)
-
-      no_root : SessionsFit k → (n : ℕ) (c : BranchId) → c ≡ b → (session_at k.sessions n).root ≡ Some c → ⊥
-      no_root fit n c me has = below (root_alone k fit n b (subst (λ d. (session_at k.sessions n).root ≡ Some d) me has) z live)
-
-    -- ---- every step
-
-    pub why_on : {k : NodeState} {d : Deed} → Step p input k d → SessionsFit k → live_at k b ≡ Some z → live_at d.after b ≡ None → Why d.wrote d.says
-    why_on (steps.Begins {k = k} n s call rows range none step) fit live gone =
-        why_on step (begun_so k fit p n) (find_more (is_item_of live_id b) k.lives (fresh_root p k (new_root p k n) ∷ []) z live) gone
-    why_on (steps.Pends {k = k} n l given call has found code step) fit live gone = why_on step (pends_so k fit n pending.Commit) live gone
-    why_on (steps.Lets_reads_go l comment q found begins step) fit live gone = why_on step (record { roots = fit.roots; above = fit.above }) live gone
-    why_on (steps.Counts_ack s from kept came counts step) fit live gone = why_on step (record { roots = fit.roots; above = fit.above }) live gone
-    why_on (steps.Runs {k = k} x s given t ask way_is) fit live gone = absurd (put k live _ gone)
-    why_on (steps.Goes_nowhere {k = k} x s given r ask way_is) fit live gone = absurd (put k live _ gone)
-    why_on (steps.Calls {k = k} x s given i table ask way_is) fit live gone = absurd (put k live _ gone)
-    why_on (steps.Opens {k = k} x s given node link table ask way_is) fit live gone = absurd (put k live _ gone)
-    why_on (steps.Goes_on {k = k} x from strength g link opened) fit live gone = absurd (put k live _ gone)
-    why_on (steps.Hears_reply {k = k} x weight count a i e answered) fit live gone = absurd (put k live _ gone)
-    why_on (steps.Opens_branch {k = k} to parent edge root depth came new) fit live gone = absurd (more k live (fresh_live (next_child p k) root (Some parent) depth (strength_of p k)) gone)
-    why_on (steps.Acts {k = k} l q a why) fit live gone = act_why k live l q a why gone
-    why_on (steps.Drops_told {k = k} l found drops) fit live gone = told_why k live l None _ found drops (left k live l.me gone)
-    why_on (steps.Drops_asked {k = k} l from found came parent) fit live gone =
-        let me : l.me ≡ b = left k live l.me gone in
-        By_ask from (subst (λ c. Came input from c kinds.Ask) me came) (subst (λ (y : Live). is_branch from y.parent ≡ true) (mine k live l found me) parent)
-    why_on (steps.Rolls_back {k = k} n x call has found) fit live gone = absurd (no_root k live fit n x.live.me (left k live x.live.me gone) has)
-    why_on (steps.Gives_up {k = k} n x gives has calls found) fit live gone = absurd (put k live x.live gone)
-    why_on (steps.Gives_up_commit {k = k} n c (Some l) gives has calls found) fit live gone = absurd (no_root k live fit n c (sym (item_is live_id k.lives c l found) ∙ left k live l.me gone) has)
-    why_on (steps.Gives_up_commit {k = k} n c None gives has calls found) fit live gone = absurd (there k live gone)
-    why_on (steps.Does {k = k} s from nexts.Rest kept why) fit live gone = absurd (there k live gone)
-    why_on (steps.Does {k = k} s from nexts.AckToward kept why) fit live gone = absurd (there k live gone)
-    why_on (steps.Does {k = k} s from nexts.SayForgotten kept why) fit live gone = absurd (there k live gone)
-    why_on (steps.Does {k = k} s from nexts.SayAck kept why) fit live gone = absurd (there k live gone)
-    why_on (steps.Does {k = k} s from (nexts.End e) kept why) fit live gone = absurd (there k live gone)
-    why_on (steps.Does {k = k} s from (nexts.Meet e mixed) kept why) fit live gone = absurd (there k live gone)
-    why_on (steps.Does {k = k} s from nexts.Forget kept why) fit live gone = absurd (there k live gone)
-    why_on (steps.Rests {k = k}) fit live gone = absurd (there k live gone)
-    why_on (steps.Sends {k = k} says why) fit live gone = absurd (there k live gone)
-    why_on (steps.Refuses {k = k} n s r is) fit live gone = absurd (there k live gone)
-    why_on (steps.Completes_at_once {k = k} n s e call completes none) fit live gone = absurd (there k live gone)
-    why_on (steps.Makes_record {k = k} n s r e call makes) fit live gone = absurd (there k live gone)
-    why_on (steps.Forces_given {k = k} n id m c call named) fit live gone = absurd (there k live gone)
-    why_on (steps.Forces_commit {k = k} n id c call named) fit live gone = absurd (there k live gone)
-    why_on (steps.Forces_rollback {k = k} n id c call named) fit live gone = absurd (there k live gone)
-    why_on (steps.Hides {k = k} n mixed id s call found) fit live gone = absurd (there k live gone)
-    why_on (steps.Advises {k = k} n a call) fit live gone = absurd (there k live gone)
+    pub why_on : {k : NodeState} {d : TurnDraft} → Step p input k d → SessionsFit k → live_at k b ≡ Some z → live_at d.after b ≡ None → Why d.wrote d.says
+    why_on {k = k} {d = d} step fit live gone = below_root k fit live d.wrote d.says (top.why_on input b z p (λ from sb comment came. below) (λ none. absurd (below none)) step fit live gone)

@@ -5,7 +5,7 @@ use Rattle.std.specs.Option.{option_to_list}
 use Rattle.std.specs.List.{AllByRecursion}
 use Rattle.tran_ids.proofs.BranchLemmas.{equal_from_same, same_from_equal}
 use Rattle.tran_ids.proofs.NumberedLemmas.{set_or_before}
-use Rattle.agreement.specs.Events.{Event, Exit, Sealed, Decided, first, exit}
+use Rattle.agreement.specs.Events.{Event, Exit, Sealed, Decided, exit}
 use Rattle.node_rules.specs.Data.{BranchId, RedoRecord, Decided as DecidedRecord}
 use Rattle.node_rules.specs.Data.records
 use Rattle.node_rules.specs.Words.{same, numbered, set_numbered}
@@ -22,7 +22,8 @@ use Rattle.run_base_laws.proofs.LaterLemmas.{exit_later, turn_added}
 use Rattle.run_rules.proofs.ListLemmas.{all_weaker, all_append}
 use Rattle.run_base_laws.proofs.TurnEventLemmas.{all_both}
 use Rattle.tree_laws.proofs.PrefixLemmas.{f_at, e_at, one_on, more_on}
-use Rattle.tree_site_laws.proofs.TimeLemmas.{Part, each_at, exit_on, keep_on}
+use Rattle.tree_laws.proofs.TimeLemmas.{Part, each_at, exit_on, keep_on}
+use Rattle.run_cause_laws.proofs.LeftRecordLemmas.{first_by}
 
 -- the branch of a seal and of a decision has left
 abbrev pub HasLeft : List Event → RedoRecord → Type 0
@@ -106,10 +107,6 @@ module _ (e g : List Event) (grows : (b : BranchId) (x : Exit) → exit e b ≡ 
   )
 
 -- ---- every run
-
-first_by : (o p : Option Exit) → o ≡ None → first o p ≡ p
-first_by None p is = refl
-first_by (Some a) p is = absurd cc
 
 wrote_left : (n : ℕ) (e : List Event) (r : RedoRecord) → MayStand e r → HasLeft (with_event (wrote_event n (Some r)) e) r
 wrote_left n e (records.Sealed r) may = (Sealed r.scn, first_by (exit e r.me) (if same r.me r.me then Some (Sealed r.scn) else None) may.0 ∙ ap (λ q. if q then Some (Sealed r.scn) else None) (same_from_equal r.me r.me refl))

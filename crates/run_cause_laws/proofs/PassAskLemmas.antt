@@ -5,23 +5,21 @@ use Rattle.std.proofs.lemmas.Bool.{and_parts, eqb-true}
 use Rattle.std.proofs.lemmas.Bool.Decides.{nat_tests}
 use Rattle.tran_ids.proofs.BranchLemmas.{equal_from_same}
 use Rattle.tran_ids.proofs.ListedLemmas.{item_is}
-use Rattle.node_rules.specs.Data.{Advice, BranchId, Kind, Live, Post, Stmt, Input}
+use Rattle.node_rules.specs.Data.{Advice, BranchId, Kind, Live, Stmt, Input}
 use Rattle.node_rules.specs.Data.inputs
 use Rattle.node_rules.specs.Data.kinds
 use Rattle.node_rules.specs.declared.work.Going.{Going}
 use Rattle.node_rules.specs.Inputs.{Came, IsCall, IsSession}
 use Rattle.node_rules.specs.Words.{same, is_item_of}
-use Rattle.node_rules.specs.NodeState.{NodeState, live_id, live_at}
+use Rattle.node_rules.specs.NodeState.{live_id, live_at}
 use Rattle.node_rules.specs.LiveBranches.{works_of}
 use Rattle.node_rules.specs.Sessions.{session_at}
-use Rattle.run_rules.specs.Births.{Born, births_of}
 use Rattle.run_base_laws.specs.BirthLaws.{Began, LiveIs}
-use Rattle.run_rules.specs.Branches.{Seen, Trail, seen_id, seen_at, is_live, is_live_at, is_root_of, root_at}
+use Rattle.run_rules.specs.Branches.{Seen, seen_id, seen_at, is_live, is_live_at, is_root_of, root_at}
 use Rattle.run_rules.specs.Data.{Turn, Happening}
 use Rattle.run_rules.specs.Data.happenings
-use Rattle.run_rules.specs.Facts.{Facts}
-use Rattle.run_base_laws.specs.InTurnLaws.{said_in, newest_reply}
-use Rattle.run_rules.specs.Lawful.{MayHappen, Comes, History, IsLawfulRun}
+use Rattle.run_base_laws.specs.InTurnLaws.{newest_reply}
+use Rattle.run_rules.specs.Lawful.{Comes, History, IsLawfulRun}
 use Rattle.run_base_laws.specs.RunEvents.{events_of}
 use Rattle.run_rules.specs.Runs.{Asking, is_of_rows, asks_root, asks_branch, asks_by, asks}
 use Rattle.run_rules.specs.Trail.{asked_after}
@@ -35,45 +33,16 @@ use Rattle.run_base_laws.proofs.OwnLemmas.{all_found}
 use Rattle.run_base_laws.proofs.RestLemmas.{free_waits}
 use Rattle.run_base_laws.proofs.RestRunLemmas.{NodeRests, free_by, RootsStand, run_roots}
 use Rattle.run_base_laws.proofs.RootLemmas.{SessionsFit, sessions_keep}
-use Rattle.tree_laws.proofs.PrefixLemmas.{so_far, f_at}
-use Rattle.tree_site_laws.proofs.TimeLemmas.{Part, part_lawful, may_of}
 use Rattle.tree_trail_laws.proofs.CallLemmas.{call_free}
-use Rattle.tree_trail_laws.proofs.MomentLemmas.{tr_at}
 use Rattle.tree_trail_laws.proofs.OwnAskLemmas.{asking}
 use Rattle.tree_trail_laws.proofs.OwnCallLemmas.{last_of}
 use Rattle.tree_trail_laws.proofs.PlanLemmas.{find_more, find_passes}
-use Rattle.tree_trail_laws.proofs.SeenLemmas.{begun}
+use Rattle.tree_laws.proofs.AtTurn.{at_turn}
+use Rattle.tree_trail_laws.proofs.AtTrail.{at_trail}
 
 module _ (t : History) (whole : IsLawfulRun t) (hs : List Happening) (u : Turn) (rest : List Happening) (is : hs ++ happenings.Turn u ∷ rest ≡ t.trace) where
-  part0 : Part t whole hs
-  part0 = record { rest = happenings.Turn u ∷ rest; is = is }
-
-  abbrev s0 : History
-  s0 = so_far t hs
-
-  lawful0 : IsLawfulRun s0
-  lawful0 = part_lawful t whole hs part0
-
-  abbrev f0 : Facts
-  f0 = f_at t hs
-
-  abbrev tr0 : Trail
-  tr0 = tr_at t hs
-
-  abbrev trb : Trail
-  trb = begun t.places f0 tr0 u
-
-  abbrev may : MayHappen t.places t.commands f0 (happenings.Turn u)
-  may = may_of t whole hs (happenings.Turn u) rest is
-
-  abbrev k : NodeState
-  k = may.0
-
-  abbrev said : List Post
-  said = said_in f0
-
-  abbrev bs0 : List Born
-  bs0 = births_of s0
+  open at_turn t whole hs u rest is use {part as part0, s as s0, lawful as lawful0, f as f0, may, k, said, bs as bs0}
+  open at_trail t hs u use {tr as tr0, begun_tr as trb}
 
   stand : StandBorn t.places t.commands t.of_a_script.each f0 (events_of s0) bs0
   stand = run_births s0 lawful0

@@ -6,19 +6,18 @@ use Rattle.tran_ids.proofs.BranchLemmas.{same_from_equal}
 use Rattle.tran_ids.proofs.ListedLemmas.{item_is, put_found, put_or_before}
 use Rattle.redo_record.specs.Durable.{durable}
 use Rattle.session_tree.specs.Live.{edge_at, peer_of, new_edge}
-use Rattle.node_rules.specs.Data.{BranchId, Durable, Edge, Kind, Live, Place, Post, RedoRecord, Stmt}
+use Rattle.node_rules.specs.Data.{BranchId, Durable, Edge, Kind, Live, Post, RedoRecord, Stmt}
 use Rattle.node_rules.specs.Data.kinds
 use Rattle.node_rules.specs.declared.session.Session.{Session}
 use Rattle.node_rules.specs.declared.work.Waits.TheVariants as waiting
 use Rattle.node_rules.specs.declared.work.Going.{Going}
 use Rattle.node_rules.specs.declared.work.Work.{Work}
 use Rattle.node_rules.specs.Words.{numbered, item_at}
-use Rattle.node_rules.specs.NodeState.{NodeState, Stored, Branch, Deed, live_id, work_id, work_or, live_at}
+use Rattle.node_rules.specs.NodeState.{NodeState, Stored, Branch, TurnDraft, live_id, work_id, work_or, live_at}
 use Rattle.node_rules.specs.LiveBranches.{works_of}
 use Rattle.node_rules.specs.Calls.{called, exec_to, waits_for_opened, with_edge}
 use Rattle.node_rules.specs.Client.{new_root, fresh_root}
 use Rattle.node_rules.specs.Names.{Behind, named_by, ref_of, passed_on, target_of}
-use Rattle.node_rules.specs.Turn.{heard}
 use Rattle.node_rules.proofs.LiveLemmas.{branch_parts, work_is}
 use Rattle.node_rules.proofs.StandLemmas.{live_so}
 use Rattle.node_rules.proofs.Steps as steps
@@ -26,16 +25,15 @@ use Rattle.node_rules.proofs.Steps.{Asked, Is_opened}
 use Rattle.run_rules.specs.Branches.{Seen, Trail, seen_id, seen_at}
 use Rattle.run_rules.specs.Data.{Turn, Happening}
 use Rattle.run_rules.specs.Data.happenings
-use Rattle.run_rules.specs.Facts.{Facts, place_at, node_at, records_at}
-use Rattle.run_base_laws.specs.InTurnLaws.{said_in, GoesOn}
+use Rattle.run_rules.specs.Facts.{Facts, node_at, records_at}
+use Rattle.run_base_laws.specs.InTurnLaws.{GoesOn}
 use Rattle.run_claims.specs.Knowledge.{PassesOn, asked_of}
-use Rattle.run_rules.specs.Lawful.{MayHappen, History, IsLawfulRun}
-use Rattle.run_rules.specs.Trail.{asked_after, trail_after}
+use Rattle.run_rules.specs.Lawful.{History, IsLawfulRun}
+use Rattle.run_rules.specs.Trail.{asked_after}
 use Rattle.run_key_laws.proofs.ChangedLemmas.{found_last}
 use Rattle.run_base_laws.proofs.InTurnLemmas.{numbered_last}
 use Rattle.run_base_laws.proofs.StoredLemmas.{records_are_kept}
-use Rattle.tree_laws.proofs.PrefixLemmas.{so_far, f_at}
-use Rattle.tree_site_laws.proofs.TimeLemmas.{Part, part_lawful, may_of}
+use Rattle.tree_laws.proofs.PrefixLemmas.{f_at}
 use Rattle.tree_trail_laws.specs.OwnLaws.{TellsRoots}
 use Rattle.tree_trail_laws.proofs.MomentLemmas.{tr_at}
 use Rattle.tree_trail_laws.proofs.OwnAskLemmas.{asked_so}
@@ -43,7 +41,7 @@ use Rattle.tree_trail_laws.proofs.OwnKnowLemmas.{Knows, from_knows, from_stored}
 use Rattle.tree_trail_laws.proofs.OwnStepLemmas.{From, Itself, Begun}
 use Rattle.tree_trail_laws.proofs.OwnTurnLemmas as own
 use Rattle.tree_trail_laws.proofs.OwnTurnLemmas.{Owns}
-use Rattle.tree_trail_laws.proofs.SeenLemmas.{begun, seen_begun, seen_turned}
+use Rattle.tree_trail_laws.proofs.SeenLemmas.{seen_begun, seen_turned}
 use Rattle.answer_origin_laws.proofs.LineLemmas.{GoesOver, goes_over, goes_through, edge_link, WaitsSo, Line}
 use Rattle.answer_origin_laws.proofs.LineRunLemmas.{GivenBy, CalledAt, stand_at}
 use Rattle.answer_origin_laws.proofs.NameLemmas.{OneCatalog, catalog_kept, same_names}
@@ -53,6 +51,8 @@ use Rattle.answer_origin_laws.proofs.TurnTaleLemmas as tales
 use Rattle.run_cause_laws.specs.PassLaws.{MayExec}
 use Rattle.run_cause_laws.proofs.PassAskLemmas.{unasked}
 use Rattle.run_cause_laws.proofs.PassStepLemmas.{NoExec, Passing, Goes_over, Goes_through, Child_opened, Passes_none}
+use Rattle.tree_laws.proofs.AtTurn.{at_turn}
+use Rattle.tree_trail_laws.proofs.AtTrail.{at_trail}
 
 -- What is known of a branch that waits for a child: the statement that it was asked, and the link that its table is behind.
 pub record WaitsFor (D : Durable) (link : List ℕ) (o : Option Seen) (g : Going) : Type 0 where
@@ -72,41 +72,8 @@ waits_apart g i link reply opened = absurd (cc (reply, opened))
 
 module _ (t : History) (whole : IsLawfulRun t) (hs : List Happening) (u : Turn) (rest : List Happening) (is : hs ++ happenings.Turn u ∷ rest ≡ t.trace)
     (roots : TellsRoots t.places (f_at t hs) (tr_at t hs)) (owns : Owns (f_at t hs) (tr_at t hs)) (now : EachWaits (f_at t hs) (tr_at t hs)) where
-  part0 : Part t whole hs
-  part0 = record { rest = happenings.Turn u ∷ rest; is = is }
-
-  abbrev s0 : History
-  s0 = so_far t hs
-
-  lawful0 : IsLawfulRun s0
-  lawful0 = part_lawful t whole hs part0
-
-  abbrev f0 : Facts
-  f0 = f_at t hs
-
-  abbrev tr0 : Trail
-  tr0 = tr_at t hs
-
-  abbrev trb : Trail
-  trb = begun t.places f0 tr0 u
-
-  abbrev tr1 : Trail
-  tr1 = trail_after t.places f0 tr0 (happenings.Turn u)
-
-  abbrev may : MayHappen t.places t.commands f0 (happenings.Turn u)
-  may = may_of t whole hs (happenings.Turn u) rest is
-
-  abbrev k : NodeState
-  k = may.0
-
-  abbrev k1 : NodeState
-  k1 = heard k u.input
-
-  abbrev p : Place
-  p = place_at t.places u.node
-
-  abbrev said : List Post
-  said = said_in f0
+  open at_turn t whole hs u rest is use {part as part0, s as s0, lawful as lawful0, f as f0, may, k, heard_k as k1, p, said}
+  open at_trail t hs u use {tr as tr0, begun_tr as trb, tr_on as tr1}
 
   abbrev D0 : Durable
   D0 = durable (records_at f0 u.node)
@@ -208,12 +175,12 @@ module _ (t : History) (whole : IsLawfulRun t) (hs : List Happening) (u : Turn) 
         ap asked_of (seen_begun t.places f0 tr0 u x.live.me told.seen told.at)
         ∙ (ap (asked_after told.seen) it.1 ∙ ap (λ q. if q then Some s else told.seen.asked) (same_from_equal it.0.me told.seen.me (it.2 ∙ sym me)))
 
-    abbrev Told : Deed → Type 0
+    abbrev Told : TurnDraft → Type 0
     Told e = (l : Live) → live_at e.after l.me ≡ Some l → Knows k1 trb l.me
 
     -- ---- what waits after the turn
 
-    pub waits_after : {e : Deed} → Passing p u.input k1 e → Told e → (l : Live) → live_at e.after l.me ≡ Some l → (g : Going) (link : List ℕ) → (works_of e.after.works l.me).going ≡ Some g → g.waits ≡ waiting.ForOpened link → WaitsFor D0 link (seen_at tr1 l.me) g
+    pub waits_after : {e : TurnDraft} → Passing p u.input k1 e → Told e → (l : Live) → live_at e.after l.me ≡ Some l → (g : Going) (link : List ℕ) → (works_of e.after.works l.me).going ≡ Some g → g.waits ≡ waiting.ForOpened link → WaitsFor D0 link (seen_at tr1 l.me) g
     waits_after (Goes_over j from x s given i table asked way) told l live g link going waits =
         elim (put_or_before work_id j.works (called x i (passed_on s table) given).work l.me) [
           | inl before ↦ heard_waits l.me g link (ap (λ ws. (works_of ws l.me).going) (sym (from_works from)) ∙ (ap (λ o. (work_or l.me o).going) (sym before) ∙ going)) waits
@@ -289,7 +256,7 @@ module _ (t : History) (whole : IsLawfulRun t) (hs : List Happening) (u : Turn) 
           over_so k1.sessions y it.statement g.statement (g.room - 1) (length x.live.edges + 1) link it.table it.asked it.named it.passes (edge_at y.live (length x.live.edges + 1))
           (λ e at. (let both : Some (new_edge from link strength) ≡ Some e = sym last ∙ at in let one : new_edge from link strength ≡ e = cc in subst (λ (z : Edge). target_of p D0 link ≡ Some z.peer.node) one opened_leads))
 
-    pub says_so : {e : Deed} → Passing p u.input k1 e → Told e → SaidSo e.says
+    pub says_so : {e : TurnDraft} → Passing p u.input k1 e → Told e → SaidSo e.says
     says_so (Goes_over j from x s given i table asked way) told =
         let over : GoesOver p j.stored.durable x.live given s i table = goes_over p j.stored.durable x.live given s i table way in
         over_so j.sessions x s (passed_on s table) given i over.link table (asked_now from asked (told x.live (put_found live_id j.lives x.live)))

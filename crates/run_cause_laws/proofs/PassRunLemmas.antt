@@ -6,21 +6,21 @@ use Rattle.std.proofs.lemmas.Bool.{cases_eq}
 use Rattle.tran_ids.proofs.BranchLemmas.{equal_from_same}
 use Rattle.tran_ids.proofs.ListedLemmas.{item_is}
 use Rattle.tran_ids.proofs.NumberedLemmas.{set_or_before}
-use Rattle.node_rules.specs.Data.{BranchId, Durable, Input, Live, Msg, Place, RedoRecord}
+use Rattle.node_rules.specs.Data.{BranchId, Durable, Input, Live, Msg, RedoRecord}
 use Rattle.node_rules.specs.declared.work.Waits.TheVariants as waiting
 use Rattle.node_rules.specs.declared.work.Going.{Going}
 use Rattle.node_rules.specs.Words.{same, item_at}
 use Rattle.node_rules.specs.Names.{ref_of}
-use Rattle.node_rules.specs.NodeState.{NodeState, Deed, live_id, live_at}
+use Rattle.node_rules.specs.NodeState.{NodeState, live_id, live_at}
 use Rattle.node_rules.specs.LiveBranches.{works_of}
-use Rattle.node_rules.specs.Turn.{turn_of, start_of, heard, deed_of, stamped}
+use Rattle.node_rules.specs.Turn.{turn_of, start_of, heard, stamped}
 use Rattle.run_rules.specs.Branches.{Dropped, Seen, Trail, seen_id, seen_at, is_live_at}
 use Rattle.run_rules.specs.Data.{Turn, Happening}
 use Rattle.run_rules.specs.Data.happenings
 use Rattle.run_rules.specs.Each.{AtEach}
-use Rattle.run_rules.specs.Facts.{Facts, flat, place_at, node_at, records_at, with_boot, kept_after, facts_after, facts_of}
+use Rattle.run_rules.specs.Facts.{Facts, flat, node_at, records_at, with_boot, kept_after, facts_after, facts_of}
 use Rattle.run_claims.specs.Knowledge.{asked_of}
-use Rattle.run_rules.specs.Lawful.{MayHappen, IsOwed, History, IsLawfulRun}
+use Rattle.run_rules.specs.Lawful.{IsOwed, History, IsLawfulRun}
 use Rattle.run_rules.specs.Runs.{Asking, asks}
 use Rattle.run_rules.specs.Trail.{asked_after, stopped_by, trail_after}
 use Rattle.run_rules.proofs.AtNodeLemmas.{turn_elsewhere}
@@ -29,7 +29,7 @@ use Rattle.run_base_laws.proofs.LawfulLemmas.{of_sent, serves}
 use Rattle.run_rules.proofs.ListLemmas.{all_weaker, all_map}
 use Rattle.run_base_laws.proofs.OwnLemmas.{all_found}
 use Rattle.tree_laws.proofs.PrefixLemmas.{so_far, f_at, one_on}
-use Rattle.tree_site_laws.proofs.TimeLemmas.{Part, part_on, part_lawful, may_of, keep_on}
+use Rattle.tree_laws.proofs.TimeLemmas.{Part, part_on, part_lawful, keep_on}
 use Rattle.tree_trail_laws.specs.OwnLaws.{TellsRoots}
 use Rattle.tree_trail_laws.specs.SeenLaws.{TellsOwns, Sees}
 use Rattle.tree_trail_laws.proofs.ChildTurnLemmas as kids
@@ -48,12 +48,11 @@ use Rattle.answer_origin_laws.proofs.CatalogLemmas.{Extends, catalog, catalog_on
 use Rattle.run_cause_laws.specs.PassLaws.{MayExec, ExecsDuly, ExecsPassOn}
 use Rattle.run_cause_laws.proofs.PassLemmas.{WaitsFor, EachWaits, waits_after, says_so}
 use Rattle.run_cause_laws.proofs.PassStepLemmas.{Passing, passes_on}
+use Rattle.tree_laws.proofs.AtTurn.{at_turn}
+use Rattle.tree_trail_laws.proofs.AtTrail.{at_trail}
+use Rattle.tree_trail_laws.proofs.LowerLivesLemmas.{bool_cases}
 
 -- ---- what another turn asks, or a stop
-
-bool_cases : (q : Bool) → (P : Type 0) → (q ≡ true → P) → (q ≡ false → P) → P
-bool_cases true P at_true at_false = at_true refl
-bool_cases false P at_true at_false = at_false refl
 
 module _ (tr : Trail) (n : ℕ) where
   -- a branch of another node is asked nothing
@@ -108,38 +107,14 @@ module _ (t : History) (whole : IsLawfulRun t) where
   -- ---- a turn
 
   module _ (hs : List Happening) (u : Turn) (more : List Happening) (is : hs ++ happenings.Turn u ∷ more ≡ t.trace) (now : Known hs) where
-    abbrev hs1 : List Happening
-    hs1 = hs ++ happenings.Turn u ∷ []
-
-    abbrev f0 : Facts
-    f0 = f_at t hs
-
-    abbrev tr0 : Trail
-    tr0 = tr_at t hs
-
-    abbrev f1 : Facts
-    f1 = facts_after t.places t.commands f0 (happenings.Turn u)
-
-    abbrev tr1 : Trail
-    tr1 = trail_after t.places f0 tr0 (happenings.Turn u)
+    open at_turn t whole hs u more is use {after as hs1, f as f0, g as f1, may, k, p, d}
+    open at_trail t hs u use {tr as tr0, tr_on as tr1}
 
     part0 : Part t whole hs
     part0 = part_here t whole hs (happenings.Turn u) more is
 
     roots0 : TellsRoots t.places f0 tr0
     roots0 = roots_at t whole hs part0
-
-    abbrev may : MayHappen t.places t.commands f0 (happenings.Turn u)
-    may = may_of t whole hs (happenings.Turn u) more is
-
-    abbrev k : NodeState
-    k = may.0
-
-    abbrev p : Place
-    p = place_at t.places u.node
-
-    abbrev d : Deed
-    d = deed_of p k u.input
 
     passing : Passing p u.input (heard k u.input) d
     passing = passes_on p u.input (serves t.places f0 u k may.1).step

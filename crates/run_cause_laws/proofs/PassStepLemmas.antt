@@ -20,7 +20,7 @@ use Rattle.node_rules.specs.declared.work.Going.{Going}
 use Rattle.node_rules.specs.declared.work.Work.{Work}
 use Rattle.node_rules.specs.Words.{same, item_at, put_item, drop_item}
 use Rattle.node_rules.specs.Inputs.{IsCall}
-use Rattle.node_rules.specs.NodeState.{NodeState, Deed, Branch, work_id, work_or, to_one, to_each}
+use Rattle.node_rules.specs.NodeState.{NodeState, TurnDraft, Branch, work_id, work_or, to_one, to_each}
 use Rattle.node_rules.specs.LiveBranches.{works_of}
 use Rattle.node_rules.specs.Calls.{answer_says, calls_over, opens_through, with_edge, with_answer, hears_reply}
 use Rattle.node_rules.specs.Client.{begun_by}
@@ -89,14 +89,14 @@ says_none _ = (refl, tt)
 
 module _ (p : Place) (input : Input) where
   -- What a step does with statements that go on.
-  pub data Passing (k : NodeState) : Deed → Type 0 where
+  pub data Passing (k : NodeState) : TurnDraft → Type 0 where
     Goes_over : (j : NodeState) → From p input k j → (x : Branch) (s : Stmt) (given i : ℕ) (table : List ℕ) → Asked j input x s given → way_of p j.stored.durable x.live given s ≡ Over i table
         → Passing k (calls_over j x i (passed_on s table) given)
     Goes_through : (j : NodeState) → From p input k j → (x : Branch) (s : Stmt) (given node : ℕ) (link table : List ℕ) → Asked j input x s given → way_of p j.stored.durable x.live given s ≡ Through node link table
         → Passing k (opens_through j x node link (passed_on s table) given)
     Child_opened : (x : Branch) (from : BranchId) (strength : ℕ) (g : Going) (link : List ℕ) → Is_opened k input x from strength g link
         → Passing k (calls_over k (with_edge x (new_edge from link strength)) (length x.live.edges + 1) g.statement (g.room - 1))
-    Passes_none : (d : Deed) → AllSay NoExec d.says → WaitedSo k.works d.after.works → Passing k d
+    Passes_none : (d : TurnDraft) → AllSay NoExec d.says → WaitedSo k.works d.after.works → Passing k d
 
   -- whether an Opened came
   abbrev is_opened : Kind → Bool
@@ -118,13 +118,13 @@ module _ (p : Place) (input : Input) where
   asked_some (steps.By_exec x from call given advice s came found runs) none = let some : false ≡ true = subst BringsNone came.is none in absurd cc
 
   -- a change before a step in which neither a statement nor an Opened came
-  past : {k j : NodeState} {d : Deed} → BringsNone input → opens input ≡ false → j.works ≡ k.works → Passing j d → Passing k d
+  past : {k j : NodeState} {d : TurnDraft} → BringsNone input → opens input ≡ false → j.works ≡ k.works → Passing j d → Passing k d
   past none closed works (Goes_over i from x s given e table asked way) = absurd (asked_some asked none)
   past none closed works (Goes_through i from x s given node link table asked way) = absurd (asked_some asked none)
   past none closed works (Child_opened x from strength g link opened) = absurd (let came = opened_came opened in cc (came, closed))
   past none closed works (Passes_none d says waited) = Passes_none d says (λ b g link going waits. ap (λ ws. (works_of ws b).going) (sym works) ∙ waited b g link going waits)
 
-  begins_on : {k : NodeState} {d : Deed} (n : ℕ) (s : Stmt) → IsCall input n s → IsOfRows s → (session_at k.sessions n).root ≡ None → Passing (begun_by p k n None) d → Passing k d
+  begins_on : {k : NodeState} {d : TurnDraft} (n : ℕ) (s : Stmt) → IsCall input n s → IsOfRows s → (session_at k.sessions n).root ≡ None → Passing (begun_by p k n None) d → Passing k d
   begins_on n s call rows new (Goes_over j from x st given i table asked way) = Goes_over j (Begun n s call rows new from) x st given i table asked way
   begins_on n s call rows new (Goes_through j from x st given node link table asked way) = Goes_through j (Begun n s call rows new from) x st given node link table asked way
   begins_on n s call rows new (Child_opened x from strength g link opened) = absurd (let came = opened_came opened in let closed : opens input ≡ false = ap opens call in cc (came, closed))
@@ -137,13 +137,13 @@ module _ (p : Place) (input : Input) where
   same_waited : (ws : List Work) → WaitedSo ws ws
   same_waited ws b g link going waits = going
 
-  calm : (k : NodeState) (d : Deed) → AllSay NoExec d.says → d.after.works ≡ k.works → Passing k d
+  calm : (k : NodeState) (d : TurnDraft) → AllSay NoExec d.says → d.after.works ≡ k.works → Passing k d
   calm k d says works = Passes_none d says (λ b g link going waits. ap (λ ws. (works_of ws b).going) (sym works) ∙ going)
 
-  left : (k : NodeState) (d : Deed) (b : BranchId) → AllSay NoExec d.says → d.after.works ≡ drop_item work_id k.works b → Passing k d
+  left : (k : NodeState) (d : TurnDraft) (b : BranchId) → AllSay NoExec d.says → d.after.works ≡ drop_item work_id k.works b → Passing k d
   left k d b says works = Passes_none d says (λ c g link going waits. drop_waited k.works b c g link (ap (λ ws. (works_of ws c).going) (sym works) ∙ going) waits)
 
-  put : (k : NodeState) (d : Deed) (w : Work) → AllSay NoExec d.says → WaitsNot w.going → d.after.works ≡ put_item work_id k.works w → Passing k d
+  put : (k : NodeState) (d : TurnDraft) (w : Work) → AllSay NoExec d.says → WaitsNot w.going → d.after.works ≡ put_item work_id k.works w → Passing k d
   put k d w says not_so works = Passes_none d says (λ c g link going waits. put_waited k.works w not_so c g link (ap (λ ws. (works_of ws c).going) (sym works) ∙ going) waits)
 
   rolls : (l : Live) → AllSay NoExec (to_each l.me kinds.Rollback (children_of l))
@@ -160,7 +160,7 @@ module _ (p : Place) (input : Input) where
   acts_so k l q acts.Finish = left k _ l.me tt refl
   acts_so k l q acts.Abandon = left k _ l.me (all_append (λ x. NoExec x.kind) (to_one l.me kinds.Abort l.parent) _ (one_says NoExec l.me kinds.Abort l.parent refl) (rolls l)) refl
 
-  pub passes_on : {k : NodeState} {d : Deed} → Step p input k d → Passing k d
+  pub passes_on : {k : NodeState} {d : TurnDraft} → Step p input k d → Passing k d
   passes_on (steps.Begins n s call rows range new step) = begins_on n s call rows new (passes_on step)
   passes_on (steps.Pends {k = k} {d = d} n l given call has found code step) = past (called_none input n (stmts.Commit given) call refl) (ap opens call) refl (passes_on step)
   passes_on (steps.Lets_reads_go {k = k} {d = d} l comment q found begins step) = past (collects_none input begins) (collects_closed begins) refl (passes_on step)

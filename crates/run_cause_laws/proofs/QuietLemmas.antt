@@ -6,21 +6,21 @@ use Rattle.std.proofs.lemmas.Bool.{lt-ltb}
 use Rattle.tran_ids.proofs.ListedLemmas.{item_is}
 use Rattle.agreement.specs.Events.{Event, Exit, Quiet, Dropped, exit}
 use Rattle.session_tree.specs.Live.{children_of}
-use Rattle.node_rules.specs.Data.{BranchId, Change, Kind, Live, Msg, Stmt, Place}
+use Rattle.node_rules.specs.Data.{BranchId, Change, Kind, Live, Msg, Stmt}
 use Rattle.node_rules.specs.Data.inputs
 use Rattle.node_rules.specs.Data.kinds
 use Rattle.node_rules.specs.Words.{is_item_of, item_at}
-use Rattle.node_rules.specs.NodeState.{NodeState, Deed, live_id, live_at}
+use Rattle.node_rules.specs.NodeState.{live_id, live_at}
 use Rattle.node_rules.specs.Prepare.{own_changes}
-use Rattle.node_rules.specs.Turn.{turn_of, deed_of}
+use Rattle.node_rules.specs.Turn.{turn_of}
 use Rattle.run_rules.specs.Births.{Born, births_of, born_id}
 use Rattle.run_rules.specs.Branches.{Seen, Trail, seen_id, seen_at, is_live_at}
 use Rattle.run_key_laws.specs.ChangedLaws.{has_changes}
 use Rattle.run_rules.specs.Data.{Turn, Happening}
 use Rattle.run_rules.specs.Data.happenings
 use Rattle.run_base_laws.specs.EventLaws.{EachEventFrom}
-use Rattle.run_rules.specs.Facts.{Facts, first_facts, place_at, node_at, kept_after, facts_after}
-use Rattle.run_rules.specs.Lawful.{MayHappen, IsOwed, History, IsLawfulRun}
+use Rattle.run_rules.specs.Facts.{first_facts, node_at, kept_after}
+use Rattle.run_rules.specs.Lawful.{IsOwed, History, IsLawfulRun}
 use Rattle.run_base_laws.specs.RunEvents.{lives_at, events_after, events_of, events_from}
 use Rattle.run_rules.specs.Runs.{run_in}
 use Rattle.run_rules.specs.Trail.{runs_for, own_with, children_after, stopped_by, trail_after}
@@ -30,10 +30,10 @@ use Rattle.run_base_laws.proofs.EventsStandLemmas.{run_stands, nodes_are_as_even
 use Rattle.run_rules.proofs.ListLemmas.{all_weaker}
 use Rattle.run_base_laws.proofs.OwnLemmas.{all_found}
 use Rattle.tree_laws.specs.WeightLaws.{NodesWeigh}
-use Rattle.tree_laws.proofs.PrefixLemmas.{so_far, f_at, e_at, one_on, more_on}
+use Rattle.tree_laws.proofs.PrefixLemmas.{f_at, e_at, one_on, more_on}
 use Rattle.tree_laws.proofs.VoterRunLemmas.{voters_weigh}
-use Rattle.tree_site_laws.proofs.LeaveLemmas.{all_quiet}
-use Rattle.tree_site_laws.proofs.TimeLemmas.{Part, part_on, part_lawful, may_of, each_at, exit_on, keep_on}
+use Rattle.tree_laws.proofs.LeaveLemmas.{all_quiet}
+use Rattle.tree_laws.proofs.TimeLemmas.{Part, each_at, exit_on, keep_on}
 use Rattle.tree_trail_laws.proofs.CallLemmas.{call_free}
 use Rattle.tree_trail_laws.proofs.ChildRunLemmas.{tells_at}
 use Rattle.tree_trail_laws.proofs.ChildStepLemmas.{stamped_calls}
@@ -42,7 +42,7 @@ use Rattle.tree_trail_laws.proofs.FullLemmas.{Sees, SeesAll, full}
 use Rattle.tree_trail_laws.proofs.MomentLemmas.{tr_at, trail_one_on, at_moment, by_moment}
 use Rattle.tree_trail_laws.proofs.OwnKnowLemmas.{own_unrun}
 use Rattle.tree_trail_laws.proofs.PlanLemmas.{find_more}
-use Rattle.tree_trail_laws.proofs.SeenLemmas.{item_mapped, begun, brings, turned, seen_turned}
+use Rattle.tree_trail_laws.proofs.SeenLemmas.{item_mapped, brings, turned, seen_turned}
 use Rattle.tree_trail_laws.proofs.SeenRunLemmas.{all_is_seen}
 use Rattle.tree_trail_laws.proofs.TopSeqLemmas.{births_high}
 use Rattle.run_cause_laws.specs.QuietLaws.{MaySayReadOnly, SaysReadOnlyDuly, ReadOnlyIsDue}
@@ -50,8 +50,10 @@ use Rattle.run_cause_laws.proofs.LeftLemmas.{IsToldLeft, left_are_told}
 use Rattle.run_cause_laws.proofs.QuietAskLemmas.{run_none, own_of_left}
 use Rattle.run_cause_laws.proofs.QuietStepLemmas.{Quits, QuitsBy, sent_quits, quits_so}
 use Rattle.run_cause_laws.proofs.QuietTreeLemmas.{IsQuiet, all_numbered, no_changes}
+use Rattle.tree_laws.proofs.AtTurn.{at_turn}
+use Rattle.tree_trail_laws.proofs.AtTrail.{at_trail}
 
-exit_or : (o : Option Exit) → (o ≡ None) ⊎ ((y : Exit) × (o ≡ Some y))
+pub exit_or : (o : Option Exit) → (o ≡ None) ⊎ ((y : Exit) × (o ≡ Some y))
 exit_or None = inl refl
 exit_or (Some y) = inr (y, refl)
 
@@ -89,56 +91,11 @@ module _ (t : History) (whole : IsLawfulRun t) where
   -- ---- a turn
 
   module _ (hs : List Happening) (u : Turn) (rest : List Happening) (is : hs ++ happenings.Turn u ∷ rest ≡ t.trace) where
-    abbrev hs1 : List Happening
-    hs1 = hs ++ happenings.Turn u ∷ []
-
-    part0 : Part t whole hs
-    part0 = record { rest = happenings.Turn u ∷ rest; is = is }
-
-    abbrev s0 : History
-    s0 = so_far t hs
-
-    abbrev s1 : History
-    s1 = so_far t hs1
-
-    lawful0 : IsLawfulRun s0
-    lawful0 = part_lawful t whole hs part0
-
-    lawful1 : IsLawfulRun s1
-    lawful1 = part_lawful t whole hs1 (part_on t whole hs (happenings.Turn u) rest is)
-
-    abbrev f0 : Facts
-    f0 = f_at t hs
-
-    abbrev f1 : Facts
-    f1 = facts_after t.places t.commands f0 (happenings.Turn u)
-
-    abbrev e0 : List Event
-    e0 = e_at t hs
+    open at_turn t whole hs u rest is use {after as hs1, part as part0, s as s0, s_after as s1, lawful as lawful0, lawful_after as lawful1, f as f0, g as f1, e as e0, may, k, p, d}
+    open at_trail t hs u use {tr as tr0, tr_on as tr1, begun_tr as trb}
 
     abbrev e1 : List Event
     e1 = events_after t.places t.commands f0 (happenings.Turn u) e0
-
-    abbrev tr0 : Trail
-    tr0 = tr_at t hs
-
-    abbrev tr1 : Trail
-    tr1 = trail_after t.places f0 tr0 (happenings.Turn u)
-
-    abbrev may : MayHappen t.places t.commands f0 (happenings.Turn u)
-    may = may_of t whole hs (happenings.Turn u) rest is
-
-    abbrev k : NodeState
-    k = may.0
-
-    abbrev p : Place
-    p = place_at t.places u.node
-
-    abbrev d : Deed
-    d = deed_of p k u.input
-
-    abbrev trb : Trail
-    trb = begun t.places f0 tr0 u
 
     saw : Sees f0 tr0
     saw = at_moment t (λ places f tr h. Sees f tr) sees hs (happenings.Turn u) rest is

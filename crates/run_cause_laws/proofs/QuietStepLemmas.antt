@@ -1,20 +1,20 @@
 -- A branch that says ReadOnly was live and has no changes, its children are gone without changes, and its turn brings no statement.
-use Rattle.std.proofs.Common.{◌≡◌, ◌≢◌, ℕ, zero, suc, ◌||◌, Bool, true, false, List, [], ◌∷◌, map, is_none, Some, None, inl, inr, refl, sym, ap, subst, ◌∙◌}
+use Rattle.std.proofs.Common.{◌≡◌, ◌≢◌, ℕ, ◌||◌, Bool, true, false, List, [], ◌∷◌, is_none, Some, None, inl, inr, refl, sym, ap, subst, ◌∙◌}
 use Rattle.std.specs.List.{AllByRecursion, list_any}
 use Rattle.std.proofs.lemmas.Bool.{and_parts}
 use Rattle.tran_ids.proofs.BranchLemmas.{equal_from_same}
 use Rattle.session_tree.specs.Live.{children_of}
 use Rattle.session_tree.specs.Tree.{weight, weight_by, best_child, step}
-use Rattle.agreement.specs.Events.{Event, Quiet, exit}
-use Rattle.node_rules.specs.Data.{BranchId, Edge, Kind, Live, Msg, Vote, Input, Post}
+use Rattle.agreement.specs.Events.{Quiet, exit}
+use Rattle.node_rules.specs.Data.{BranchId, Kind, Live, Msg, Vote, Input, Post}
 use Rattle.node_rules.specs.Data.acts
 use Rattle.node_rules.specs.Data.kinds
 use Rattle.node_rules.specs.Data.phases
 use Rattle.node_rules.specs.Data.votes
 use Rattle.node_rules.specs.Words.{same, numbered}
-use Rattle.node_rules.specs.NodeState.{NodeState, Deed, live_at}
+use Rattle.node_rules.specs.NodeState.{NodeState, TurnDraft, live_at}
 use Rattle.node_rules.specs.Prepare.{collecting, with_comment, voted}
-use Rattle.node_rules.specs.Turn.{turn_of, heard, deed_of, stamped}
+use Rattle.node_rules.specs.Turn.{turn_of, heard, draft_of, stamped}
 use Rattle.node_rules.proofs.Steps as steps
 use Rattle.node_rules.proofs.Steps.{Acting, Answers, Collected, Collects, vote_kind}
 use Rattle.run_rules.specs.Branches.{Trail}
@@ -35,7 +35,9 @@ use Rattle.tree_laws.proofs.AskRunLemmas.{edges_asked, paths_are_told}
 use Rattle.tree_laws.proofs.PrefixLemmas.{so_far, f_at, e_at}
 use Rattle.tree_laws.proofs.SettleLemmas.{live_in, kid_quiet}
 use Rattle.tree_laws.proofs.WhyLemmas.{Near, SaidWhy, why_on}
-use Rattle.tree_site_laws.proofs.LeaveLemmas.{messages_exit, all_quiet, wrote_quiet}
+use Rattle.tree_laws.proofs.LeaveLemmas.{messages_exit, all_quiet, wrote_quiet}
+use Rattle.tree_laws.proofs.AtPart.{at_part}
+use Rattle.tree_laws.proofs.LeaveLemmas.{none_at}
 
 none_off : {l : Live} {b : Bool} → Collected l b acts.SayReadOnly → b ≡ false
 none_off (steps.Has_nothing is) = refl
@@ -51,13 +53,6 @@ unchanged_by l none = by l.changed none
     by : (q : Bool) → is_none (weight_by q l.strength (best_child l)) ≡ true → q ≡ false
     by true none = absurd cc
     by false none = refl
-
-none_at : (i : ℕ) (c : BranchId) (l : Live) → l.edges ≡ [] → numbered (children_of l) i ≡ Some c → ⊥
-none_at i c l none at = nowhere i (subst (λ (ys : List Edge). numbered (map (λ (e : Edge). e.peer) ys) i ≡ Some c) none at)
-  where
-    nowhere : (j : ℕ) → numbered [] j ≡ Some c → ⊥
-    nowhere zero it = absurd cc
-    nowhere (suc j) it = absurd cc
 
 -- ---- no statement came
 
@@ -79,11 +74,7 @@ module _ (tr : Trail) (n : ℕ) where
 -- ---- a turn
 
 module _ (t : History) (before : List Happening) (lawful : IsLawfulRun (so_far t before)) (u : Turn) (k : NodeState) (may : MayTurn t.places (f_at t before) u k) (weigh : NodesWeigh (f_at t before) (e_at t before) (happenings.Turn u)) where
-  abbrev f : Facts
-  f = f_at t before
-
-  abbrev e : List Event
-  e = e_at t before
+  open at_part t before use {f, e}
 
   abbrev g : Facts
   g = facts_after t.places t.commands f (happenings.Turn u)
@@ -91,8 +82,8 @@ module _ (t : History) (before : List Happening) (lawful : IsLawfulRun (so_far t
   abbrev k0 : NodeState
   k0 = heard k u.input
 
-  abbrev d : Deed
-  d = deed_of (place_at t.places u.node) k u.input
+  abbrev d : TurnDraft
+  d = draft_of (place_at t.places u.node) k u.input
 
   -- A branch was live as the turn began, without changes, and each of its children is gone without changes.
   pub record Quits (b : BranchId) : Type 0 where

@@ -3,7 +3,7 @@
 -- Transactions Concepts": two-phase commit.)
 use Rattle.std.specs.Prelude.{◌≡◌, ℕ, ◌+◌, ◌⊎◌, ◌||◌, Bool, true, false, if◌then◌else◌, List, [], ◌∷◌, ◌++◌, map, filter, option_to_list, IfSome, Option, Some, None}
 use Rattle.std.specs.List.{AllByRecursion, list_all}
-use Rattle.node_rules.specs.Data.{BranchId, Decision, RedoRecord, Sealed, Decided, Standing, Stmt, Kind, Msg, Input, Place}
+use Rattle.node_rules.specs.Data.{BranchId, Decision, RedoRecord, Sealed, Decided, KeptRow, Stmt, Kind, Msg, Input, Place}
 use Rattle.node_rules.specs.Data.decisions
 use Rattle.node_rules.specs.Data.records
 use Rattle.node_rules.specs.Data.params
@@ -13,7 +13,7 @@ use Rattle.node_rules.specs.Data.inputs
 use Rattle.node_rules.specs.Words.{same, same_text, item_at}
 use Rattle.node_rules.specs.Ids.{local_text, global_text}
 use Rattle.node_rules.specs.Names.{Behind, named_by, ref_of, passed_on, target_of}
-use Rattle.node_rules.specs.NodeState.{NodeState, standing_id}
+use Rattle.node_rules.specs.NodeState.{NodeState, kept_row_id}
 use Rattle.node_rules.specs.Force.{is_sealed}
 use Rattle.run_rules.specs.Book.{in_doubt}
 use Rattle.node_rules.specs.Inputs.{Came, IsCall, Brings}
@@ -111,7 +111,7 @@ abbrev pub IsForce : Place → Facts → NodeState → BranchId → Decision →
 IsForce p f k b d given input = (id : List ℕ) × (named_in_doubt p.names f p.number id ≡ b ∷ []) × ForcesSo k.clock id d given input
 
 -- a purge of the row with this local id
-abbrev pub IsPurge : Option Standing → BranchId → Input → Type 0
+abbrev pub IsPurge : Option KeptRow → BranchId → Input → Type 0
 IsPurge None b input = ⊥
 IsPurge (Some row) b input = (row.hidden ≡ false)
     × ((IsCallOf (stmts.PurgeMixed (local_text b)) input × (row.mixed ≡ true)) ⊎ (IsCallOf (stmts.PurgeLost (local_text b)) input × (is_sealed row.state ≡ false)))
@@ -132,7 +132,7 @@ MayWrite p f tr after k n input (records.Ended b d) = HeardFromToward f b d inpu
 MayWrite p f tr after k n input (records.Forced b d given) = IsForce p f k b d given input
 MayWrite p f tr after k n input (records.Met b d mixed) = HeardFromToward f b d input
 MayWrite p f tr after k n input (records.Forgot b) = MayForget f after b input (decided_in (records_at f b.node) b)
-MayWrite p f tr after k n input (records.Hidden b) = IsPurge (item_at standing_id (durable (records_at f n)).kept b) b input
+MayWrite p f tr after k n input (records.Hidden b) = IsPurge (item_at kept_row_id (durable (records_at f n)).kept b) b input
 
 -- neither a branch nor one below it has changes
 abbrev pub HasNoChanges : Trail → BranchId → Type 0

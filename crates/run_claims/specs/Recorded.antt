@@ -3,7 +3,7 @@
 -- "Managing Distributed Transactions": manually overriding in-doubt transactions, purging pending rows, DBMS_TRANSACTION,
 -- disabling and enabling RECO.)
 use Rattle.std.specs.Prelude.{◌≡◌, ℕ, ◌+◌, ◌⊎◌, Bool, true, false, List, [], ◌∷◌, find, Some, None, Ok}
-use Rattle.node_rules.specs.Data.{Table, Link, Synonym, Stmt, Done, BranchId, RedoRecord, Standing, Place}
+use Rattle.node_rules.specs.Data.{Table, Link, Synonym, Stmt, Done, BranchId, RedoRecord, KeptRow, Place}
 use Rattle.node_rules.specs.Data.decisions
 use Rattle.node_rules.specs.Data.dones
 use Rattle.node_rules.specs.Data.params
@@ -46,8 +46,8 @@ pub data Records (p : Place) (k : NodeState) : Stmt → RedoRecord → Done → 
       → Records p k (stmts.CommitForce id None) (records.Forced b (decisions.Commit (k.clock + 1)) false) dones.Committed
   A_rollback : (id : List ℕ) (b : BranchId) → branch_to_force p.names k.stored.durable.kept id ≡ Ok b
       → Records p k (stmts.RollbackForce id) (records.Forced b decisions.Rollback false) dones.RolledBack
-  A_mixed_row : (id : List ℕ) (s : Standing) → find (may_purge true id) k.stored.durable.kept ≡ Some s → Records p k (stmts.PurgeMixed id) (records.Hidden s.me) dones.Purged
-  A_lost_row : (id : List ℕ) (s : Standing) → find (may_purge false id) k.stored.durable.kept ≡ Some s → Records p k (stmts.PurgeLost id) (records.Hidden s.me) dones.Purged
+  A_mixed_row : (id : List ℕ) (s : KeptRow) → find (may_purge true id) k.stored.durable.kept ≡ Some s → Records p k (stmts.PurgeMixed id) (records.Hidden s.me) dones.Purged
+  A_lost_row : (id : List ℕ) (s : KeptRow) → find (may_purge false id) k.stored.durable.kept ≡ Some s → Records p k (stmts.PurgeLost id) (records.Hidden s.me) dones.Purged
 
 -- one of these is this record
 abbrev pub IsOneOf : List RedoRecord → RedoRecord → Type 0

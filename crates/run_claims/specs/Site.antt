@@ -9,19 +9,19 @@ use Rattle.run_rules.specs.Data.{Happening}
 use Rattle.run_rules.specs.Data.happenings
 use Rattle.run_rules.specs.Facts.{Facts}
 use Rattle.redo_record.specs.Rows.{toward_of}
-use Rattle.run_rules.specs.Branches.{Sealed, Trail, Plan, Planned, exit_at, own_at, plan_at}
+use Rattle.run_rules.specs.Branches.{Sealed, Trail, CommitPlan, PlannedBranch, exit_at, own_at, plan_at}
 use Rattle.run_rules.specs.Trail.{trail_after}
 use Rattle.run_rules.specs.Each.{AtEach}
 use Rattle.run_rules.specs.Lawful.{History}
 
 -- The COMMIT of the transaction was accepted, and the branch that decides is its site.
 pub record IsSite (tr : Trail) (r : Decided) : Type 0 where
-  pub plan : Plan
+  pub plan : CommitPlan
   pub planned : plan_at tr r.root ≡ Some plan
   pub here : plan.site ≡ Some r.me
 
 -- a branch of the tree other than the site that has changes on it or below it is sealed
-abbrev pub IsCovered : Trail → BranchId → Planned → Type 0
+abbrev pub IsCovered : Trail → BranchId → PlannedBranch → Type 0
 IsCovered tr site x = x.me ≢ site → x.weight ≢ None → (scn : ℕ) × (exit_at tr x.me ≡ Some (Sealed scn))
 
 -- every branch of the tree of a decision is covered
@@ -45,15 +45,15 @@ HasOwn tr (records.Decided r) = r.changes ≡ own_at tr r.me
 HasOwn tr _ = Unit {0}
 
 -- A branch of a plan's tree.
-pub record IsPlanned (tr : Trail) (root : BranchId) (x : Planned) : Type 0 where
-  pub plan : Plan
+pub record IsPlanned (tr : Trail) (root : BranchId) (x : PlannedBranch) : Type 0 where
+  pub plan : CommitPlan
   pub planned : plan_at tr root ≡ Some plan
   pub place : ℕ
   pub listed : slice_get plan.tree place ≡ Some x
 
 -- a seal is of a branch of the tree, and names its parent and its neighbour on the way to the site
 abbrev pub NamesToward : Trail → RedoRecord → Type 0
-NamesToward tr (records.Sealed r) = (x : Planned) × IsPlanned tr r.root x × (x.me ≡ r.me) × (r.parent ≡ x.parent) × (toward_of r r.toward ≡ x.toward)
+NamesToward tr (records.Sealed r) = (x : PlannedBranch) × IsPlanned tr r.root x × (x.me ≡ r.me) × (r.parent ≡ x.parent) × (toward_of r r.toward ≡ x.toward)
 NamesToward tr _ = Unit {0}
 
 -- each record of a turn is so, once the turn stands

@@ -10,7 +10,7 @@ use Rattle.node_rules.specs.Data.stmts
 use Rattle.node_rules.specs.Inputs.{IsCall}
 use Rattle.node_rules.specs.NodeState.{NodeState, live_at}
 use Rattle.node_rules.specs.Sessions.{session_at, commit_complete}
-use Rattle.node_rules.specs.Turn.{Stand, Is_gone, stand_of}
+use Rattle.node_rules.specs.Turn.{BranchStatus, Is_gone, status_of}
 use Rattle.node_rules.specs.Words.{same}
 use Rattle.net_bag.specs.Net.{first_flying}
 use Rattle.run_rules.specs.Births.{Born, born_id, births_from}
@@ -122,8 +122,8 @@ SealIsEnded book root (entries.Sealed b g cs scn) = same g root ≡ true → (n 
 SealIsEnded book root _ = Unit {0}
 
 -- what a branch is at its node, where that is up
-abbrev pub stand_at : Facts → BranchId → Option Stand
-stand_at f b = option_map (λ k. stand_of k b) (node_at f b.node)
+abbrev pub stand_at : Facts → BranchId → Option BranchStatus
+stand_at f b = option_map (λ k. status_of k b) (node_at f b.node)
 
 -- A COMMIT is complete: its call has one answer, Commit complete; each sealed branch of the transaction has ended with
 -- commit; and of none of its branches a node knows anything any more, so no view shows one.

@@ -108,3 +108,44 @@ fn the_longest_script_is_read_and_no_longer_one(rt: HostRuntime) {
     let longer = blanks_end(rt.alloc(), LONGEST + 1);
     assert!(rt; longer == Ok(Some((Status::TooLong, NOTHING))));
 }
+
+/// The summary of the run of the script of 1.
+const SUMMARY: &[u8] =
+    b"make 1\ncommands 1624\ncomplete 450\nin-doubt 50\ndecided 500\nsealed 500\nended 500\npending 0\nrows 1000\n";
+
+/// How the run of a made script ends over a source whose first read fails, and a sink whose call of this number does; nothing
+/// where it writes other bytes than are due.
+fn made_ends(
+    alloc: Global,
+    words: &[&str],
+    write: u32,
+    due: &[u8],
+) -> Result<Option<Status>, AllocError> {
+    let ended = ended(alloc, words, b"FROB;", (1, write), due)?;
+    Ok(ended.map(|(status, _counts)| status))
+}
+
+#[test]
+fn a_made_script_reads_no_source(rt: HostRuntime) {
+    let least = made_ends(rt.alloc(), &["--make", "1"], 0, SUMMARY);
+    assert!(rt; least == Ok(Some(Status::Done)));
+}
+
+#[test]
+fn a_made_script_whose_summary_cannot_be_written(rt: HostRuntime) {
+    let untold = made_ends(rt.alloc(), &["--make", "7"], 1, b"");
+    assert!(rt; untold == Ok(Some(Status::WriteFault)));
+}
+
+#[test]
+fn words_that_are_refused_read_no_source(rt: HostRuntime) {
+    let usage = b"usage: dtx [--book] [--make N]\n";
+    for words in [
+        ["--book", "--book"],
+        ["--make", "0"],
+        ["--make", "65536"],
+        ["--make", ""],
+    ] {
+        assert!(rt; made_ends(rt.alloc(), &words, 0, usage) == Ok(Some(Status::Usage)));
+    }
+}

@@ -14,13 +14,13 @@ use Rattle.node_rules.specs.Data.records
 use Rattle.node_rules.specs.Data.acts
 use Rattle.node_rules.specs.Data.inputs
 use Rattle.commit_forget.specs.declared.next.Next.TheVariants as nexts
-use Rattle.node_rules.specs.Turn.{heard, deed_of}
+use Rattle.node_rules.specs.Turn.{heard, draft_of}
 use Rattle.node_rules.proofs.Steps as steps
 use Rattle.node_rules.proofs.Steps.{Step, Makes, Makes_table, Makes_link, Makes_synonym, Sets_recovery}
 use Rattle.run_base_laws.specs.NodeLaws.{unacked}
 use Rattle.node_rules.specs.Words.{same, numbered, item_at}
 use Rattle.node_rules.specs.Rows.{rows_of_table}
-use Rattle.node_rules.specs.NodeState.{NodeState, Deed, Stored, doubt_id}
+use Rattle.node_rules.specs.NodeState.{NodeState, TurnDraft, Stored, doubt_id}
 use Rattle.node_rules.specs.Records.{applied, nothing_stored, stored_by}
 use Rattle.book.specs.Entries.{entry_of, entries_of}
 use Rattle.redo_record.specs.Durable.{durable_after}
@@ -168,7 +168,7 @@ record_made ts whole (Makes_synonym y free) = tt
 record_made ts whole (Sets_recovery on) = tt
 
 -- the record of a step changes tables of its node
-record_fits : (p : Place) (input : Input) {k : NodeState} {d : Deed} → Step p input k d → IfSome d.wrote MakesWhole → LiveChangesFit k.stored.durable.tables k.owns → IfSome d.wrote (RecordFits k.stored.durable.tables)
+record_fits : (p : Place) (input : Input) {k : NodeState} {d : TurnDraft} → Step p input k d → IfSome d.wrote MakesWhole → LiveChangesFit k.stored.durable.tables k.owns → IfSome d.wrote (RecordFits k.stored.durable.tables)
 record_fits p input (steps.Begins n s call rows fit none step) whole own = record_fits p input step whole own
 record_fits p input (steps.Pends n l given call has live code step) whole own = record_fits p input step whole own
 record_fits p input (steps.Lets_reads_go l comment site_below live begins step) whole own = record_fits p input step whole own
@@ -249,7 +249,7 @@ module _ (places : List Place) (asked : List Command) (each : (n : ℕ) (p : Pla
         let fits : Fits may.0 × Marked may.0 = fits_at places asked f u.node may.0 all.tables may.1.up in
         let stored : StoresOf (records_at f u.node) may.0 = (node_so places asked each f t all.stand u.node may.0 may.1.up).stored in
         of_wrote p may.0 u serving (λ w. IfSome w (RecordFits (stored_at f u.node).durable.tables)) tt
-        (subst (λ s. IfSome (deed_of p may.0 u.input).wrote (RecordFits s.durable.tables)) (heard_stores (records_at f u.node) may.0 u.input stored)
+        (subst (λ s. IfSome (draft_of p may.0 u.input).wrote (RecordFits s.durable.tables)) (heard_stores (records_at f u.node) may.0 u.input stored)
         (record_fits p u.input serving.step (step_whole p u.input (comes_spelled f may.0 u.node u.input u.took may.1.comes) serving.step) (heard_live may.0 u.input fits.0.1)))
 
     stands_now : (n : ℕ) → StoredStands (with_record u t) g.book n (stored_at g n)

@@ -12,11 +12,11 @@ use Rattle.node_rules.specs.Data.acts
 use Rattle.commit_forget.specs.declared.next.Next.TheVariants as nexts
 use Rattle.node_rules.specs.Words.{same, item_at, put_item, drop_item}
 use Rattle.node_rules.specs.Rows.{changes_of, set_over}
-use Rattle.node_rules.specs.NodeState.{NodeState, Deed, Stored, Branch, live_id, own_id, sets_of, sets_at, live_at}
+use Rattle.node_rules.specs.NodeState.{NodeState, TurnDraft, Stored, Branch, live_id, own_id, sets_of, sets_at, live_at}
 use Rattle.session_tree.specs.Live.{new_edge}
 use Rattle.node_rules.specs.Calls.{with_edge, hears_reply}
 use Rattle.node_rules.specs.Prepare.{ready}
-use Rattle.node_rules.specs.Statement.{Ran, Refuses, Reads, Writes, ran, after_run, owns_after, view}
+use Rattle.node_rules.specs.Statement.{StmtOutcome, Refuses, Reads, Writes, ran, after_run, owns_after, view}
 use Rattle.node_rules.proofs.Steps as steps
 use Rattle.node_rules.proofs.Steps.{Step, Asked, By_call, By_exec, Acting}
 use Rattle.node_rules.proofs.StandLemmas.{live_so}
@@ -147,7 +147,7 @@ module _ (ls : List Live) (os : List Owned) (now : ChangesFit ls os) where
             subst (λ o. x.changed ≡ has_changes (changes_of (sets_of o))) (sym (put_leaves own_id os _ x.me other)) (now.marked b x was)
 
   -- a run
-  run_fits : (l : Live) (rows : List Keyed) (r : Ran) → IsMarked os l → ChangesFit (put_item live_id ls (after_run l r)) (owns_after os l.me rows r)
+  run_fits : (l : Live) (rows : List Keyed) (r : StmtOutcome) → IsMarked os l → ChangesFit (put_item live_id ls (after_run l r)) (owns_after os l.me rows r)
   run_fits l rows (Refuses e) so = put_fits (after_run l (Refuses e)) (or_false l.changed ∙ so)
   run_fits l rows (Reads rs keys) so = put_fits (after_run l (Reads rs keys)) (or_false l.changed ∙ so)
   run_fits l rows (Writes d cs keys undo) so = write_fits l rows cs so
@@ -171,7 +171,7 @@ acting_marked k input now why = acting_so (IsMarked k.owns) (λ l comment site_b
 
 module _ (p : Place) (input : Input) where
   -- each step leaves them so
-  changes_on : {k : NodeState} {d : Deed} → Step p input k d → Fits k → Fits d.after
+  changes_on : {k : NodeState} {d : TurnDraft} → Step p input k d → Fits k → Fits d.after
   changes_on (steps.Begins {k = k} n s call rows fit none step) now = changes_on step (begun_fits k.lives k.owns now _ refl)
   changes_on (steps.Pends n l given call has live code step) now = changes_on step now
   changes_on (steps.Lets_reads_go l comment site_below live begins step) now = changes_on step now

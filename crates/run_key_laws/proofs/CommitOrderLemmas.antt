@@ -25,7 +25,7 @@ use Rattle.run_rules.proofs.ListLemmas.{all_weaker, all_append}
 use Rattle.run_base_laws.proofs.LaterLemmas.{Added, has_later, turn_added, stop_added, events_keep}
 use Rattle.run_rules.proofs.AtNodeLemmas.{turn_elsewhere, turn_here, start_elsewhere, start_here}
 use Rattle.run_base_laws.proofs.TurnEventLemmas.{cases_nat}
-use Rattle.run_base_laws.proofs.EventsStandLemmas.{Stand, stand_on, stand_first, first_disk}
+use Rattle.run_base_laws.proofs.EventsStandLemmas.{BranchStatus, stand_on, stand_first, first_disk}
 use Rattle.run_branch_laws.proofs.JustLemmas.{just_runs_are_lawful}
 use Rattle.run_branch_laws.proofs.TreeJustLemmas.{runs_by_trees_are_just}
 use Rattle.run_key_laws.proofs.OrderLemmas.{keys_come_in_order}
@@ -67,7 +67,7 @@ later_events n rs more all = all_weaker _ _ (λ x is. later_event (record_event 
 abbrev pub DisksAreEvents : Facts → List Event → Type 0
 DisksAreEvents f t = (n : ℕ) → AreEvents t n (records_at f n)
 
-module _ (places : List Place) (asked : List Command) (each : (n : ℕ) (p : Place) → numbered places n ≡ Some p → IsPlace places n p) (f : Facts) (t : List Event) (stand : Stand places asked each f t)
+module _ (places : List Place) (asked : List Command) (each : (n : ℕ) (p : Place) → numbered places n ≡ Some p → IsPlace places n p) (f : Facts) (t : List Event) (stand : BranchStatus places asked each f t)
     (now : DisksAreEvents f t) where
   turn_events : (u : Turn) → MayHappen places asked f (happenings.Turn u) → DisksAreEvents (facts_after places asked f (happenings.Turn u)) (events_after places asked f (happenings.Turn u) t)
   turn_events u may n = later_events n _ (turn_added f (facts_after places asked f (happenings.Turn u)) u t) (elim (cases_nat n u.node) [
@@ -94,7 +94,7 @@ module _ (places : List Place) (asked : List Command) (each : (n : ℕ) (p : Pla
 
 disks_are_events : (r : History) → IsLawfulRun r → DisksAreEvents (facts_at r) (events_of r)
 disks_are_events r lawful =
-    (events_keep r.places r.commands (λ f s. Stand r.places r.commands r.of_a_script.each f s × DisksAreEvents f s)
+    (events_keep r.places r.commands (λ f s. BranchStatus r.places r.commands r.of_a_script.each f s × DisksAreEvents f s)
     (λ f s h now may. (stand_on r.places r.commands r.of_a_script.each f s h now.0 may, events_on r.places r.commands r.of_a_script.each f s now.0 now.1 h may))
     (first_facts r.places) r.trace [] (stand_first r.places r.commands r.of_a_script.each, λ n. first_disk (AreEvents [] n) tt (tt, tt) r.places n) lawful).1
 

@@ -25,7 +25,7 @@ use Rattle.run_base_laws.proofs.RowEventLemmas.{only_none}
 use Rattle.run_base_laws.proofs.NodesStandLemmas.{LeavesAlone, wrote_elsewhere}
 use Rattle.run_rules.proofs.AtNodeLemmas.{turn_elsewhere, turn_here, start_elsewhere, start_here}
 use Rattle.run_base_laws.proofs.TurnEventLemmas.{cases_nat, record_may, record_own}
-use Rattle.run_base_laws.proofs.EventsStandLemmas.{Stand, node_so, owned_so}
+use Rattle.run_base_laws.proofs.EventsStandLemmas.{BranchStatus, node_so, owned_so}
 
 -- ---- a branch in doubt
 
@@ -136,7 +136,7 @@ module _ {bs cs : List BranchId} {t s : List Event} (more : Added (Later bs cs) 
   doubts_later : (n : ℕ) (ds : List Doubt) → DoubtsAre t n ds → DoubtsAre s n ds
   doubts_later n ds all = all_weaker (λ d. IsOpen t n d.branch) (λ d. IsOpen s n d.branch) (λ d is. open_later n d.branch is) ds all
 
-module _ (places : List Place) (asked : List Command) (each : (n : ℕ) (p : Place) → numbered places n ≡ Some p → IsPlace places n p) (f : Facts) (t : List Event) (stand : Stand places asked each f t)
+module _ (places : List Place) (asked : List Command) (each : (n : ℕ) (p : Place) → numbered places n ≡ Some p → IsPlace places n p) (f : Facts) (t : List Event) (stand : BranchStatus places asked each f t)
     (now : DoubtsStand f t) where
   turn_doubts : (u : Turn) → MayHappen places asked f (happenings.Turn u) → DoubtsStand (facts_after places asked f (happenings.Turn u)) (events_after places asked f (happenings.Turn u) t)
   turn_doubts u may n = doubts_later (turn_added f (facts_after places asked f (happenings.Turn u)) u t) n _ (recorded n)

@@ -12,12 +12,12 @@ use Rattle.node_rules.specs.Data.records
 use Rattle.node_rules.specs.Data.inputs
 use Rattle.commit_forget.specs.declared.next.Next.TheVariants as nexts
 use Rattle.node_rules.specs.Words.{same, numbered}
-use Rattle.node_rules.specs.NodeState.{NodeState, Deed, standing_id, live_at}
+use Rattle.node_rules.specs.NodeState.{NodeState, TurnDraft, kept_row_id, live_at}
 use Rattle.node_rules.specs.Commit.{acked_by}
 use Rattle.node_rules.specs.Inputs.{IsCall}
 use Rattle.node_rules.specs.Records.{nothing_stored, stored_by}
 use Rattle.node_rules.specs.Prepare.{own_changes}
-use Rattle.node_rules.specs.Turn.{turn_of, heard, deed_of}
+use Rattle.node_rules.specs.Turn.{turn_of, heard, draft_of}
 use Rattle.node_rules.proofs.Steps as steps
 use Rattle.node_rules.proofs.Steps.{Step, IsOfRows}
 use Rattle.run_rules.specs.Data.{Turn, Happening, Command}
@@ -54,7 +54,7 @@ changes_free locks b cs own (d ∷ ds) held others = (
 
 module _ (p : Place) (input : Input) where
   -- a statement of rows writes nothing, whatever it meets
-  rows_free : (n : ℕ) (s : Stmt) → IsCall input n s → IsOfRows s → (ds : List Doubt) → {k : NodeState} {d : Deed} → Step p input k d → IfSome d.wrote (ChangesFreeKeys ds)
+  rows_free : (n : ℕ) (s : Stmt) → IsCall input n s → IsOfRows s → (ds : List Doubt) → {k : NodeState} {d : TurnDraft} → Step p input k d → IfSome d.wrote (ChangesFreeKeys ds)
   rows_free n s is rows ds (steps.Begins m u call others fit none step) = rows_free n s is rows ds step
   rows_free n s is rows ds (steps.Pends m l given call has live code step) = absurd (not_other is rows (λ no. no) call)
   rows_free n s is rows ds (steps.Lets_reads_go l comment site_below live begins step) = absurd (not_collects is rows begins)
@@ -65,14 +65,14 @@ module _ (p : Place) (input : Input) where
   rows_free n s is rows ds (steps.Gives_up_commit m b None gives has pending gone) = tt
   rows_free n s is rows ds _ = tt
 
-  step_free : {k : NodeState} {d : Deed} → Step p input k d → Apart k → Keys k → IfSome d.wrote (ChangesFreeKeys k.stored.doubts)
+  step_free : {k : NodeState} {d : TurnDraft} → Step p input k d → Apart k → Keys k → IfSome d.wrote (ChangesFreeKeys k.stored.doubts)
   step_free (steps.Begins {k = k} n s call rows fit none step) apart now = rows_free n s call rows k.stored.doubts step
   step_free (steps.Pends n l given call has live code step) apart now = step_free step (record { rows = apart.rows; doubts = apart.doubts }) now
   step_free (steps.Lets_reads_go {k = k} l comment site_below live begins step) apart now =
       step_free step (record { rows = apart.rows; doubts = apart.doubts }) (reads_gone k.locks k.owns k.stored.doubts now l.me)
   step_free (steps.Counts_ack {k = k} s from kept came counts step) apart now =
       step_free step (record {
-        rows = all_with (λ x. live_at k x.me ≡ None) standing_id k.stored.durable.kept (acked_by s from) apart.rows (all_found (λ x. live_at k x.me ≡ None) standing_id k.stored.durable.kept s.me s apart.rows kept);
+        rows = all_with (λ x. live_at k x.me ≡ None) kept_row_id k.stored.durable.kept (acked_by s from) apart.rows (all_found (λ x. live_at k x.me ≡ None) kept_row_id k.stored.durable.kept s.me s apart.rows kept);
         doubts = apart.doubts;
       }) now
   step_free (steps.Acts {k = k} l site_below acts.Seal why) apart now = changes_free k.locks l.me (own_changes k l.me) (now.own l.me) k.stored.doubts now.doubts (not_doubted k l.me (acting_live why) apart)
@@ -95,8 +95,8 @@ FreeStand f = (n : ℕ) → AreFreeFrom (records_at f n)
 
 module _ (places : List Place) (asked : List Command) (each : (n : ℕ) (p : Place) → numbered places n ≡ Some p → IsPlace places n p) (f : Facts) (t : List Event) (all : AllStands places asked each f t) (now : FreeStand f) where
   module _ (n : ℕ) (k : NodeState) (up : node_at f n ≡ Some k) (u : Turn) (may : MayTurn places f u k) (here : u.node ≡ n) where
-    abbrev deed : Deed
-    deed = deed_of (place_at places n) k u.input
+    abbrev draft : TurnDraft
+    draft = draft_of (place_at places n) k u.input
 
     serving : Serves (place_at places n) k u
     serving = subst (λ m. Serves (place_at places m) k u) here (serves places f u k may)
@@ -107,16 +107,16 @@ module _ (places : List Place) (asked : List Command) (each : (n : ℕ) (p : Pla
     heard_doubts (inputs.GiveUp m) = doubts_same (records_at f n) k (stored_so places asked each f t all.stand all.doubts all.tables all.keys n k up)
     heard_doubts inputs.Reco = doubts_same (records_at f n) k (stored_so places asked each f t all.stand all.doubts all.tables all.keys n k up)
 
-    free_now : IfSome deed.wrote (ChangesFreeKeys (stored_by nothing_stored (records_at f n)).doubts)
+    free_now : IfSome draft.wrote (ChangesFreeKeys (stored_by nothing_stored (records_at f n)).doubts)
     free_now =
-        subst (λ ds. IfSome deed.wrote (ChangesFreeKeys ds)) (heard_doubts u.input)
+        subst (λ ds. IfSome draft.wrote (ChangesFreeKeys ds)) (heard_doubts u.input)
         (step_free (place_at places n) u.input serving.step
         (heard_apart places asked each f t all.stand all.doubts all.tables all.keys n k up u.input (apart_so places asked each f t all.stand all.doubts all.tables all.keys n k up))
         (heard_keys places asked each f t all.stand all.doubts all.tables all.keys n k up u.input (keys_so places asked each f t all.stand all.doubts all.tables all.keys n k up)))
 
     turned : AreFreeFrom (records_at f n ++ option_to_list (turn_of (place_at places n) k u.input).wrote)
     unfolding turn_of
-    turned = records_with (λ s r. ChangesFreeKeys s.doubts r) (records_at f n) deed.wrote (now n) free_now
+    turned = records_with (λ s r. ChangesFreeKeys s.doubts r) (records_at f n) draft.wrote (now n) free_now
 
     cut_off : AreFreeFrom (records_at f n ++ option_to_list u.wrote)
     cut_off =

@@ -12,7 +12,7 @@ use Rattle.sql_eval.proofs.RowLaws.{rows_are_keyed, changes_are_of_table}
 use Rattle.sql_eval.proofs.TableLaws.{tables_have_one_key}
 use Rattle.sql_check.specs.Checks.{checked}
 use Rattle.row_locks.specs.Locks.{Lock, is_lock_on, named, is_held_by, another, other_holder, without, without_reads}
-use Rattle.stmt_run.specs.Run.{Ground, take_keys, locks_after}
+use Rattle.stmt_run.specs.Run.{StmtContext, take_keys, locks_after}
 use Rattle.tran_ids.proofs.BranchLemmas.{equal_from_same, same_from_equal}
 use Rattle.tran_ids.proofs.ListedLemmas.{put_or_before, drop_gone, drop_leaves}
 use Rattle.node_rules.specs.Data.{Value, Change, RowSet, Table, Stmt, Done, BranchId, Keyed, Sealed, Owned, Doubt}
@@ -157,7 +157,7 @@ module _ (locks : List Lock) (owns : List Owned) (ds : List Doubt) (now : KeysHe
   read rows rs keys = record { apart = distinct_keys keys locks me t.name false now.apart; own = own_left false keys; doubts = doubts_left false keys }
 
   -- a run that writes
-  module _ (g : Ground) (s : Stmt) (rows : List Keyed) (d : Done) (n undo : ℕ) (cs : List Change) (lock : g.locks ≡ locks) (it : g.me ≡ me) (one : has_one_key t ≡ true) (are_rows : AreRowsOf t g.view)
+  module _ (g : StmtContext) (s : Stmt) (rows : List Keyed) (d : Done) (n undo : ℕ) (cs : List Change) (lock : g.locks ≡ locks) (it : g.me ≡ me) (one : has_one_key t ≡ true) (are_rows : AreRowsOf t g.view)
       (none : checked s t ≡ None) (nobody : Meets_nobody g s t) (meant : meant_over s t g.view ≡ meants.Changes d n cs) where
     abbrev keys : List Value
     keys = written s t g.view

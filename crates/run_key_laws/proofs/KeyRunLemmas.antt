@@ -15,9 +15,9 @@ use Rattle.node_rules.specs.Data.{Change, BranchId, RedoRecord, Live, Place, Inp
 use Rattle.node_rules.specs.Data.records
 use Rattle.node_rules.specs.Data.inputs
 use Rattle.node_rules.specs.Words.{numbered}
-use Rattle.node_rules.specs.NodeState.{NodeState, Deed, live_id, live_at}
+use Rattle.node_rules.specs.NodeState.{NodeState, TurnDraft, live_id, live_at}
 use Rattle.node_rules.specs.Records.{applied, nothing_stored, stored_by}
-use Rattle.node_rules.specs.Turn.{turn_of, kept_by, start_of, made, heard, deed_of}
+use Rattle.node_rules.specs.Turn.{turn_of, kept_by, start_of, made, heard, draft_of}
 use Rattle.run_rules.specs.Data.{Turn, Happening, Command}
 use Rattle.run_rules.specs.Facts.{Facts, first_facts, place_at, node_at, records_at, facts_after}
 use Rattle.run_rules.specs.Lawful.{IsPlace, MayHappen, MayTurn, History, IsLawfulRun, facts_at}
@@ -33,7 +33,7 @@ use Rattle.run_base_laws.proofs.LawfulLemmas.{Serves, of_wrote, serves}
 use Rattle.run_base_laws.proofs.LaterLemmas.{events_keep}
 use Rattle.run_base_laws.proofs.NodesStandLemmas.{acked_back}
 use Rattle.run_base_laws.proofs.NodeLemmas.{Goes, Stays, Turns, Is_cut, Stops, Starts, goes_so}
-use Rattle.run_base_laws.proofs.EventsStandLemmas.{Stand, node_so, stand_on, stand_first, first_disk, first_node}
+use Rattle.run_base_laws.proofs.EventsStandLemmas.{BranchStatus, node_so, stand_on, stand_first, first_disk, first_node}
 use Rattle.run_key_laws.proofs.HoldLemmas.{held_weaker, held_by_one, doubt_is_written}
 use Rattle.run_key_laws.proofs.DistinctLemmas.{IsFreeFor, AreApart, DoubtsApart, start_holds, start_distinct}
 use Rattle.run_key_laws.proofs.TableStepLemmas.{Fits}
@@ -98,7 +98,7 @@ doubts_same rs k stored = ap (λ s. s.doubts) stored
 up_keys : (rs : List RedoRecord) (k : NodeState) → StoresOf rs k → Keys k → NodeKeys (Some k) rs
 up_keys rs k stored keys = (keys, subst DoubtsApart (doubts_same rs k stored) (doubts_apart k.locks k.stored.doubts keys.doubts))
 
-module _ (places : List Place) (asked : List Command) (each : (n : ℕ) (p : Place) → numbered places n ≡ Some p → IsPlace places n p) (f : Facts) (t : List Event) (stand : Stand places asked each f t)
+module _ (places : List Place) (asked : List Command) (each : (n : ℕ) (p : Place) → numbered places n ≡ Some p → IsPlace places n p) (f : Facts) (t : List Event) (stand : BranchStatus places asked each f t)
     (doubts : DoubtsStand f t) (tables : TablesStand places f) (now : KeysStand f) where
   module _ (n : ℕ) (k : NodeState) (up : node_at f n ≡ Some k) where
     pub stored_so : StoresOf (records_at f n) k
@@ -159,16 +159,16 @@ module _ (places : List Place) (asked : List Command) (each : (n : ℕ) (p : Pla
     keys_so = subst (λ o. IfSome o Keys) up (now n).0
 
     module _ (u : Turn) (may : MayTurn places f u k) (here : u.node ≡ n) where
-      abbrev deed : Deed
-      deed = deed_of (place_at places n) k u.input
+      abbrev draft : TurnDraft
+      draft = draft_of (place_at places n) k u.input
 
-      turn_keys : NodeKeys (Some deed.after) (records_at f n ++ option_to_list deed.wrote)
+      turn_keys : NodeKeys (Some draft.after) (records_at f n ++ option_to_list draft.wrote)
       turn_keys =
           let step = (serves places f u k may).step in
           let fits = fits_at places asked f n k tables up in
-          subst (λ m. NodeKeys (Some (deed_of (place_at places m) k u.input).after) (records_at f n ++ option_to_list (deed_of (place_at places m) k u.input).wrote)) here
-          (up_keys (records_at f n ++ option_to_list (deed_of (place_at places u.node) k u.input).wrote) (deed_of (place_at places u.node) k u.input).after
-          (step_stores_of (place_at places u.node) (records_at f n) u.input (heard k u.input) (deed_of (place_at places u.node) k u.input) step (heard_stored u.input))
+          subst (λ m. NodeKeys (Some (draft_of (place_at places m) k u.input).after) (records_at f n ++ option_to_list (draft_of (place_at places m) k u.input).wrote)) here
+          (up_keys (records_at f n ++ option_to_list (draft_of (place_at places u.node) k u.input).wrote) (draft_of (place_at places u.node) k u.input).after
+          (step_stores_of (place_at places u.node) (records_at f n) u.input (heard k u.input) (draft_of (place_at places u.node) k u.input) step (heard_stored u.input))
           (keys_on (place_at places u.node) u.input step (heard_fits u.input fits.0) (heard_own u.input fits.1) (heard_apart u.input apart_so) (heard_keys u.input keys_so)))
 
       turned : NodeKeys (Some (turn_of (place_at places n) k u.input).after) (records_at f n ++ option_to_list (turn_of (place_at places n) k u.input).wrote)
@@ -202,7 +202,7 @@ module _ (places : List Place) (asked : List Command) (each : (n : ℕ) (p : Pla
 module _ (places : List Place) (asked : List Command) (each : (n : ℕ) (p : Place) → numbered places n ≡ Some p → IsPlace places n p) where
   -- all that is known of nodes and their keys
   pub record AllStands (f : Facts) (t : List Event) : Type 0 where
-    pub stand : Stand places asked each f t
+    pub stand : BranchStatus places asked each f t
     pub doubts : DoubtsStand f t
     pub tables : TablesStand places f
     pub keys : KeysStand f

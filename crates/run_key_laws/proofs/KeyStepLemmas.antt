@@ -6,12 +6,12 @@ use Rattle.tran_ids.proofs.ListedLemmas.{item_is}
 use Rattle.row_store.specs.Own.{undo_length}
 use Rattle.sql_eval.specs.Meaning.{written}
 use Rattle.stmt_run.specs.Run.{locks_after}
-use Rattle.node_rules.specs.Data.{Table, Stmt, BranchId, Decision, Kind, Standing, Place, Input, Live, Act, Doubt}
+use Rattle.node_rules.specs.Data.{Table, Stmt, BranchId, Decision, Kind, KeptRow, Place, Input, Live, Act, Doubt}
 use Rattle.node_rules.specs.Data.acts
 use Rattle.node_rules.specs.Data.inputs
 use Rattle.commit_forget.specs.declared.next.Next.TheVariants as nexts
 use Rattle.node_rules.specs.Words.{same}
-use Rattle.node_rules.specs.NodeState.{NodeState, Deed, live_id, standing_id, live_at}
+use Rattle.node_rules.specs.NodeState.{NodeState, TurnDraft, live_id, kept_row_id, live_at}
 use Rattle.node_rules.specs.Inputs.{Came, IsCall, Brings, Commit_came, Rollback_came, Rolled_back_came}
 use Rattle.node_rules.specs.Names.{table_of, ref_of}
 use Rattle.node_rules.specs.Force.{is_named_by, branch_to_force}
@@ -75,11 +75,11 @@ module _ {input : Input} {n : ℕ} {s : Stmt} (is : IsCall input n s) (rows : Is
   not_brings (Rollback_came came) = not_came came
   not_brings (Rolled_back_came came) = not_came came
 
-  pub not_ends : {clock : ℕ} {x : Standing} {from : BranchId} {d : Decision} → Doing clock input x from (nexts.End d) → ⊥
+  pub not_ends : {clock : ℕ} {x : KeptRow} {from : BranchId} {d : Decision} → Doing clock input x from (nexts.End d) → ⊥
   not_ends (Ends_so d brings toward none state met) = not_brings brings
 
   module _ (p : Place) where
-    rows_on : {k : NodeState} {d : Deed} → Step p input k d → Fits k → Keys k → Keys d.after
+    rows_on : {k : NodeState} {d : TurnDraft} → Step p input k d → Fits k → Keys k → Keys d.after
     unfolding applied
     rows_on (steps.Begins m u call others fit none step) fits now = rows_on step fits now
     rows_on (steps.Pends m l given call has live code step) fits now = absurd (not_other (λ no. no) call)
@@ -114,13 +114,13 @@ not_doubted k b live apart = all_weaker _ _ (λ d none. by d none (same d.branch
     by d none false is = refl
     by d none true is = let gone : live_at k b ≡ None = subst (λ m. live_at k m ≡ None) (equal_from_same d.branch b is) none in let there : live_at k b ≡ Some live.0 = live.1 in absurd (cc (gone, there))
 
-forced_so : (names : List (List ℕ)) (P : BranchId → Type 0) (ks : List Standing) (id : List ℕ) (b : BranchId) → AllByRecursion (λ s. P s.me) ks → branch_to_force names ks id ≡ Ok b → P b
+forced_so : (names : List (List ℕ)) (P : BranchId → Type 0) (ks : List KeptRow) (id : List ℕ) (b : BranchId) → AllByRecursion (λ s. P s.me) ks → branch_to_force names ks id ≡ Ok b → P b
 unfolding branch_to_force
 forced_so names P ks id b all is = forced_one P id (filter (is_named_by names id) ks) b (all_filter (λ s. P s.me) (λ s. P s.me) (is_named_by names id) (λ s passes so. so) ks all) is
 
 module _ (p : Place) (input : Input) where
   -- each step leaves them held
-  pub keys_on : {k : NodeState} {d : Deed} → Step p input k d → Fits k → ChangesFit k.lives k.owns → Apart k → Keys k → Keys d.after
+  pub keys_on : {k : NodeState} {d : TurnDraft} → Step p input k d → Fits k → ChangesFit k.lives k.owns → Apart k → Keys k → Keys d.after
   unfolding applied
   keys_on (steps.Begins n s call rows fit none step) fits own apart now = rows_on call rows p step fits now
   keys_on (steps.Pends n l given call has live code step) fits own apart now = keys_on step fits own (record { rows = apart.rows; doubts = apart.doubts }) now
@@ -128,7 +128,7 @@ module _ (p : Place) (input : Input) where
       keys_on step fits own (record { rows = apart.rows; doubts = apart.doubts }) (reads_gone k.locks k.owns k.stored.doubts now l.me)
   keys_on (steps.Counts_ack {k = k} s from kept came counts step) fits own apart now =
       keys_on step fits own (record {
-        rows = all_with (λ x. live_at k x.me ≡ None) standing_id k.stored.durable.kept (acked_by s from) apart.rows (all_found (λ x. live_at k x.me ≡ None) standing_id k.stored.durable.kept s.me s apart.rows kept);
+        rows = all_with (λ x. live_at k x.me ≡ None) kept_row_id k.stored.durable.kept (acked_by s from) apart.rows (all_found (λ x. live_at k x.me ≡ None) kept_row_id k.stored.durable.kept s.me s apart.rows kept);
         doubts = apart.doubts;
       }) now
   keys_on (steps.Runs {k = k} x s given t asked way) fits own apart now = run_keys p k x.live.me s t (ref_of s).name (runs_at_table p k.stored.durable x.live given s t way) fits now
@@ -143,7 +143,7 @@ module _ (p : Place) (input : Input) where
   keys_on (steps.Drops_told {k = k} l live drops) fits own apart now = dropped k.locks k.owns k.stored.doubts l.me (not_doubted k l.me (l, live) apart) now
   keys_on (steps.Drops_asked {k = k} l from live came parent) fits own apart now = dropped k.locks k.owns k.stored.doubts l.me (not_doubted k l.me (l, live) apart) now
   keys_on (steps.Does {k = k} s from (nexts.End d) kept why) fits own apart now =
-      settled k.locks k.owns k.stored.doubts s.me (own.live s.me (all_found (λ x. live_at k x.me ≡ None) standing_id k.stored.durable.kept s.me s apart.rows kept)) now
+      settled k.locks k.owns k.stored.doubts s.me (own.live s.me (all_found (λ x. live_at k x.me ≡ None) kept_row_id k.stored.durable.kept s.me s apart.rows kept)) now
   keys_on (steps.Makes_record {k = k} n s r d call makes) fits own apart now = made_so (λ x. Keys (with_record k x)) (λ t. now) (λ l. now) (λ y. now) (λ on. now) makes
   keys_on (steps.Forces_given {k = k} n id m b call named) fits own apart now =
       settled k.locks k.owns k.stored.doubts b (own.live b (forced_so p.names (λ c. live_at k c ≡ None) k.stored.durable.kept id b apart.rows named)) now

@@ -9,10 +9,10 @@ use Rattle.node_rules.specs.Data.records
 use Rattle.node_rules.specs.Data.acts
 use Rattle.commit_forget.specs.declared.next.Next.TheVariants as nexts
 use Rattle.node_rules.specs.Words.{same, is_item_of, put_item, drop_item}
-use Rattle.node_rules.specs.NodeState.{NodeState, Deed, live_id, doubt_id, without_branch}
+use Rattle.node_rules.specs.NodeState.{NodeState, TurnDraft, live_id, doubt_id, without_branch}
 use Rattle.node_rules.specs.Records.{applied, with_record, with_doubt, take_changed, doubt_over}
 use Rattle.node_rules.specs.Prepare.{sealed_of, own_changes, ready}
-use Rattle.node_rules.specs.Statement.{Ran, Refuses, Reads, Writes, ran}
+use Rattle.node_rules.specs.Statement.{StmtOutcome, Refuses, Reads, Writes, ran}
 use Rattle.node_rules.specs.Turn.{with_doubt_of}
 use Rattle.node_rules.proofs.Steps as steps
 use Rattle.node_rules.proofs.Steps.{Step}
@@ -43,7 +43,7 @@ module _ (P : BranchId → Type 0) where
   all_keys [] ls b table writes all own = all
   all_keys (key ∷ keys) ls b table writes all own = all_keys keys (taken ls b table key writes) b table writes (all_taken ls b table key writes all own) own
 
-  all_run : (ls : List Lock) (b : BranchId) (t : Table) (r : Ran) → AllOf ls → P b → AllOf (locks_after ls b t r)
+  all_run : (ls : List Lock) (b : BranchId) (t : Table) (r : StmtOutcome) → AllOf ls → P b → AllOf (locks_after ls b t r)
   all_run ls b t (Refuses r) all own = all
   all_run ls b t (Reads rows keys) all own = all_keys keys ls b t.name false all own
   all_run ls b t (Writes d cs keys undo) all own = all_keys keys ls b t.name true all own
@@ -140,7 +140,7 @@ module _ (k : NodeState) where
 
 module _ (p : Place) (input : Input) where
   -- each step leaves them there
-  held_on : {k : NodeState} {d : Deed} → Step p input k d → HeldAt k → HeldAt d.after
+  held_on : {k : NodeState} {d : TurnDraft} → Step p input k d → HeldAt k → HeldAt d.after
   unfolding applied
   held_on (steps.Begins {k = k} n s call rows fit none step) now = held_on step (begun k _ now)
   held_on (steps.Pends n l given call has live code step) now = held_on step now

@@ -9,22 +9,22 @@ use Rattle.sql_eval.specs.declared.meant.Meant.TheVariants as meants
 use Rattle.sql_eval.specs.Meaning.{examined, written, meant_over}
 use Rattle.row_locks.specs.Locks.{keys_held}
 use Rattle.row_store.specs.Own.{undo_length}
-use Rattle.stmt_run.specs.Run.{Ground, in_doubt_refusal, locked_refusal, space_refusal, ran_within, ran_meant, ran_locked, ran_checked, ran_over}
+use Rattle.stmt_run.specs.Run.{StmtContext, in_doubt_refusal, locked_refusal, space_refusal, ran_within, ran_meant, ran_locked, ran_checked, ran_over}
 use Rattle.node_rules.specs.Data.{Change, Table, TableRef, Synonym, Stmt, Done, RowSet, Durable, Live, Place}
 use Rattle.session_tree.specs.Live.{edge_by_link}
 use Rattle.session_tree.specs.Tree.{room}
 use Rattle.dtx_values.specs.Limits.{depth_limit}
 use Rattle.node_rules.specs.Names.{Named, A_table, Behind, Unknown, synonym_named, table_named, table_of, ref_named, named_by, ref_of, target_of, Runs_here, Through, Nowhere_to, way_edge, way_target, way_named, way_of}
-use Rattle.node_rules.specs.Statement.{Ran, Refuses, Reads, Writes}
+use Rattle.node_rules.specs.Statement.{StmtOutcome, Refuses, Reads, Writes}
 
 -- ---- a run
 
-module _ (g : Ground) (s : Stmt) (t : Table) where
+module _ (g : StmtContext) (s : Stmt) (t : Table) where
   -- no key that it examines is in doubt, and none that it writes is another live branch's
   abbrev pub Meets_nobody : Type 0
   Meets_nobody = else_refuse (in_doubt_refusal g t (examined s t g.view (keys_held g.locks t.name))) (locked_refusal g t (written s t g.view)) ≡ None
 
-  module _ (P : Ran → Type 0) (refuses : (r : Refusal) → P (Refuses r)) (reads : (rows : RowSet) → Meets_nobody → P (Reads rows (written s t g.view)))
+  module _ (P : StmtOutcome → Type 0) (refuses : (r : Refusal) → P (Refuses r)) (reads : (rows : RowSet) → Meets_nobody → P (Reads rows (written s t g.view)))
       (writes : (d : Done) (n : ℕ) (cs : List Change) → checked s t ≡ None → Meets_nobody → meant_over s t g.view ≡ meants.Changes d n cs → P (Writes d cs (written s t g.view) (undo_length g.view cs))) where
     within_so : (o : Option Refusal) (d : Done) (n : ℕ) (cs : List Change) → checked s t ≡ None → Meets_nobody → meant_over s t g.view ≡ meants.Changes d n cs → P (ran_within g o d cs (written s t g.view))
     within_so (Some r) d n cs none nobody is = refuses r

@@ -6,7 +6,7 @@ use Rattle.node_rules.specs.Data.{RedoRecord, Place, Input}
 use Rattle.node_rules.specs.Data.acts
 use Rattle.node_rules.specs.Data.records
 use Rattle.commit_forget.specs.declared.next.Next.TheVariants as nexts
-use Rattle.node_rules.specs.NodeState.{NodeState, Deed, Stored}
+use Rattle.node_rules.specs.NodeState.{NodeState, TurnDraft, Stored}
 use Rattle.node_rules.specs.Records.{nothing_stored, stored_by}
 use Rattle.node_rules.specs.Turn.{start_of}
 use Rattle.node_rules.proofs.Steps as steps
@@ -37,7 +37,7 @@ module _ (So : Stored → RedoRecord → Type 0) where
 
 module _ (p : Place) (input : Input) (scn : ℕ) where
   -- a step's record comes later than all that the clock has met
-  comes_later : {k : NodeState} {d : Deed} → Step p input k d → scn ≤ k.clock → IfSome d.wrote (IsLater scn)
+  comes_later : {k : NodeState} {d : TurnDraft} → Step p input k d → scn ≤ k.clock → IfSome d.wrote (IsLater scn)
   comes_later (steps.Begins n s call rows fit none step) now = comes_later step now
   comes_later (steps.Pends n l given call has live code step) now = comes_later step now
   comes_later (steps.Lets_reads_go l comment site_below live begins step) now = comes_later step now
@@ -63,7 +63,7 @@ J p rs = Rise rs
 abbrev pub I : Place → List RedoRecord → NodeState → Type 0
 I p rs k = StoresOf rs k × Covers k × Rise rs
 
-steps_rise : (p : Place) (rs : List RedoRecord) (input : Input) (k : NodeState) (d : Deed) → Step p input k d → I p rs k → I p (rs ++ option_to_list d.wrote) d.after
+steps_rise : (p : Place) (rs : List RedoRecord) (input : Input) (k : NodeState) (d : TurnDraft) → Step p input k d → I p rs k → I p (rs ++ option_to_list d.wrote) d.after
 steps_rise p rs input k d step now =
     let met : (stored_by nothing_stored rs).scn ≤ k.clock = subst (λ s. s.scn ≤ k.clock) now.0 now.1 in (
       step_stores_of p rs input k d step now.0,

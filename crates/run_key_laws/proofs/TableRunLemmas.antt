@@ -9,9 +9,9 @@ use Rattle.node_rules.specs.Data.acts
 use Rattle.node_rules.specs.Data.records
 use Rattle.node_rules.specs.Data.inputs
 use Rattle.commit_forget.specs.declared.next.Next.TheVariants as nexts
-use Rattle.node_rules.specs.NodeState.{NodeState, Deed}
+use Rattle.node_rules.specs.NodeState.{NodeState, TurnDraft}
 use Rattle.node_rules.specs.Inputs.{IsCall}
-use Rattle.node_rules.specs.Turn.{turn_of, deed_of}
+use Rattle.node_rules.specs.Turn.{turn_of, draft_of}
 use Rattle.node_rules.proofs.Steps as steps
 use Rattle.node_rules.proofs.Steps.{Step, Makes, Makes_table, Makes_link, Makes_synonym, Sets_recovery}
 use Rattle.run_rules.specs.Data.{Took, Turn, Happening, Command}
@@ -47,7 +47,7 @@ made_whole spelled call (Makes_synonym y free) = tt
 made_whole spelled call (Sets_recovery on) = tt
 
 -- a table is made by a statement that a text spells
-pub step_whole : (p : Place) (input : Input) {k : NodeState} {d : Deed} → IsSpelled input → Step p input k d → IfSome d.wrote MakesWhole
+pub step_whole : (p : Place) (input : Input) {k : NodeState} {d : TurnDraft} → IsSpelled input → Step p input k d → IfSome d.wrote MakesWhole
 step_whole p input spelled (steps.Begins n s call rows fit none step) = step_whole p input spelled step
 step_whole p input spelled (steps.Pends n l given call has live code step) = step_whole p input spelled step
 step_whole p input spelled (steps.Lets_reads_go l comment site_below live begins step) = step_whole p input spelled step
@@ -82,7 +82,7 @@ module _ (places : List Place) (asked : List Command) (f : Facts) where
   turn_whole : (n : ℕ) (u : Turn) (k : NodeState) → MayTurn places f u k → u.node ≡ n → IfSome (turn_of (place_at places n) k u.input).wrote MakesWhole
   unfolding turn_of
   turn_whole n u k may here =
-      subst (λ m. IfSome (deed_of (place_at places m) k u.input).wrote MakesWhole) here
+      subst (λ m. IfSome (draft_of (place_at places m) k u.input).wrote MakesWhole) here
       (step_whole (place_at places u.node) u.input (comes_spelled f k u.node u.input u.took may.comes) (serves places f u k may).step)
 
   wrote_whole : (u : Turn) (k : NodeState) → MayTurn places f u k → IfSome u.wrote MakesWhole

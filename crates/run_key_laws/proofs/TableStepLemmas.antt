@@ -13,11 +13,11 @@ use Rattle.node_rules.specs.Data.decisions
 use Rattle.commit_forget.specs.declared.next.Next.TheVariants as nexts
 use Rattle.node_rules.specs.Words.{item_at, put_item, drop_item}
 use Rattle.node_rules.specs.Rows.{rows_of_table, set_over, changes_of}
-use Rattle.node_rules.specs.NodeState.{NodeState, Deed, own_id, sets_of, sets_at}
+use Rattle.node_rules.specs.NodeState.{NodeState, TurnDraft, own_id, sets_of, sets_at}
 use Rattle.node_rules.specs.Records.{applied, nothing_stored, stored_by}
 use Rattle.node_rules.specs.Names.{table_of, ref_of}
 use Rattle.node_rules.specs.Prepare.{sealed_record, decided_record}
-use Rattle.node_rules.specs.Statement.{Ran, Refuses, Reads, Writes, ran, ground_of, owns_after, view}
+use Rattle.node_rules.specs.Statement.{StmtOutcome, Refuses, Reads, Writes, ran, ground_of, owns_after, view}
 use Rattle.node_rules.specs.Turn.{start_of}
 use Rattle.redo_record.specs.Durable.{durable_after}
 use Rattle.node_rules.proofs.Steps as steps
@@ -37,7 +37,7 @@ use Rattle.run_base_laws.proofs.NodeLemmas.{Keeps}
 -- ---- a run
 
 -- the changes of a run are of these tables
-abbrev pub RunFits : List Table → Ran → Type 0
+abbrev pub RunFits : List Table → StmtOutcome → Type 0
 RunFits ts (Writes d cs keys undo) = AreChangesIn ts cs
 RunFits ts _ = Unit {0}
 
@@ -50,7 +50,7 @@ module _ (ts : List Table) (owns : List Owned) (own : LiveChangesFit ts owns) wh
         (subst (AreChangesIn ts) (sym (one_more_set (sets_at owns b) rows cs)) (all_append (IsChangeIn ts) (changes_at owns b) (cs ++ []) (own b) (subst (AreChangesIn ts) (sym (append_none cs)) all)))
   ]
 
-  pub run_leaves : (b : BranchId) (rows : List Keyed) (r : Ran) → RunFits ts r → LiveChangesFit ts (owns_after owns b rows r)
+  pub run_leaves : (b : BranchId) (rows : List Keyed) (r : StmtOutcome) → RunFits ts r → LiveChangesFit ts (owns_after owns b rows r)
   run_leaves b rows (Refuses e) all = own
   run_leaves b rows (Reads rs keys) all = own
   run_leaves b rows (Writes d cs keys undo) all = λ c. more_fit b c rows cs all
@@ -115,7 +115,7 @@ made_leaves k own (Sets_recovery on) = own
 
 module _ (p : Place) (input : Input) where
   -- each step with a whole table leaves all so
-  fits_on : {k : NodeState} {d : Deed} → Step p input k d → IfSome d.wrote MakesWhole → Fits k → Fits d.after
+  fits_on : {k : NodeState} {d : TurnDraft} → Step p input k d → IfSome d.wrote MakesWhole → Fits k → Fits d.after
   unfolding applied durable_after
   fits_on (steps.Begins n s call rows fit none step) whole now = fits_on step whole now
   fits_on (steps.Pends n l given call has live code step) whole now = fits_on step whole now

@@ -5,7 +5,7 @@ use Rattle.std.proofs.lemmas.Bool.{cond_both}
 use Rattle.node_rules.specs.Data.{BranchId, Stmt, Place, Input}
 use Rattle.node_rules.specs.Data.inputs
 use Rattle.node_rules.specs.Data.stmts
-use Rattle.node_rules.specs.NodeState.{NodeState, Outcome}
+use Rattle.node_rules.specs.NodeState.{NodeState, TurnOutput}
 use Rattle.node_rules.specs.Sessions.{session_at}
 use Rattle.node_rules.specs.Points.{Point}
 use Rattle.run_rules.specs.Data.{Said, Took, Turn, Finished, Happening, Command}
@@ -63,7 +63,7 @@ module _ (running : ℕ) where
   input_many t node (inputs.Message m) = refl
   input_many t node inputs.Reco = refl
 
-  turn_ends : (t : RunReport) (u : Turn) (cut : Bool) (o : Option Outcome) → AsMany t (ends_calls running t u cut o)
+  turn_ends : (t : RunReport) (u : Turn) (cut : Bool) (o : Option TurnOutput) → AsMany t (ends_calls running t u cut o)
   turn_ends t u true o = refl
   turn_ends t u false None = refl
   turn_ends t u false (Some o) = input_many (finished running t u.node o.ended) u.node u.input ∙ finished_many t u.node o.ended
@@ -89,7 +89,7 @@ arms_many : (t : RunReport) (n : ℕ) (k : NodeState) (input : Input) → AsMany
 arms_many t n k (inputs.Call session (Some (stmts.Commit (Some comment)))) = cond_both (is_none (session_at k.sessions session).code) _ t (AsMany t) (λ none. point_many t _ _ _) (λ some. refl)
 arms_many t n k _ = refl
 
-disks_many : (t : RunReport) (n : ℕ) (input : Input) (k : Option NodeState) (o : Option Outcome) → AsMany t (turn_appends t n input k o)
+disks_many : (t : RunReport) (n : ℕ) (input : Input) (k : Option NodeState) (o : Option TurnOutput) → AsMany t (turn_appends t n input k o)
 disks_many t n input (Some k) (Some o) = let u : RunReport = cut_appends t n (is_some o.wrote) (cut_by t n k input o) in arms_many u n k input ∙ cut_many t n (is_some o.wrote) (cut_by t n k input o)
 disks_many t n input None o = refl
 disks_many t n input (Some k) None = refl
@@ -102,7 +102,7 @@ took_one : (t : RunReport) (o : Option Took) → (delivered_more t o).deliveries
 took_one t None = omega arith
 took_one t (Some took) = omega arith
 
-turned_one : (running : ℕ) (k : Option NodeState) (t : RunReport) (u : Turn) (o : Option Outcome) → (report_turned running k t u o).deliveries ≤ t.deliveries + 1
+turned_one : (running : ℕ) (k : Option NodeState) (t : RunReport) (u : Turn) (o : Option TurnOutput) → (report_turned running k t u o).deliveries ≤ t.deliveries + 1
 turned_one running k t u o =
     let t1 : RunReport = turn_appends t u.node u.input k o in
     let t2 : RunReport = delivered_more t1 u.took in

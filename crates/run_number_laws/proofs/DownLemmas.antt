@@ -5,7 +5,7 @@ use Rattle.std.proofs.lemmas.Bool.{cond_both, or_right}
 use Rattle.std.proofs.lemmas.Map.Views.{any-filter_same}
 use Rattle.std.specs.List.{list_any}
 use Rattle.node_rules.specs.Data.{Msg, Place}
-use Rattle.node_rules.specs.NodeState.{NodeState, Outcome}
+use Rattle.node_rules.specs.NodeState.{NodeState, TurnOutput}
 use Rattle.node_rules.specs.Turn.{turn_of}
 use Rattle.net_bag.specs.Net.{Net, is_down, sent_one, sent_on, delivered, lost, cut_over, joined, with_node, stopped, started}
 use Rattle.run_rules.specs.Data.{Took, Turn, Happening, Command}
@@ -74,7 +74,7 @@ module _ (places : List Place) (asked : List Command) (f : Facts) (even : length
     turn_stops = refl
 
     -- a node that is down after its own turn is to stop
-    is_to_stop : (cut : Bool) (o : Outcome) → kept_after cut (Some o) ≡ None → (if cut then Some u.node else None) ≡ Some u.node
+    is_to_stop : (cut : Bool) (o : TurnOutput) → kept_after cut (Some o) ≡ None → (if cut then Some u.node else None) ≡ Some u.node
     is_to_stop true o none = refl
     is_to_stop false o none = absurd cc
 

@@ -7,7 +7,7 @@ use Rattle.tran_ids.specs.Listed.{numbered}
 use Rattle.node_rules.specs.Data.{Stmt, Msg, Place, Input}
 use Rattle.node_rules.specs.Data.inputs
 use Rattle.node_rules.specs.Data.stmts
-use Rattle.node_rules.specs.NodeState.{NodeState, Outcome}
+use Rattle.node_rules.specs.NodeState.{NodeState, TurnOutput}
 use Rattle.node_rules.specs.Turn.{turn_of, kind_scn}
 use Rattle.node_core.specs.Able.{IsAble, BringsScns}
 use Rattle.net_bag.specs.Net.{packet_at}
@@ -64,14 +64,14 @@ module _ (places : List Place) (asked : List Command) (p : Past) where
     pub took : Option Took
     pub comes : Comes p.facts kept n input took
 
-  turn_may : (n : ℕ) (input : Input) (took : Option Took) (o : Outcome) (c : Cut_by) → MayHappen places asked p.facts (turn_by n input took o c) → MayTurnOver n input
+  turn_may : (n : ℕ) (input : Input) (took : Option Took) (o : TurnOutput) (c : Cut_by) → MayHappen places asked p.facts (turn_by n input took o c) → MayTurnOver n input
   turn_may n input took o By_nothing may = record { kept = may.0; up = may.1.up; took = took; comes = may.1.comes }
   turn_may n input took o (By_strike stands) may = record { kept = may.0; up = may.1.up; took = took; comes = may.1.comes }
   turn_may n input took o (By_point root numbers stands) may = record { kept = may.0; up = may.1.up; took = took; comes = may.1.comes }
 
   at_node : (n : ℕ) (input : Input) (took : Option Took) → IsUp p.facts n → ((h : Happening) → turn_at places p.run_report n input took (node_at p.facts n) ≡ Some h → MayHappen places asked p.facts h) → MayTurnOver n input
   at_node n input took up may =
-      let o : Outcome = turn_of (place_at places n) up.0 input in
+      let o : TurnOutput = turn_of (place_at places n) up.0 input in
       turn_may n input took o (cut_by p.run_report n up.0 input o) (may (turn_comes p.run_report n input took up.0 o) (ap (turn_at places p.run_report n input took) up.1))
 
   -- a message that is due

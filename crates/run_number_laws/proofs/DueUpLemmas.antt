@@ -29,7 +29,7 @@ use Rattle.run_ready_laws.proofs.DueLemmas.{ComesBeside, IsDue, due_so}
 use Rattle.run_ready_laws.proofs.DueLemmas as due
 use Rattle.run_ready_laws.proofs.PendingLemmas.{IsOf, called_at, there_called, found_so, at_parts}
 use Rattle.run_ready_laws.proofs.OtherStandLemmas.{proper_at}
-use Rattle.run_ready_laws.proofs.RunLawfulLemmas.{Standing_so, goes_on, first_stands}
+use Rattle.run_ready_laws.proofs.RunLawfulLemmas.{KeptRow_so, goes_on, first_stands}
 use Rattle.run_number_laws.specs.There.{may_come, DueMessagesAreThere, NamesNodes, DueNodesAreThere, IsUp, FindsUp, DueNodesAreUp, MessagesGoToNodes}
 use Rattle.run_number_laws.proofs.CountLemmas.{next_is}
 use Rattle.run_number_laws.proofs.TargetLemmas.{up_there}
@@ -152,7 +152,7 @@ or_last : (a b : Bool) → (a || b) ≡ false → b ≡ false
 or_last true b is = absurd cc
 or_last false b is = is
 
-module _ (places : List Place) (asked : List Command) (script : AreOfAScript places asked) (p : Past) (now : Standing_so places asked p) (downs : DownsAreKnown (length places) p.facts)
+module _ (places : List Place) (asked : List Command) (script : AreOfAScript places asked) (p : Past) (now : KeptRow_so places asked p) (downs : DownsAreKnown (length places) p.facts)
     (targets : AllByRecursion (λ x. IsNode (length places) x.msg.to.node) p.facts.net.packets) where
   abbrev f : Facts
   f = p.facts
@@ -261,7 +261,7 @@ first_up (p ∷ ps) (suc (suc i)) node none = first_up ps (suc i) (omega arith, 
 module _ (places : List Place) (asked : List Command) (script : AreOfAScript places asked) where
   -- What stands after each happening that was due.
   pub record RunStands (p : Past) : Type 0 where
-    pub so : Standing_so places asked p
+    pub so : KeptRow_so places asked p
     pub downs : DownsAreKnown (length places) p.facts
 
   run_stands : (p : Past) (hs : List Happening) (es : List Event) (bs : List Born) → StandBorn places asked script.each p.facts es bs → RootsStand places asked script.each p.facts → RunStands p → IsTheRun places asked p hs

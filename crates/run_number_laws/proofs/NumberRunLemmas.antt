@@ -10,7 +10,7 @@ use Rattle.node_rules.specs.declared.session.Session.{Session}
 use Rattle.node_rules.specs.NodeState.{NodeState}
 use Rattle.node_rules.specs.Records.{nothing_stored, stored_by}
 use Rattle.node_rules.specs.Sessions.{fresh_session}
-use Rattle.node_rules.specs.Turn.{turn_of, start_of, made, kind_scn, stamped, heard, deed_of}
+use Rattle.node_rules.specs.Turn.{turn_of, start_of, made, kind_scn, stamped, heard, draft_of}
 use Rattle.run_rules.specs.Data.{Took, Turn, Happening, Command}
 use Rattle.run_rules.specs.Data.happenings
 use Rattle.run_rules.specs.Facts.{Facts, first_facts, place_at, node_at, records_at, facts_after, facts_of}
@@ -97,11 +97,11 @@ module _ (numbers : NumbersStayWithin) (places : List Place) (asked : List Comma
 
       left : I p (rs ++ option_to_list (turn_of p k u.input).wrote) (turn_of p k u.input).after
       unfolding turn_of
-      left = both.steps p rs u.input (heard k u.input) (deed_of p k u.input) serving.step (heard_so p rs k u.input (at_node J I both places f u.node (stand.nodes u.node) k may.up))
+      left = both.steps p rs u.input (heard k u.input) (draft_of p k u.input) serving.step (heard_so p rs k u.input (at_node J I both places f u.node (stand.nodes u.node) k may.up))
 
       starts_within : boots (rs ++ option_to_list (turn_of p k u.input).wrote) ≤ n + 1 + 1
       unfolding turn_of
-      starts_within = let same = boots_with rs (deed_of p k u.input).wrote (step_of_turn p u.input serving.step) in let le = (now.0 u.node).0.starts in omega (arith, same, le)
+      starts_within = let same = boots_with rs (draft_of p k u.input).wrote (step_of_turn p u.input serving.step) in let le = (now.0 u.node).0.starts in omega (arith, same, le)
 
       whole_written : IsWrittenWithin (n + 1) (rs ++ option_to_list (turn_of p k u.input).wrote)
       whole_written =
@@ -131,7 +131,7 @@ module _ (numbers : NumbersStayWithin) (places : List Place) (asked : List Comma
 
       sent_clocks : AllByRecursion (λ m. m.scn ≤ n + 1) u.sent
       unfolding turn_of
-      sent_clocks = of_sent p k u serving (λ w ms. AllByRecursion (λ m. m.scn ≤ n + 1) ms) tt (clocks_of (deed_of p k u.input).after.clock after_within.clock (deed_of p k u.input).says)
+      sent_clocks = of_sent p k u serving (λ w ms. AllByRecursion (λ m. m.scn ≤ n + 1) ms) tt (clocks_of (draft_of p k u.input).after.clock after_within.clock (draft_of p k u.input).says)
 
     -- what becomes of each node
     goes_within : (m : ℕ) {o : Option NodeState} {rs : List RedoRecord} → Goes places f m o rs → NodeWithin (n + 1) o rs

@@ -13,7 +13,7 @@ use Rattle.node_rules.specs.Data.acts
 use Rattle.node_rules.specs.Data.kinds
 use Rattle.node_rules.specs.declared.session.Session.{Session}
 use Rattle.node_rules.specs.Words.{same_text}
-use Rattle.node_rules.specs.NodeState.{NodeState, Branch, Deed, to_one, to_each}
+use Rattle.node_rules.specs.NodeState.{NodeState, Branch, TurnDraft, to_one, to_each}
 use Rattle.node_rules.specs.Names.{Named, A_table, Behind, Unknown, Through, node_named, target_of, way_new, way_edge, way_target, way_named, way_of, named_by, ref_of}
 use Rattle.node_rules.specs.Calls.{answer_says, exec_to, with_edge, hears_reply}
 use Rattle.node_rules.specs.Statement.{ran, after_run}
@@ -105,7 +105,7 @@ says_open k input (steps.Knows_rollback s from came kept knows) = (tt, tt)
 says_open k input (steps.Is_in_doubt l from came live other) = (tt, tt)
 
 module _ (p : Place) (input : Input) where
-  abbrev There : Deed → Type 0
+  abbrev There : TurnDraft → Type 0
   There d = AllByRecursion (λ x. OpensThere (length p.names) x.to x.kind) d.says
 
   there_so : (to : BranchId) (kind : Kind) → IsNoOpen kind → OpensThere (length p.names) to kind
@@ -116,7 +116,7 @@ module _ (p : Place) (input : Input) where
   none_open says none = all_weaker (λ x. IsNoOpen x.kind) (λ x. OpensThere (length p.names) x.to x.kind) (λ x free. there_so x.to x.kind free) says none
 
   -- each Open of a step goes to a node that there is
-  pub step_opens : {k : NodeState} {d : Deed} → Step p input k d → There d
+  pub step_opens : {k : NodeState} {d : TurnDraft} → Step p input k d → There d
   step_opens (steps.Begins n s call rows range none step) = step_opens step
   step_opens (steps.Pends n l given call has live code step) = step_opens step
   step_opens (steps.Lets_reads_go l comment b live begins step) = step_opens step

@@ -10,7 +10,7 @@ use Rattle.node_rules.specs.Data.inputs
 use Rattle.node_rules.specs.NodeState.{NodeState}
 use Rattle.node_rules.specs.Sessions.{session_at}
 use Rattle.node_rules.specs.Calls.{is_opening}
-use Rattle.node_rules.specs.Turn.{turn_of, stamped, deed_of}
+use Rattle.node_rules.specs.Turn.{turn_of, stamped, draft_of}
 use Rattle.run_rules.specs.Data.{Packet, Turn, Happening, Command}
 use Rattle.run_rules.specs.Data.happenings
 use Rattle.run_rules.specs.Runs.{is_of_rows}
@@ -87,8 +87,8 @@ module _ (places : List Place) (asked : List Command) (script : AreOfAScript pla
       turn_opens =
           let all = step_opens (place_at places u.node) u.input (serves places f u k may).step in
           of_sent (place_at places u.node) k u (serves places f u k may) (λ w ms. AllByRecursion (λ m. OpensThere (length places) m.to m.kind) ms) tt
-          (all_map (λ (m : Msg). OpensThere (length places) m.to m.kind) (stamped (deed_of (place_at places u.node) k u.input).after.clock) (deed_of (place_at places u.node) k u.input).says
-          (subst (λ count. AllByRecursion (λ x. OpensThere count x.to x.kind) (deed_of (place_at places u.node) k u.input).says) (names_are f u.node k stand.0.1.many may.up) all))
+          (all_map (λ (m : Msg). OpensThere (length places) m.to m.kind) (stamped (draft_of (place_at places u.node) k u.input).after.clock) (draft_of (place_at places u.node) k u.input).says
+          (subst (λ count. AllByRecursion (λ x. OpensThere count x.to x.kind) (draft_of (place_at places u.node) k u.input).says) (names_are f u.node k stand.0.1.many may.up) all))
 
     abbrev Sent : Msg → Type 0
     Sent m = OpensThere (length places) m.to m.kind

@@ -4,7 +4,7 @@ use Rattle.std.proofs.lemmas.Bool.Decides.{nat_tests}
 use Rattle.std.proofs.lemmas.Bool.{cond_both, and_parts}
 use Rattle.std.specs.List.{list_any}
 use Rattle.commit_forget.specs.declared.next.Next.TheVariants as nexts
-use Rattle.node_rules.specs.Data.{Stmt, Answer, BranchId, Decision, Standing, Phase, Live, Act, Place, Input}
+use Rattle.node_rules.specs.Data.{Stmt, Answer, BranchId, Decision, KeptRow, Phase, Live, Act, Place, Input}
 use Rattle.node_rules.specs.Data.acts
 use Rattle.node_rules.specs.Data.answers
 use Rattle.node_rules.specs.Data.decisions
@@ -18,7 +18,7 @@ use Rattle.node_rules.specs.declared.work.Going.{Going}
 use Rattle.node_rules.specs.Words.{numbered, set_numbered}
 use Rattle.node_rules.specs.Refusals.{dtx}
 use Rattle.session_tree.specs.Live.{is_branch, new_edge}
-use Rattle.node_rules.specs.NodeState.{NodeState, Branch, Deed, standing_id, live_at, with_standing}
+use Rattle.node_rules.specs.NodeState.{NodeState, Branch, TurnDraft, kept_row_id, live_at, with_kept_row}
 use Rattle.node_rules.specs.Statement.{ran, after_run}
 use Rattle.node_rules.specs.Sessions.{fresh_session, session_at, with_call, needs_rollback, no_transaction, is_commit, commit_is_pending, commit_ended, commit_answer}
 use Rattle.node_rules.specs.Calls.{call_pends, answered_sessions, answer_ends, heard_sessions, heard_answer, is_gone, with_edge, hears_reply}
@@ -187,13 +187,13 @@ act_ends k l site_below acts.Abandon = abandoned_ends k.sessions l l.parent
 
 -- ---- steps
 
-pub acked_before : (input : Input) (k : NodeState) (s : Standing) (from : BranchId) → steps.IsKept k s → Came input from s.me kinds.Ack → Before input k → Before input (with_standing k (acked_by s from))
+pub acked_before : (input : Input) (k : NodeState) (s : KeptRow) (from : BranchId) → steps.IsKept k s → Came input from s.me kinds.Ack → Before input k → Before input (with_kept_row k (acked_by s from))
 acked_before input k s from kept came before = record {
   free = before.free;
   asked = before.asked;
   prepared = before.prepared;
-  either = λ not. all_with (λ x. live_at k x.me ≡ None) standing_id k.stored.durable.kept (acked_by s from) (before.either not)
-      (all_found (λ x. live_at k x.me ≡ None) standing_id k.stored.durable.kept s.me s (before.either not) kept);
+  either = λ not. all_with (λ x. live_at k x.me ≡ None) kept_row_id k.stored.durable.kept (acked_by s from) (before.either not)
+      (all_found (λ x. live_at k x.me ≡ None) kept_row_id k.stored.durable.kept s.me s (before.either not) kept);
 }
 
 -- a root whose statement goes on has a call pending
@@ -210,7 +210,7 @@ module _ {k : NodeState} {input : Input} (before : Before input k) (no_call : (n
 
 module _ (p : Place) (input : Input) (no_call : (n : ℕ) (s : Option Stmt) → input ≡ inputs.Call n s → ⊥) where
   -- each step of an input that is no call
-  pub ends_on : {k : NodeState} {d : Deed} → Step p input k d → Before input k → NodeRoots k → EndsSo (pends_at k.sessions) d.after.sessions d.ended
+  pub ends_on : {k : NodeState} {d : TurnDraft} → Step p input k d → Before input k → NodeRoots k → EndsSo (pends_at k.sessions) d.after.sessions d.ended
   ends_on (steps.Begins n s call rows range none step) before now = absurd (no_call n (Some s) call)
   ends_on (steps.Pends n l given call has live code step) before now = absurd (no_call n _ call)
   ends_on (steps.Lets_reads_go l comment site_below live begins step) before now = ends_on step (record { free = before.free; asked = before.asked; prepared = before.prepared; either = before.either }) now

@@ -4,7 +4,7 @@ use Rattle.std.proofs.Common.{◌≡◌, ◌≢◌, ℕ, ◌==◌, ◌&&◌, ◌
 use Rattle.std.proofs.lemmas.Bool.Decides.{nat_tests}
 use Rattle.std.proofs.lemmas.Bool.{cond_both}
 use Rattle.std.proofs.lemmas.List.Folds.{list_any-append}
-use Rattle.node_rules.specs.Data.{Stmt, Answer, Refusal, BranchId, Decision, Standing, Live, Place}
+use Rattle.node_rules.specs.Data.{Stmt, Answer, Refusal, BranchId, Decision, KeptRow, Live, Place}
 use Rattle.node_rules.specs.Data.answers
 use Rattle.node_rules.specs.Data.dones
 use Rattle.node_rules.specs.Data.decisions
@@ -14,7 +14,7 @@ use Rattle.node_rules.specs.declared.session.PendingCall.TheVariants as pending
 use Rattle.node_rules.specs.declared.session.Session.{Session}
 use Rattle.node_rules.specs.declared.session.Finished.{Finished}
 use Rattle.node_rules.specs.Words.{set_numbered, put_item}
-use Rattle.node_rules.specs.NodeState.{NodeState, Branch, Deed, live_id, live_at, with_work, branch_at}
+use Rattle.node_rules.specs.NodeState.{NodeState, Branch, TurnDraft, live_id, live_at, with_work, branch_at}
 use Rattle.node_rules.specs.Names.{Way, Runs_here, Over, Through, Nowhere_to, way_of}
 use Rattle.node_rules.specs.Statement.{ran, after_run, answer_of_run}
 use Rattle.node_rules.specs.Sessions.{session_at, with_call, no_transaction, commit_ended, commit_answer}
@@ -30,7 +30,7 @@ use Rattle.run_ready_laws.proofs.RootLiveLemmas.{RootsLive, begun_lives, answere
 use Rattle.tran_ids.proofs.ListedLemmas.{put_found}
 
 -- What a call leaves.
-pub record CallLeaves (was : ℕ → Bool) (d : Deed) : Type 0 where
+pub record CallLeaves (was : ℕ → Bool) (d : TurnDraft) : Type 0 where
   pub ends : EndsSo was d.after.sessions d.ended
   pub lives : RootsLive d.after.lives d.after.sessions
 
@@ -93,7 +93,7 @@ module _ (p : Place) (k : NodeState) (n : ℕ) (fit : SessionsFit k) (now : Root
   after_made m = pends_at k.sessions m || (n == m)
 
   -- a refusal, or what changes no session
-  alone_so : (d : Deed) (a : Answer) → d.after.sessions ≡ k.sessions → d.after.lives ≡ k.lives → d.ended ≡ answer_to n a → CallLeaves after_made d
+  alone_so : (d : TurnDraft) (a : Answer) → d.after.sessions ≡ k.sessions → d.after.lives ≡ k.lives → d.ended ≡ answer_to n a → CallLeaves after_made d
   alone_so d a sessions lives ended = record {
     ends = subst (EndsSo after_made d.after.sessions) (sym ended) (ended_alone k.sessions n free d.after.sessions a (λ m. ap (λ ss. pends_at ss m) sessions));
     lives = subst (λ ss. RootsLive d.after.lives ss) (sym sessions) (subst (λ ls. RootsLive ls k.sessions) (sym lives) now);
@@ -226,7 +226,7 @@ module _ (p : Place) (k : NodeState) (n : ℕ) (fit : SessionsFit k) (now : Root
   force_rollback_so (Err r) = alone_so _ _ refl refl refl
   force_rollback_so (Ok b) = forces_so b decisions.Rollback false _
 
-  hides_so : (id : List ℕ) (o : Option Standing) → CallLeaves after_made (hides k n id o)
+  hides_so : (id : List ℕ) (o : Option KeptRow) → CallLeaves after_made (hides k n id o)
   hides_so id None = alone_so _ _ refl refl refl
   hides_so id (Some s) = alone_so _ _ refl refl refl
 

@@ -9,9 +9,9 @@ use Rattle.node_rules.specs.Data.{BranchId, Edge, Kind, Live, Msg, Post, Place, 
 use Rattle.node_rules.specs.Data.kinds
 use Rattle.node_rules.specs.declared.work.Work.{Work}
 use Rattle.node_rules.specs.Words.{numbered, set_numbered}
-use Rattle.node_rules.specs.NodeState.{NodeState, Deed, live_id, live_at}
+use Rattle.node_rules.specs.NodeState.{NodeState, TurnDraft, live_id, live_at}
 use Rattle.node_rules.specs.Sessions.{session_at}
-use Rattle.node_rules.specs.Turn.{stamped, turn_of, start_of, made, deed_of}
+use Rattle.node_rules.specs.Turn.{stamped, turn_of, start_of, made, draft_of}
 use Rattle.agreement.specs.Events.{Event}
 use Rattle.run_rules.specs.Data.{Packet, Turn, Happening, Command}
 use Rattle.run_rules.specs.Data.happenings
@@ -129,8 +129,8 @@ module _ (places : List Place) (asked : List Command) (each : (n : ℕ) (p : Pla
       abbrev p : Place
       p = place_at places u.node
 
-      abbrev d : Deed
-      d = deed_of p k u.input
+      abbrev d : TurnDraft
+      d = draft_of p k u.input
 
       abbrev g : Facts
       g = facts_after places asked f (happenings.Turn u)

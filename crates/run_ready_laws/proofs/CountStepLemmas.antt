@@ -17,11 +17,11 @@ use Rattle.node_rules.specs.declared.work.Going.{Going}
 use Rattle.node_rules.specs.declared.work.Work.{Work}
 use Rattle.node_rules.specs.Words.{same, numbered, put_item, drop_item}
 use Rattle.node_rules.specs.Inputs.{Came}
-use Rattle.node_rules.specs.NodeState.{NodeState, Branch, Deed, live_id, work_id, live_at, branch_at, to_one, to_each, no_work, with_work, standing_at}
+use Rattle.node_rules.specs.NodeState.{NodeState, Branch, TurnDraft, live_id, work_id, live_at, branch_at, to_one, to_each, no_work, with_work, kept_row_at}
 use Rattle.node_rules.specs.Sessions.{fresh_session, session_at, with_call, needs_rollback}
 use Rattle.node_rules.specs.Calls.{call_pends, advice_of, next_call, kept_reply, with_answer, answer_says, called, exec_to, reply_fields}
 use Rattle.node_rules.specs.Prepare.{path_of, site_neighbors, with_prepare_sent, has_voted, answers_first, ready, act_turn}
-use Rattle.node_rules.specs.Turn.{Is_gone, live_or, stand_of}
+use Rattle.node_rules.specs.Turn.{Is_gone, live_or, status_of}
 use Rattle.node_rules.proofs.Steps.{Acting}
 use Rattle.node_rules.proofs.StandLemmas.{session_set, call_set}
 use Rattle.node_rules.proofs.StepLemmas.{acting_so}
@@ -80,12 +80,12 @@ new_of said (m ∷ ms) all = (all.0.1 said m.from m.to, new_of said ms all.1)
 -- ---- words
 
 -- a gone branch is not live
-gone_by : (k : NodeState) (b : BranchId) (o : Option Live) → live_at k b ≡ o → live_or (with_work k o) (standing_at k b) ≡ Is_gone → o ≡ None
+gone_by : (k : NodeState) (b : BranchId) (o : Option Live) → live_at k b ≡ o → live_or (with_work k o) (kept_row_at k b) ≡ Is_gone → o ≡ None
 gone_by k b None is gone = refl
 gone_by k b (Some l) is gone = absurd cc
 
-pub gone_live : (k : NodeState) (b : BranchId) → stand_of k b ≡ Is_gone → live_at k b ≡ None
-unfolding stand_of
+pub gone_live : (k : NodeState) (b : BranchId) → status_of k b ≡ Is_gone → live_at k b ≡ None
+unfolding status_of
 gone_live k b gone = gone_by k b (live_at k b) refl gone
 
 call_code : (ss : List Session) (n m : ℕ) (c : PendingCall) → (session_at (with_call ss n c) m).code ≡ (session_at ss m).code
@@ -149,7 +149,7 @@ module _ (E : BranchId → Option ℕ) (A : BranchId → Option BranchId) (G Her
   Then says l w = FitsBy (said ++ says) l w
 
   -- what a step leaves
-  abbrev pub Leaves : Deed → Type 0
+  abbrev pub Leaves : TurnDraft → Type 0
   Leaves d = EachLive (Then d.says) d.after.lives d.after.works × AllNew said d.says
 
   -- a branch that begins

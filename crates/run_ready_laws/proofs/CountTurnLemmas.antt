@@ -15,7 +15,7 @@ use Rattle.node_rules.specs.declared.work.Work.{Work}
 use Rattle.node_rules.specs.Words.{numbered, set_numbered, put_item}
 use Rattle.node_rules.specs.Refusals.{dtx}
 use Rattle.node_rules.specs.Inputs.{IsCall}
-use Rattle.node_rules.specs.NodeState.{NodeState, Branch, Deed, live_id, work_id, branch_at, post}
+use Rattle.node_rules.specs.NodeState.{NodeState, Branch, TurnDraft, live_id, work_id, branch_at, post}
 use Rattle.node_rules.specs.Sessions.{session_at, with_call, needs_rollback}
 use Rattle.node_rules.specs.Names.{passed_on}
 use Rattle.node_rules.specs.Statement.{ran, after_run}
@@ -38,7 +38,7 @@ use Rattle.run_base_laws.proofs.CallTurnLemmas.{silent_none, silent_kind}
 use Rattle.run_base_laws.proofs.InTurnLemmas as turns
 use Rattle.run_base_laws.proofs.InTurnLemmas.{length_peers, numbered_map, numbered_last, numbered_split, calls_before, reply_for, one_waits, opened_none, none_waits}
 use Rattle.run_base_laws.proofs.InTurnEdgeLemmas.{opened_free}
-use Rattle.run_base_laws.proofs.InTurnStepLemmas as deeds
+use Rattle.run_base_laws.proofs.InTurnStepLemmas as drafts
 use Rattle.run_ready_laws.proofs.SentLemmas.{Gave, Told, Base, AllFit, AllNew}
 use Rattle.run_ready_laws.proofs.CountLemmas.{counts, set_counts, last_counts, room_by, spare, root_few, below_room, one_less, base_is, Under, waits_child, Knows, Called, opens_parent}
 use Rattle.run_ready_laws.proofs.RoomLemmas.{way_room}
@@ -79,7 +79,7 @@ module _ (E : BranchId → Option ℕ) (A : BranchId → Option BranchId) (G Her
   abbrev Then : List Post → Live → Work → Type 0
   Then = fits.Then E A G Here input said received all came_fits
 
-  abbrev pub Leaves : Deed → Type 0
+  abbrev pub Leaves : TurnDraft → Type 0
   Leaves d = EachLive (Then d.says) d.after.lives d.after.works × AllNew said d.says
 
   module _ (k : NodeState) (now : Olds k) where
@@ -329,33 +329,33 @@ module _ (E : BranchId → Option ℕ) (A : BranchId → Option BranchId) (G Her
   -- ---- every step
 
   module _ (p : Place) (place : (b : BranchId) → b.node ≡ p.number → Here b) where
-    pub fits_on : {k : NodeState} {d : Deed} → Step p input k d → deeds.Granted E A G Here input said received d → SessionsFit k → News (deeds.NewBorn E A G Here input said received) p input k → Nodes k → Olds k → Leaves d
+    pub fits_on : {k : NodeState} {d : TurnDraft} → Step p input k d → drafts.Granted E A G Here input said received d → SessionsFit k → News (drafts.NewBorn E A G Here input said received) p input k → Nodes k → Olds k → Leaves d
     fits_on (steps.Begins {k = k} n s call rows range none step) granted ss news nodes now =
         let root = news.root n s call rows none in
-        fits_on step granted (begun_so k ss p n) (begun_news (deeds.NewBorn E A G Here input said received) p input k n news)
-        (deeds.begins_so E A G Here input said received k nodes (fresh_root p k (new_root p k n)) refl (place (new_root p k n) refl) root)
+        fits_on step granted (begun_so k ss p n) (begun_news (drafts.NewBorn E A G Here input said received) p input k n news)
+        (drafts.begins_so E A G Here input said received k nodes (fresh_root p k (new_root p k n)) refl (place (new_root p k n) refl) root)
         (each_begun Old Old k.lives k.works now (fresh_root p k (new_root p k n)) (fits.fresh_fits E A G Here input said received all came_fits said (new_root p k n) (new_root p k n) None 1 (strength_of p k)) (λ y v live any is. is))
-    fits_on (steps.Pends {k = k} n l given call has live code step) granted ss news nodes now = fits_on step granted (pends_so k ss n pending.Commit) (pends_news (deeds.NewBorn E A G Here input said received) p input k n given call news) nodes now
-    fits_on (steps.Lets_reads_go {k = k} l comment b live begins step) granted ss news nodes now = fits_on step granted (record { roots = ss.roots; above = ss.above }) (lets_news (deeds.NewBorn E A G Here input said received) p input k l.me news) nodes now
-    fits_on (steps.Counts_ack {k = k} s from kept came counted step) granted ss news nodes now = fits_on step granted (record { roots = ss.roots; above = ss.above }) (acked_news (deeds.NewBorn E A G Here input said received) p input k _ news) nodes now
+    fits_on (steps.Pends {k = k} n l given call has live code step) granted ss news nodes now = fits_on step granted (pends_so k ss n pending.Commit) (pends_news (drafts.NewBorn E A G Here input said received) p input k n given call news) nodes now
+    fits_on (steps.Lets_reads_go {k = k} l comment b live begins step) granted ss news nodes now = fits_on step granted (record { roots = ss.roots; above = ss.above }) (lets_news (drafts.NewBorn E A G Here input said received) p input k l.me news) nodes now
+    fits_on (steps.Counts_ack {k = k} s from kept came counted step) granted ss news nodes now = fits_on step granted (record { roots = ss.roots; above = ss.above }) (acked_news (drafts.NewBorn E A G Here input said received) p input k _ news) nodes now
     fits_on (steps.Sends {k = k} posts why) granted ss news nodes now = again.says_fit E A G Here input said received all came_fits k now nodes why
     fits_on (steps.Runs {k = k} x s given t asked way) granted ss news nodes now =
         let is = asked_fits k now ss nodes asked in
-        fits.answers_fit E A G Here input said received all came_fits k now (record x { live = after_run x.live (ran p k x.live.me s t) }) _ (room x.live given) (deeds.asked_mine E A G Here input said received k asked) is.0 is.1 is.2
+        fits.answers_fit E A G Here input said received all came_fits k now (record x { live = after_run x.live (ran p k x.live.me s t) }) _ (room x.live given) (drafts.asked_mine E A G Here input said received k asked) is.0 is.1 is.2
     fits_on (steps.Goes_nowhere {k = k} x s given r asked way) granted ss news nodes now =
         let is = asked_fits k now ss nodes asked in
-        fits.answers_fit E A G Here input said received all came_fits k now x _ (room x.live given) (deeds.asked_mine E A G Here input said received k asked) is.0 is.1 is.2
+        fits.answers_fit E A G Here input said received all came_fits k now x _ (room x.live given) (drafts.asked_mine E A G Here input said received k asked) is.0 is.1 is.2
     fits_on (steps.Calls {k = k} x s given i table asked way) granted ss news nodes now =
         let is = asked_fits k now ss nodes asked in
         let free : turns.FreeOf E A G Here input said x = turns.asked_free E A G Here input said received k ss nodes asked in
         let goes : Goes x.live = asked_goes k now ss nodes asked (λ root none. granted.grants x.live.me x.live (put_found live_id k.lives x.live) root (pends_code k.sessions x.live x.live.me.session ∙ none)) in
-        fits.calls E A G Here input said received all came_fits k now k.sessions x i (passed_on s table) given (deeds.asked_mine E A G Here input said received k asked) is.0 (calls_even k now ss nodes x free) (calls_made k now ss nodes x free i)
+        fits.calls E A G Here input said received all came_fits k now k.sessions x i (passed_on s table) given (drafts.asked_mine E A G Here input said received k asked) is.0 (calls_even k now ss nodes x free) (calls_made k now ss nodes x free i)
         (λ e at. inr (call_at x.work i, refl, is.2 i e at, is.1 goes i e at)) (λ so j e other at. is.1 so j e at) (λ j e other at. is.2 j e at)
     fits_on (steps.Opens {k = k} x s given node link table asked way) granted ss news nodes now =
         let is = asked_fits k now ss nodes asked in
         let says : List Post = post x.live.me (nobody_at node) (kinds.Open (next_edge x.live) x.live.root (x.live.depth + 1)) in
         let g : Going = record { statement = passed_on s table; room = given; waits = waiting.ForOpened link } in (
-          fits.put E A G Here input said received all came_fits k now says x.live (waits_for_opened x link (passed_on s table) given).work (deeds.asked_mine E A G Here input said received k asked) (tt, tt) (λ b other. silent_kind x.live.me (nobody_at node) b _ refl refl) (
+          fits.put E A G Here input said received all came_fits k now says x.live (waits_for_opened x link (passed_on s table) given).work (drafts.asked_mine E A G Here input said received k asked) (tt, tt) (λ b other. silent_kind x.live.me (nobody_at node) b _ refl refl) (
             waits_child said says x.live.me x.live.parent (count x.live) (room x.live given) x.work.came g (open_mute x.live.me (nobody_at node) (next_edge x.live) x.live.root (x.live.depth + 1) x.live.me) is.0,
             opens_parent said says (Goes x.live) x.live.me (count x.live) (room x.live given) x.live.edges (waits_for_opened x link (passed_on s table) given).work g link refl refl (way_room p k.stored.durable x.live given s node link table way) is.0.few is.1 is.2,
           ),

@@ -18,7 +18,7 @@ use Rattle.node_rules.specs.Words.{same, item_at, set_numbered, put_item, drop_i
 use Rattle.node_rules.specs.Inputs.{Came}
 use Rattle.node_rules.specs.Refusals.{dtx}
 use Rattle.session_tree.specs.Live.{is_branch, new_edge}
-use Rattle.node_rules.specs.NodeState.{NodeState, Branch, Deed, live_id, live_at}
+use Rattle.node_rules.specs.NodeState.{NodeState, Branch, TurnDraft, live_id, live_at}
 use Rattle.node_rules.specs.Statement.{ran, after_run}
 use Rattle.node_rules.specs.Sessions.{session_at, with_call, needs_rollback, no_transaction, commit_is_pending, commit_ended}
 use Rattle.node_rules.specs.Calls.{call_pends, answered_sessions, heard_sessions, is_gone, with_edge, hears_reply}
@@ -210,7 +210,7 @@ parent_some : (b : BranchId) (o : Option BranchId) → is_branch b o ≡ true �
 parent_some b o is none = let it = branch_found b o is in absurd (cc (it, none))
 
 module _ (p : Place) (input : Input) (no_call : (n : ℕ) (s : Option Stmt) → input ≡ inputs.Call n s → ⊥) where
-  pub lives_on : {k : NodeState} {d : Deed} → Step p input k d → Before input k → RollsBelow input k → SessionsFit k → NodeRoots k → RootsLive k.lives k.sessions → RootsLive d.after.lives d.after.sessions
+  pub lives_on : {k : NodeState} {d : TurnDraft} → Step p input k d → Before input k → RollsBelow input k → SessionsFit k → NodeRoots k → RootsLive k.lives k.sessions → RootsLive d.after.lives d.after.sessions
   lives_on (steps.Begins n s call rows range none step) before rolls fit roots now = absurd (no_call n (Some s) call)
   lives_on (steps.Pends n l given call has live code step) before rolls fit roots now = absurd (no_call n _ call)
   lives_on (steps.Lets_reads_go l comment site_below live begins step) before rolls fit roots now =

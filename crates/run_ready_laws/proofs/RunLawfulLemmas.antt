@@ -8,7 +8,7 @@ use Rattle.node_rules.specs.Data.inputs
 use Rattle.node_rules.specs.declared.session.PendingCall.{PendingCall}
 use Rattle.node_rules.specs.declared.session.PendingCall.TheVariants as pending
 use Rattle.node_rules.specs.Inputs.{IsSession}
-use Rattle.node_rules.specs.NodeState.{NodeState, Outcome}
+use Rattle.node_rules.specs.NodeState.{NodeState, TurnOutput}
 use Rattle.node_rules.specs.Sessions.{session_at}
 use Rattle.node_rules.specs.Turn.{turn_of, made}
 use Rattle.node_rules.specs.Data.records
@@ -62,14 +62,14 @@ flying_fate fates.Delivered is = absurd cc
 flying_fate fates.Lost is = absurd cc
 
 -- What stands before each happening.
-pub record Standing_so (places : List Place) (asked : List Command) (p : Past) : Type 0 where
+pub record KeptRow_so (places : List Place) (asked : List Command) (p : Past) : Type 0 where
   pub many : length p.facts.nodes ≡ length places
   pub free : FlyFree p.facts.net
   pub live : AllLive p.facts
   pub calls : CallsStand asked (length places) p.facts p.run_report
 
 module _ (places : List Place) (asked : List Command) (script : AreOfAScript places asked) (p : Past) (es : List Event) (bs : List Born) (born : StandBorn places asked script.each p.facts es bs)
-    (roots : RootsStand places asked script.each p.facts) (now : Standing_so places asked p) where
+    (roots : RootsStand places asked script.each p.facts) (now : KeptRow_so places asked p) where
   abbrev f : Facts
   f = p.facts
 
@@ -87,7 +87,7 @@ module _ (places : List Place) (asked : List Command) (script : AreOfAScript pla
 
   module _ (node : ℕ) (input : Input) (took : Option Took) (k : NodeState) (up : node_at f node ≡ Some k) (settled : IsSettled f) (no_start : t.start_to_stop ≡ None) (comes : Comes f k node input took)
       (fresh_is : (n s : ℕ) → is_fresh f.command t n s ≡ ((node == n) && made_by input s)) (there : (s : ℕ) → made_by input s ≡ true → called_at t.calls node s ≡ true) (quiet : is_call input ≡ false → t.next_call ≡ None) where
-    abbrev o : Outcome
+    abbrev o : TurnOutput
     o = turn_of (place_at places node) k input
 
     goes_by : (u : Turn) → u.node ≡ node → u.input ≡ input → (may : MayTurn places f u k) → GoesOn (happenings.Turn u)
@@ -276,8 +276,8 @@ many_after places asked f (happenings.Started n boot) = set_length f.nodes n _
 many_after places asked f _ = refl
 
 module _ (places : List Place) (asked : List Command) (script : AreOfAScript places asked) where
-  pub goes_on : (p : Past) (es : List Event) (bs : List Born) → StandBorn places asked script.each p.facts es bs → RootsStand places asked script.each p.facts → Standing_so places asked p → (h : Happening) → comes_next places asked p ≡ Some h
-      → MayHappen places asked p.facts h × Standing_so places asked (record { facts = facts_after places asked p.facts h; run_report = report_after places asked p.facts p.run_report h })
+  pub goes_on : (p : Past) (es : List Event) (bs : List Born) → StandBorn places asked script.each p.facts es bs → RootsStand places asked script.each p.facts → KeptRow_so places asked p → (h : Happening) → comes_next places asked p ≡ Some h
+      → MayHappen places asked p.facts h × KeptRow_so places asked (record { facts = facts_after places asked p.facts h; run_report = report_after places asked p.facts p.run_report h })
   goes_on p es bs born roots now h is =
       let goes = due_goes places asked script p es bs born roots now (due_so asked p) h is in (
         goes.0,
@@ -289,7 +289,7 @@ module _ (places : List Place) (asked : List Command) (script : AreOfAScript pla
         },
       )
 
-  run_lawful : (p : Past) (hs : List Happening) (es : List Event) (bs : List Born) → StandBorn places asked script.each p.facts es bs → RootsStand places asked script.each p.facts → Standing_so places asked p
+  run_lawful : (p : Past) (hs : List Happening) (es : List Event) (bs : List Born) → StandBorn places asked script.each p.facts es bs → RootsStand places asked script.each p.facts → KeptRow_so places asked p
       → IsTheRun places asked p hs → IsLawful places asked p.facts hs
   unfolding IsTheRun IsLawful
   run_lawful p [] es bs born roots now run = tt
@@ -322,7 +322,7 @@ module _ (places : List Place) (asked : List Command) (script : AreOfAScript pla
   map_length g [] = refl
   map_length g (x ∷ xs) = ap suc (map_length g xs)
 
-  pub first_stands : Standing_so places asked (start places)
+  pub first_stands : KeptRow_so places asked (start places)
   first_stands = record { many = map_length (λ p. Some made) places; free = tt; live = first_live places; calls = first_calls }
 
 pub the_run_is_lawful : TheRunIsLawful

@@ -7,7 +7,7 @@ use Rattle.std.specs.List.{AllByRecursion}
 use Rattle.node_rules.specs.Data.{BranchId, Place, Input}
 use Rattle.node_rules.specs.Data.inputs
 use Rattle.node_rules.specs.Data.stmts
-use Rattle.node_rules.specs.NodeState.{NodeState, Outcome}
+use Rattle.node_rules.specs.NodeState.{NodeState, TurnOutput}
 use Rattle.node_rules.specs.Sessions.{session_at}
 use Rattle.run_rules.specs.Data.{Took, Turn, Command}
 use Rattle.run_rules.specs.Data.happenings
@@ -87,7 +87,7 @@ module _ (t : RunReport) where
   input_same running node (inputs.Message m) = same_calls t
   input_same running node inputs.Reco = same_calls t
 
-turn_same : (t : RunReport) (n : ℕ) (input : Input) (k : NodeState) (o : Outcome) (took : Option Took) → SameCalls t (delivered_more (turn_appends t n input (Some k) (Some o)) took)
+turn_same : (t : RunReport) (n : ℕ) (input : Input) (k : NodeState) (o : TurnOutput) (took : Option Took) → SameCalls t (delivered_more (turn_appends t n input (Some k) (Some o)) took)
 turn_same t n input k o took =
     let u : RunReport = cut_appends t n (is_some o.wrote) (cut_by t n k input o) in
     let v : RunReport = arms u n k input in
@@ -115,7 +115,7 @@ module _ (places : List Place) (asked : List Command) (f : Facts) (t : RunReport
   module _ (u : Turn) (k : NodeState) (up : node_at f u.node ≡ Some k) (settled : IsSettled f) (no_start : t.start_to_stop ≡ None)
       (fresh_is : (n s : ℕ) → is_fresh f.command t n s ≡ ((u.node == n) && made_by u.input s)) (there : (s : ℕ) → made_by u.input s ≡ true → called_at t.calls u.node s ≡ true)
       (quiet : is_call u.input ≡ false → t.next_call ≡ None) where
-    abbrev o : Outcome
+    abbrev o : TurnOutput
     o = turn_of (place_at places u.node) k u.input
 
     abbrev t3 : RunReport

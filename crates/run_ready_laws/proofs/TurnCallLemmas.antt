@@ -13,13 +13,13 @@ use Rattle.node_rules.specs.declared.session.PendingCall.TheVariants as pending
 use Rattle.node_rules.specs.declared.session.Session.{Session}
 use Rattle.node_rules.specs.declared.session.Finished.{Finished}
 use Rattle.node_rules.specs.Inputs.{IsFit}
-use Rattle.node_rules.specs.NodeState.{NodeState, Deed}
+use Rattle.node_rules.specs.NodeState.{NodeState, TurnDraft}
 use Rattle.node_rules.specs.Sessions.{fresh_session, session_at, commit_is_pending, commit_answer}
 use Rattle.node_rules.specs.Calls.{answer_ends, hears_reply}
 use Rattle.node_rules.specs.Statement.{ran, after_run}
 use Rattle.node_rules.specs.Prepare.{abandon_ends, is_alone, act_turn}
 use Rattle.node_rules.specs.Commit.{decision_answers}
-use Rattle.node_rules.specs.Turn.{turn_of, start_of, heard, deed_of}
+use Rattle.node_rules.specs.Turn.{turn_of, start_of, heard, draft_of}
 use Rattle.node_rules.proofs.Steps as steps
 use Rattle.node_rules.proofs.Steps.{Step}
 use Rattle.agreement.specs.Events.{Event}
@@ -82,7 +82,7 @@ act_few k l site_below (acts.SealAndPass i) = tt
 forced_few : (ss : List Session) (b : BranchId) (r : _) (g : Finished) → EndsFew (commit_answer ss b (answers.Refused r) ++ g ∷ [])
 forced_few ss b r g = cond_both (commit_is_pending ss b) _ [] (λ fs. EndsFew (fs ++ g ∷ [])) (λ is. refl) (λ other. tt)
 
-pub few_on : (p : Place) (input : Input) {k : NodeState} {d : Deed} → Step p input k d → EndsFew d.ended
+pub few_on : (p : Place) (input : Input) {k : NodeState} {d : TurnDraft} → Step p input k d → EndsFew d.ended
 few_on p input (steps.Begins n s call rows range none step) = few_on p input step
 few_on p input (steps.Pends n l given call has live code step) = few_on p input step
 few_on p input (steps.Lets_reads_go l comment site_below live begins step) = few_on p input step
@@ -120,8 +120,8 @@ or_false false = refl
 module _ (p : Place) (k : NodeState) (now : NodeRests k) (live : RootsLive k.lives k.sessions) where
   -- an input that is no call
   other_leaves : (input : Input) → ((n : ℕ) (s : Option Stmt) → input ≡ inputs.Call n s → ⊥) → ((m : ℕ) → made_by input m ≡ false) → (heard k input).sessions ≡ k.sessions → (heard k input).lives ≡ k.lives
-      → Before input k → RollsBelow input (heard k input) → Step p input (heard k input) (deed_of p k input)
-      → EndsSo (λ m. pends_at k.sessions m || made_by input m) (deed_of p k input).after.sessions (deed_of p k input).ended × RootsLive (deed_of p k input).after.lives (deed_of p k input).after.sessions
+      → Before input k → RollsBelow input (heard k input) → Step p input (heard k input) (draft_of p k input)
+      → EndsSo (λ m. pends_at k.sessions m || made_by input m) (draft_of p k input).after.sessions (draft_of p k input).ended × RootsLive (draft_of p k input).after.lives (draft_of p k input).after.sessions
   other_leaves input no_call none sessions lives before rolls step =
       let next : NodeRests (heard k input) = heard_rests k input now in
       let before_it : Before input (heard k input) = heard_before k input input before in
@@ -133,7 +133,7 @@ module _ (p : Place) (k : NodeState) (now : NodeRests k) (live : RootsLive k.liv
       )
 
   pub turn_leaves : (input : Input) → IsFit input → ((n : ℕ) (s : Option Stmt) → input ≡ inputs.Call n s → (session_at k.sessions n).call ≡ pending.NoCall) → Before input k → RollsBelow input k
-      → Step p input (heard k input) (deed_of p k input) → TurnLeaves k input (deed_of p k input).after (deed_of p k input).ended
+      → Step p input (heard k input) (draft_of p k input) → TurnLeaves k input (draft_of p k input).after (draft_of p k input).ended
   turn_leaves (inputs.Call n s) fit free before rolls step =
       let is = read_so p k n now.0 fit live (free n s refl) s in record { ends = is.ends; few = few_on p (inputs.Call n s) step; lives = is.lives }
   turn_leaves (inputs.GiveUp n) fit free before rolls step =

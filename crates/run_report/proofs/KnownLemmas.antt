@@ -5,7 +5,7 @@ use Rattle.node_rules.specs.Data.{Place, Stmt, Input, RedoRecord}
 use Rattle.node_rules.specs.Data.inputs
 use Rattle.node_rules.specs.Data.stmts
 use Rattle.node_rules.specs.Sessions.{session_at}
-use Rattle.node_rules.specs.NodeState.{NodeState, Outcome}
+use Rattle.node_rules.specs.NodeState.{NodeState, TurnOutput}
 use Rattle.node_rules.specs.Points.{Passes, passes}
 use Rattle.run_rules.specs.Data.{Finished, Command, Session, Turn}
 use Rattle.run_rules.specs.Data.commands
@@ -91,7 +91,7 @@ before_is t n wrote None = writes_is t n None wrote
 before_is t n wrote (Some x) = rw (writes_is t n (Some x) wrote) refl
 
 -- what cuts a turn
-cut_is : (t : RunReport) (n : ℕ) (k : NodeState) (input : Input) (o : Outcome) → cut_of t n (is_some o.wrote) (passes k input o) ≡ cut_by t n k input o
+cut_is : (t : RunReport) (n : ℕ) (k : NodeState) (input : Input) (o : TurnOutput) → cut_of t n (is_some o.wrote) (passes k input o) ≡ cut_by t n k input o
 unfolding cut_by
 cut_is t n k input o = before_is t n o.wrote (passes k input o)
 
@@ -103,7 +103,7 @@ arms_is : (t : RunReport) (n : ℕ) (k : NodeState) (input : Input) (caller : Se
 arms_is t n k (inputs.Call session (Some (stmts.Commit (Some comment)))) caller h = rw (h session (Some (stmts.Commit (Some comment))) refl) refl
 arms_is t n k _ caller h = refl
 
-ends_are : (running : ℕ) (t : RunReport) (u : Turn) (o : Outcome) (ended : List Finished) (cut : Bool) → (cut ≡ false → ended ≡ o.ended) → ends_by running t u ended cut ≡ ends_calls running t u cut (Some o)
+ends_are : (running : ℕ) (t : RunReport) (u : Turn) (o : TurnOutput) (ended : List Finished) (cut : Bool) → (cut ≡ false → ended ≡ o.ended) → ends_by running t u ended cut ≡ ends_calls running t u cut (Some o)
 ends_are running t u o ended true h = refl
 ends_are running t u o ended false h = rw (h refl) refl
 

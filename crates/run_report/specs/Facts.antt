@@ -3,7 +3,7 @@ use Rattle.std.specs.Prelude.{◌≡◌, ℕ, Bool, false, List, length, slice_g
 use Rattle.node_rules.specs.Data.{Place, Stmt, Input}
 use Rattle.node_rules.specs.Data.inputs
 use Rattle.node_rules.specs.Sessions.{session_at}
-use Rattle.node_rules.specs.NodeState.{NodeState, Outcome}
+use Rattle.node_rules.specs.NodeState.{NodeState, TurnOutput}
 use Rattle.node_rules.specs.Points.{Passes, passes}
 use Rattle.node_points.specs.Passing.{passes_as}
 use Rattle.net_bag.specs.Net.{first_flying}
@@ -48,7 +48,7 @@ pub record KnownAtStop (f : Facts) (n : ℕ) (facts : StopFacts) : Type 0 where
   pub owed : facts.is_owed ≡ is_some f.node_to_stop
 
 -- This is known of a turn of a node that kept this, and that came to this; the calls that it ended, unless it was cut.
-pub record KnownOfTurn (k : NodeState) (u : Turn) (o : Outcome) (facts : TurnFacts) : Type 0 where
+pub record KnownOfTurn (k : NodeState) (u : Turn) (o : TurnOutput) (facts : TurnFacts) : Type 0 where
   pub caller : (session : ℕ) (statement : Option Stmt) → u.input ≡ inputs.Call session statement → facts.caller ≡ session_at k.sessions session
   pub writes : facts.writes ≡ is_some o.wrote
   pub passed : option_map passes_as facts.passes ≡ passes k u.input o
@@ -84,11 +84,11 @@ ReportsStart t n name after = (places : List Place) → name ≡ node_name place
 
 -- what is told after a turn
 abbrev pub ReportsTurn : TurnFacts → ℕ → RunReport → Turn → RunReport → Type 0
-ReportsTurn facts running t u after = (k : NodeState) (o : Outcome) → KnownOfTurn k u o facts → after ≡ report_turned running (Some k) t u (Some o)
+ReportsTurn facts running t u after = (k : NodeState) (o : TurnOutput) → KnownOfTurn k u o facts → after ≡ report_turned running (Some k) t u (Some o)
 
 -- what cuts a turn
 abbrev pub Cuts : RunReport → ℕ → Bool → Option Passes → Cut_by → Type 0
-Cuts t n writes passed cut = (k : NodeState) (input : Input) (o : Outcome) → writes ≡ is_some o.wrote → passed ≡ passes k input o → cut ≡ cut_by t n k input o
+Cuts t n writes passed cut = (k : NodeState) (input : Input) (o : TurnOutput) → writes ≡ is_some o.wrote → passed ≡ passes k input o → cut ≡ cut_by t n k input o
 
 -- what is due next
 abbrev pub IsDue : DueFacts → RunReport → Command → DueByRules → Type 0

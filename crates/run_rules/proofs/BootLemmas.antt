@@ -8,7 +8,7 @@ use Rattle.node_rules.specs.Data.params
 use Rattle.node_rules.specs.Data.records
 use Rattle.node_rules.specs.Data.acts
 use Rattle.commit_forget.specs.declared.next.Next.TheVariants as nexts
-use Rattle.node_rules.specs.NodeState.{NodeState, Stored, Deed}
+use Rattle.node_rules.specs.NodeState.{NodeState, Stored, TurnDraft}
 use Rattle.node_rules.specs.Records.{applied, nothing_stored, stored_by}
 use Rattle.node_rules.proofs.Steps as steps
 use Rattle.node_rules.proofs.Steps.{Step}
@@ -21,7 +21,7 @@ IsOfTurn (records.Boot n) = ⊥
 IsOfTurn _ = Unit {0}
 
 -- no step writes it
-pub step_of_turn : (p : Place) (input : Input) {k : NodeState} {d : Deed} → Step p input k d → IfSome d.wrote IsOfTurn
+pub step_of_turn : (p : Place) (input : Input) {k : NodeState} {d : TurnDraft} → Step p input k d → IfSome d.wrote IsOfTurn
 step_of_turn p input (steps.Begins n s call rows fit none step) = step_of_turn p input step
 step_of_turn p input (steps.Pends n l given call has live code step) = step_of_turn p input step
 step_of_turn p input (steps.Lets_reads_go l comment site_below live begins step) = step_of_turn p input step

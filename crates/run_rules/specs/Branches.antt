@@ -7,11 +7,11 @@
 pub use Rattle.agreement.specs.Events.{Exit, Sealed, Decided, Quiet, Dropped}
 use Rattle.std.specs.Prelude.{ℕ, ◌==◌, ◌&&◌, Bool, false, if◌then◌else◌, List, [], ◌∷◌, ◌++◌, filter, find, flat_map, is_none, Option, Some, None}
 use Rattle.std.specs.List.{list_any, list_all}
-use Rattle.node_rules.specs.Data.{Value, Change, Table, Stmt, BranchId, Standing}
+use Rattle.node_rules.specs.Data.{Value, Change, Table, Stmt, BranchId, KeptRow}
 use Rattle.node_rules.specs.Words.{same, item_at}
 use Rattle.row_locks.specs.Locks.{Lock, keys_held}
 use Rattle.redo_record.specs.Durable.{durable}
-use Rattle.node_rules.specs.NodeState.{standing_id}
+use Rattle.node_rules.specs.NodeState.{kept_row_id}
 use Rattle.run_rules.specs.Facts.{Facts, records_at}
 
 -- A run of a statement at its table.
@@ -38,7 +38,7 @@ pub record Seen : Type 0 where
   pub held : List Lock
 
 -- One branch of a session tree, as it stood when the COMMIT was accepted.
-pub record Planned : Type 0 where
+pub record PlannedBranch : Type 0 where
   pub me : BranchId
   pub parent : Option BranchId
   pub children : List BranchId
@@ -47,10 +47,10 @@ pub record Planned : Type 0 where
   pub toward : Option BranchId  -- its neighbour on the way to the site, and nobody at the site
 
 -- The session tree of a COMMIT, when it was accepted.
-pub record Plan : Type 0 where
+pub record CommitPlan : Type 0 where
   pub root : BranchId
   pub site : Option BranchId
-  pub tree : List Planned  -- the root first
+  pub tree : List PlannedBranch  -- the root first
 
 -- A Reply and the run that its answer came from.
 pub record Origin : Type 0 where
@@ -62,7 +62,7 @@ pub record Trail : Type 0 where
   pub moment : ℕ  -- so many happenings
   pub seen : List Seen  -- in the order in which they began
   pub origins : List Origin
-  pub plans : List Plan
+  pub plans : List CommitPlan
 
 -- before anything happened
 abbrev pub no_trail : Trail
@@ -154,11 +154,11 @@ abbrev pub root_at : Trail → ℕ → ℕ → Option Seen
 root_at tr n session = find (is_root_of n session) tr.seen
 
 -- whether a plan is of this root
-abbrev pub is_plan_of : BranchId → Plan → Bool
+abbrev pub is_plan_of : BranchId → CommitPlan → Bool
 is_plan_of root p = same p.root root
 
 -- the plan of a transaction whose COMMIT was accepted
-abbrev pub plan_at : Trail → BranchId → Option Plan
+abbrev pub plan_at : Trail → BranchId → Option CommitPlan
 plan_at tr root = find (is_plan_of root) tr.plans
 
 -- the run that a Reply came from
@@ -178,14 +178,14 @@ pub data Life : Type 0 where
   Gone : Life  -- it is neither
 
 -- by the records of its node
-abbrev pub life_kept : Option Standing → Life
+abbrev pub life_kept : Option KeptRow → Life
 life_kept None = Gone
 life_kept (Some row) = Kept
 
 -- the same of a branch that began, or did not
 abbrev pub life_of : Facts → BranchId → Option Seen → Life
 life_of f b None = Unborn
-life_of f b (Some s) = if is_live s then Live else life_kept (item_at standing_id (durable (records_at f b.node)).kept b)
+life_of f b (Some s) = if is_live s then Live else life_kept (item_at kept_row_id (durable (records_at f b.node)).kept b)
 
 -- what a branch is now
 unfoldable pub life_at : Facts → Trail → BranchId → Life

@@ -5,7 +5,7 @@ use Rattle.node_rules.specs.Data.{RedoRecord, BranchId, Input}
 use Rattle.node_rules.specs.Data.stmts
 use Rattle.node_rules.specs.Data.inputs
 use Rattle.node_rules.specs.Sessions.{session_at}
-use Rattle.node_rules.specs.NodeState.{NodeState, Outcome}
+use Rattle.node_rules.specs.NodeState.{NodeState, TurnOutput}
 use Rattle.node_rules.specs.Points.{Point, Passes, point_of, passes, is_armed, reaches}
 use Rattle.run_rules.specs.Disks.{Strike, struck, after_append}
 use Rattle.run_rules.specs.Calls.{call_at}
@@ -38,7 +38,7 @@ cut_before t n wrote None = cut_write t n None wrote
 cut_before t n wrote (Some x) = if reaches t.points x.root x.before then By_point x.root x.before false else cut_write t n (Some x) wrote
 
 -- what cuts this turn of a node
-unfoldable pub cut_by : RunReport → ℕ → NodeState → Input → Outcome → Cut_by
+unfoldable pub cut_by : RunReport → ℕ → NodeState → Input → TurnOutput → Cut_by
 cut_by t n k input o = cut_before t n o.wrote (passes k input o)
 
 -- the points of these numbers are reached, each once
@@ -71,6 +71,6 @@ arms t n k (inputs.Call session (Some (stmts.Commit (Some comment)))) =
 arms t n k _ = t
 
 -- the disk's orders and the points after a turn that came to this
-abbrev pub turn_appends : RunReport → ℕ → Input → Option NodeState → Option Outcome → RunReport
+abbrev pub turn_appends : RunReport → ℕ → Input → Option NodeState → Option TurnOutput → RunReport
 turn_appends t n input (Some k) (Some o) = arms (cut_appends t n (is_some o.wrote) (cut_by t n k input o)) n k input
 turn_appends t n input _ _ = t

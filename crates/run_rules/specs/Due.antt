@@ -3,7 +3,7 @@
 use Rattle.std.specs.Prelude.{◌≡◌, ℕ, ◌+◌, ◌==◌, ◌&&◌, not, Bool, true, false, if◌then◌else◌, List, [], ◌∷◌, ◌++◌, length, min, nat_lt, is_some, option_to_list, Option, Some, None}
 use Rattle.node_rules.specs.Data.{Place, Input}
 use Rattle.node_rules.specs.Data.inputs
-use Rattle.node_rules.specs.NodeState.{NodeState, Outcome}
+use Rattle.node_rules.specs.NodeState.{NodeState, TurnOutput}
 use Rattle.node_rules.specs.Turn.{turn_of}
 use Rattle.run_rules.specs.Data.{Packet, Took, Happening, Command}
 use Rattle.run_rules.specs.Data.happenings
@@ -119,21 +119,21 @@ due_of asked p =
     first_losses (falls_first (falls_first (follows_first (acts_once asked p.facts p.run_report) p.run_report.next_call) p.run_report.start_to_stop) p.facts.node_to_stop) p.facts.losses_to_report
 
 -- a whole turn
-abbrev pub whole_turn : ℕ → Input → Option Took → Outcome → Happening
+abbrev pub whole_turn : ℕ → Input → Option Took → TurnOutput → Happening
 whole_turn node input took o = happenings.Turn (record { node = node; input = input; took = took; wrote = o.wrote; sent = o.sent; cut = false })
 
 -- of a cut turn the record stands or not, and nothing is sent
-abbrev pub cut_turn : ℕ → Input → Option Took → Outcome → Bool → Happening
+abbrev pub cut_turn : ℕ → Input → Option Took → TurnOutput → Bool → Happening
 cut_turn node input took o stands = happenings.Turn (record { node = node; input = input; took = took; wrote = if stands then o.wrote else None; sent = []; cut = true })
 
 -- a turn, cut or whole
-abbrev pub turn_by : ℕ → Input → Option Took → Outcome → Cut_by → Happening
+abbrev pub turn_by : ℕ → Input → Option Took → TurnOutput → Cut_by → Happening
 turn_by node input took o By_nothing = whole_turn node input took o
 turn_by node input took o (By_strike stands) = cut_turn node input took o stands
 turn_by node input took o (By_point root numbers stands) = cut_turn node input took o stands
 
 -- a turn that came to this
-abbrev pub turn_comes : RunReport → ℕ → Input → Option Took → NodeState → Outcome → Happening
+abbrev pub turn_comes : RunReport → ℕ → Input → Option Took → NodeState → TurnOutput → Happening
 turn_comes t node input took k o = turn_by node input took o (cut_by t node k input o)
 
 -- a turn of a node that is up

@@ -4,7 +4,7 @@ use Rattle.std.specs.Prelude.{ℕ, Bool, true, false, if◌then◌else◌, List,
 use Rattle.node_rules.specs.Data.{RedoRecord, Place, Input}
 use Rattle.node_rules.specs.Data.records
 use Rattle.node_rules.specs.Words.{numbered, set_numbered}
-use Rattle.node_rules.specs.NodeState.{NodeState, Outcome}
+use Rattle.node_rules.specs.NodeState.{NodeState, TurnOutput}
 use Rattle.node_rules.specs.Turn.{turn_of, start_of, made}
 use Rattle.run_rules.specs.Data.{Took, Turn, Happening, Entry, Command}
 use Rattle.run_rules.specs.Data.happenings
@@ -69,16 +69,16 @@ abbrev pub command_at : List Command → ℕ → Command
 command_at asked c = unwrap_or (numbered asked c) commands.ShowBook
 
 -- what a node that is up does about an input
-abbrev pub served : Place → Input → Option NodeState → Option Outcome
+abbrev pub served : Place → Input → Option NodeState → Option TurnOutput
 served p input None = None
 served p input (Some k) = Some (turn_of p k input)
 
 -- what the node of a turn does
-abbrev pub outcome_at : List Place → Facts → Turn → Option Outcome
+abbrev pub outcome_at : List Place → Facts → Turn → Option TurnOutput
 outcome_at places f t = served (place_at places t.node) t.input (node_at f t.node)
 
 -- what a node keeps after a turn, unless it was cut
-abbrev pub kept_after : Bool → Option Outcome → Option NodeState
+abbrev pub kept_after : Bool → Option TurnOutput → Option NodeState
 kept_after true o = None
 kept_after false None = None
 kept_after false (Some o) = Some o.after
@@ -93,7 +93,7 @@ abbrev pub to_stop_after : Turn → Option ℕ
 to_stop_after t = if t.cut then Some t.node else None
 
 -- a turn that came to this, unless it was cut
-abbrev pub facts_turned : Facts → Turn → Option Outcome → Facts
+abbrev pub facts_turned : Facts → Turn → Option TurnOutput → Facts
 facts_turned f t o = record f {
   nodes = set_numbered f.nodes t.node (kept_after t.cut o);
   records = set_numbered f.records t.node (records_at f t.node ++ option_to_list t.wrote);

@@ -3,7 +3,7 @@ use Rattle.std.specs.Prelude.{ℕ, ◌+◌, ◌==◌, ◌&&◌, Bool, true, fals
 use Rattle.node_rules.specs.Data.{Input, Place}
 use Rattle.node_rules.specs.Data.inputs
 use Rattle.node_rules.specs.Words.{one}
-use Rattle.node_rules.specs.NodeState.{NodeState, Outcome}
+use Rattle.node_rules.specs.NodeState.{NodeState, TurnOutput}
 use Rattle.run_rules.specs.Data.{Took, Turn, Happening, Said, Command}
 use Rattle.run_rules.specs.Data.happenings
 use Rattle.run_rules.specs.Data.commands
@@ -32,7 +32,7 @@ abbrev pub without_following : RunReport → Input → RunReport
 without_following t input = if is_call input then record t { next_call = None } else t
 
 -- the calls that a turn ended, unless it was cut
-abbrev pub ends_calls : ℕ → RunReport → Turn → Bool → Option Outcome → RunReport
+abbrev pub ends_calls : ℕ → RunReport → Turn → Bool → Option TurnOutput → RunReport
 ends_calls running t u true o = t
 ends_calls running t u false None = t
 ends_calls running t u false (Some o) = after_input running (finished running t u.node o.ended) u.node u.input
@@ -42,11 +42,11 @@ abbrev pub acts : RunReport → RunReport
 acts t = record t { acted = true }
 
 -- a turn at a node that kept this, and that came to this
-abbrev pub report_turned : ℕ → Option NodeState → RunReport → Turn → Option Outcome → RunReport
+abbrev pub report_turned : ℕ → Option NodeState → RunReport → Turn → Option TurnOutput → RunReport
 report_turned running k t u o = acts (ends_calls running (without_following (delivered_more (turn_appends t u.node u.input k o) u.took) u.input) u u.cut o)
 
 -- what a turn comes to is worked out once
-abbrev pub turned : Past → Turn → Option Outcome → Past
+abbrev pub turned : Past → Turn → Option TurnOutput → Past
 turned p u o = record { facts = facts_turned p.facts u o; run_report = report_turned p.facts.command (node_at p.facts u.node) p.run_report u o }
 
 -- ---- stops and starts

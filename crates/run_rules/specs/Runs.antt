@@ -10,7 +10,7 @@ use Rattle.node_rules.specs.Words.{same_text}
 use Rattle.node_rules.specs.Rows.{apply}
 use Rattle.node_rules.specs.Meaning.{Meant, Changes, meant, written}
 use Rattle.node_rules.specs.Names.{table_of, ref_of}
-use Rattle.node_rules.specs.NodeState.{Outcome}
+use Rattle.node_rules.specs.NodeState.{TurnOutput}
 use Rattle.redo_record.specs.Durable.{durable}
 use Rattle.row_locks.specs.Locks.{Lock}
 use Rattle.stmt_run.specs.Run.{take_keys}
@@ -101,7 +101,7 @@ answer_or None other = other
 answer_or (Some a) other = Some a
 
 -- what a turn answers to the statement that came to its branch
-abbrev pub answered_by : Option Outcome → Option Answer
+abbrev pub answered_by : Option TurnOutput → Option Answer
 answered_by None = None
 answered_by (Some o) = answer_or (ended_answer o.ended) (replied_answer o.sent)
 

@@ -9,13 +9,13 @@ use Rattle.node_rules.specs.Data.stmts
 use Rattle.node_rules.specs.Data.inputs
 use Rattle.session_tree.specs.Live.{is_branch}
 use Rattle.node_rules.specs.Words.{same}
-use Rattle.node_rules.specs.NodeState.{Outcome}
+use Rattle.node_rules.specs.NodeState.{TurnOutput}
 use Rattle.row_locks.specs.Locks.{Lock, without_reads}
 use Rattle.run_rules.specs.Data.{Command, Entry, Finished, Took, Turn, Happening}
 use Rattle.run_rules.specs.Data.happenings
 use Rattle.run_rules.specs.Lawful.{boots}
 use Rattle.run_rules.specs.Facts.{Facts, records_at, outcome_at, facts_after}
-use Rattle.run_rules.specs.Branches.{Exit, Sealed, Decided, Quiet, Dropped, Run, Seen, Trail, Plan, Origin, newly_seen, seen_at, is_live, root_at, is_root_of, is_among, with_once, all_voted, plan_at, origin_at, is_live_at}
+use Rattle.run_rules.specs.Branches.{Exit, Sealed, Decided, Quiet, Dropped, Run, Seen, Trail, CommitPlan, Origin, newly_seen, seen_at, is_live, root_at, is_root_of, is_among, with_once, all_voted, plan_at, origin_at, is_live_at}
 use Rattle.run_rules.specs.Tree.{plan}
 use Rattle.run_rules.specs.Runs.{Asking, asks, is_of_rows, run_in, answered_by, is_accepted, own_after, held_after}
 
@@ -165,7 +165,7 @@ abbrev pub message_drops : Seen → Msg → Bool
 message_drops s m = (same m.to s.me && kind_drops s m.from m.kind) || (is_first_vote s m && is_abort m.kind)
 
 -- whether a COMMIT was accepted whose session tree has no site, since none of its branches has changes
-abbrev pub has_no_site : Option Plan → Bool
+abbrev pub has_no_site : Option CommitPlan → Bool
 has_no_site None = false
 has_no_site (Some p) = is_none p.site
 
@@ -225,12 +225,12 @@ is_reply (kinds.Reply call weight count a) = true
 is_reply _ = false
 
 -- the calls that a turn ends
-abbrev pub ended_by : Option Outcome → List Finished
+abbrev pub ended_by : Option TurnOutput → List Finished
 ended_by None = []
 ended_by (Some o) = o.ended
 
 -- whether a branch answers in a turn, to its parent or to its client
-abbrev pub answers : Turn → Option Outcome → Seen → Bool
+abbrev pub answers : Turn → Option TurnOutput → Seen → Bool
 answers u o s = list_any (λ m. same m.from s.me && is_reply m.kind) u.sent || list_any (λ x. is_root_of u.node x.session s) (ended_by o)
 
 -- the Replies of a turn, whose first message has this number, with the run that they come from
@@ -248,7 +248,7 @@ pub record Brought : Type 0 where
   pub origin : Option Run
 
 -- what a turn that came to this brings
-abbrev pub brought_by : Facts → Trail → Turn → Option Outcome → Brought
+abbrev pub brought_by : Facts → Trail → Turn → Option TurnOutput → Brought
 brought_by f tr u o = record {
   asking = asks tr u.node u.input;
   run = run_in f tr u;
@@ -271,7 +271,7 @@ abbrev pub held_on : Bool → BranchId → List Lock → List Lock
 held_on collects b held = if collects then without_reads held b else held
 
 -- a branch after a turn, apart from its exit
-abbrev pub with_turn : List Entry → Turn → Option Outcome → Brought → Seen → Seen
+abbrev pub with_turn : List Entry → Turn → Option TurnOutput → Brought → Seen → Seen
 with_turn book u o brings s = record s {
   taken = taken_after s u.input;
   asked = asked_after s brings.asking;
@@ -285,11 +285,11 @@ with_turn book u o brings s = record s {
 }
 
 -- a branch after a turn
-abbrev pub after_turn : List Entry → Trail → Turn → Option Outcome → Brought → Seen → Seen
+abbrev pub after_turn : List Entry → Trail → Turn → Option TurnOutput → Brought → Seen → Seen
 after_turn book tr u o brings s = record (with_turn book u o brings s) { exit = exit_after tr u s (with_turn book u o brings s) s.exit }
 
 -- the plan of a COMMIT that is accepted
-abbrev pub planned_by : List Place → Trail → ℕ → Option Answer → Input → Option Seen → List Plan
+abbrev pub planned_by : List Place → Trail → ℕ → Option Answer → Input → Option Seen → List CommitPlan
 planned_by places tr n answer input None = []
 planned_by places tr n answer input (Some s) = if commits n answer s input then plan places tr s.me ∷ [] else []
 
@@ -307,11 +307,11 @@ abbrev pub with_begun : Facts → Trail → Turn → Trail
 with_begun f tr u = record tr { seen = tr.seen ++ begun_in_turn f tr u }
 
 -- every branch after a turn, once those that begin and the plan stand
-abbrev pub with_all : Facts → Trail → Turn → Option Outcome → Brought → Trail
+abbrev pub with_all : Facts → Trail → Turn → Option TurnOutput → Brought → Trail
 with_all f tr u o brings = record tr { moment = tr.moment + 1; seen = map (after_turn f.book tr u o brings) tr.seen; origins = tr.origins ++ origins_of (length f.net.packets + 1) brings.origin u.sent }
 
 -- a turn that came to this
-abbrev pub trail_turned : List Place → Facts → Trail → Turn → Option Outcome → Trail
+abbrev pub trail_turned : List Place → Facts → Trail → Turn → Option TurnOutput → Trail
 trail_turned places f tr u o = with_all f (with_plan places (with_begun f tr u) u (answered_by o)) u o (brought_by f (with_begun f tr u) u o)
 
 -- ---- each happening

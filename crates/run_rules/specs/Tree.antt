@@ -8,7 +8,7 @@ use Rattle.node_rules.specs.Data.walks
 use Rattle.node_rules.specs.Words.{same, numbered}
 use Rattle.session_tree.specs.Tree.{place_of_greatest, weight_by, walk_by}
 use Rattle.run_rules.specs.Facts.{place_at}
-use Rattle.run_rules.specs.Branches.{Seen, Trail, Plan, Planned, seen_at, own_at, children_at, is_among}
+use Rattle.run_rules.specs.Branches.{Seen, Trail, CommitPlan, PlannedBranch, seen_at, own_at, children_at, is_among}
 
 -- whether a branch has changes
 abbrev pub has_changes : Trail → BranchId → Bool
@@ -86,7 +86,7 @@ parent_of None = None
 parent_of (Some s) = s.parent
 
 -- a branch of the tree, with the walk to the site
-abbrev pub planned : List Place → Trail → List BranchId → BranchId → Planned
+abbrev pub planned : List Place → Trail → List BranchId → BranchId → PlannedBranch
 planned places tr path b = record {
   me = b;
   parent = parent_of (seen_at tr b);
@@ -97,5 +97,5 @@ planned places tr path b = record {
 }
 
 -- the plan of a COMMIT at this root
-unfoldable pub plan : List Place → Trail → BranchId → Plan
+unfoldable pub plan : List Place → Trail → BranchId → CommitPlan
 plan places tr root = record { root = root; site = site places tr root; tree = map (planned places tr (walk places tr root)) (tree tr root) }

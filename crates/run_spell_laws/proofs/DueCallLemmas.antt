@@ -7,7 +7,7 @@ use Rattle.std.proofs.lemmas.Bool.{cond_both}
 use Rattle.sql_print.specs.Printing.{IsPrintable}
 use Rattle.node_rules.specs.Data.{Stmt, Place, Input}
 use Rattle.node_rules.specs.Data.inputs
-use Rattle.node_rules.specs.NodeState.{NodeState, Outcome}
+use Rattle.node_rules.specs.NodeState.{NodeState, TurnOutput}
 use Rattle.node_rules.specs.Turn.{turn_of}
 use Rattle.tran_ids.specs.Listed.{numbered}
 use Rattle.net_bag.specs.Net.{first_flying, may_deliver, may_repeat, packet_at}
@@ -110,7 +110,7 @@ module _ (places : List Place) (f : Facts) where
   is_this : (g h : Happening) → CallsAreSpelled places f g → Some g ≡ Some h → CallsAreSpelled places f h
   is_this g h spelled is = subst (CallsAreSpelled places f) (let it : g ≡ h = cc in it) spelled
 
-  cut_is : (node : ℕ) (input : Input) (took : Option Took) (o : Outcome) (c : Cut_by) → CallIsSpelled input → CallsAreSpelled places f (turn_by node input took o c)
+  cut_is : (node : ℕ) (input : Input) (took : Option Took) (o : TurnOutput) (c : Cut_by) → CallIsSpelled input → CallsAreSpelled places f (turn_by node input took o c)
   cut_is node input took o By_nothing spelled = spelled
   cut_is node input took o (By_strike stands) spelled = spelled
   cut_is node input took o (By_point root numbers stands) spelled = spelled
@@ -118,7 +118,7 @@ module _ (places : List Place) (f : Facts) where
   turn_is : (t : RunReport) (node : ℕ) (input : Input) (took : Option Took) (o : Option NodeState) (h : Happening) → CallIsSpelled input → turn_at places t node input took o ≡ Some h → CallsAreSpelled places f h
   turn_is t node input took None h spelled is = absurd cc
   turn_is t node input took (Some k) h spelled is =
-      let o : Outcome = turn_of (place_at places node) k input in
+      let o : TurnOutput = turn_of (place_at places node) k input in
       is_this (turn_by node input took o (cut_by t node k input o)) h (cut_is node input took o (cut_by t node k input o) spelled) is
 
   start_is : (g : Facts) (n : ℕ) (o : Option Strike) → CallsAreSpelled places f (start_by g n o)

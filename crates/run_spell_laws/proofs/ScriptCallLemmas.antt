@@ -12,7 +12,7 @@ use Rattle.sql_print.proofs.RoundTrip.{printed_again}
 use Rattle.node_rules.specs.Data.{Stmt, BranchId, Place, Input}
 use Rattle.node_rules.specs.Data.inputs
 use Rattle.node_rules.specs.Data.stmts
-use Rattle.node_rules.specs.NodeState.{NodeState, Outcome}
+use Rattle.node_rules.specs.NodeState.{NodeState, TurnOutput}
 use Rattle.node_rules.specs.Sessions.{session_at}
 use Rattle.node_ready_laws.proofs.ListLemmas.{all_last}
 use Rattle.run_rules.specs.Data.{Took, Turn, Happening, Command, Finished}
@@ -110,7 +110,7 @@ module _ (running : ℕ) where
   input_are t node (inputs.Message m) now = now
   input_are t node inputs.Reco now = now
 
-  ends_are : (t : RunReport) (u : Turn) (cut : Bool) (o : Option Outcome) → CallsAre t → CallsAre (ends_calls running t u cut o)
+  ends_are : (t : RunReport) (u : Turn) (cut : Bool) (o : Option TurnOutput) → CallsAre t → CallsAre (ends_calls running t u cut o)
   ends_are t u true o now = now
   ends_are t u false None now = now
   ends_are t u false (Some o) now = input_are (finished running t u.node o.ended) u.node u.input (finished_are t u.node o.ended now)
@@ -142,7 +142,7 @@ arms_are : (t : RunReport) (n : ℕ) (k : NodeState) (input : Input) → CallsAr
 arms_are t n k (inputs.Call session (Some (stmts.Commit (Some comment)))) now = cond_both (is_none (session_at k.sessions session).code) _ t CallsAre (λ none. point_are t _ _ _ now) (λ some. now)
 arms_are t n k _ now = now
 
-appends_are : (t : RunReport) (n : ℕ) (input : Input) (k : Option NodeState) (o : Option Outcome) → CallsAre t → CallsAre (turn_appends t n input k o)
+appends_are : (t : RunReport) (n : ℕ) (input : Input) (k : Option NodeState) (o : Option TurnOutput) → CallsAre t → CallsAre (turn_appends t n input k o)
 appends_are t n input (Some k) (Some o) now = arms_are (cut_appends t n (is_some o.wrote) (cut_by t n k input o)) n k input (cut_are t n (is_some o.wrote) (cut_by t n k input o) now)
 appends_are t n input (Some k) None now = now
 appends_are t n input None o now = now
@@ -157,7 +157,7 @@ following_are t (inputs.GiveUp session) now = now
 following_are t (inputs.Message m) now = now
 following_are t inputs.Reco now = now
 
-turned_are : (running : ℕ) (k : Option NodeState) (t : RunReport) (u : Turn) (o : Option Outcome) → CallsAre t → CallsAre (report_turned running k t u o)
+turned_are : (running : ℕ) (k : Option NodeState) (t : RunReport) (u : Turn) (o : Option TurnOutput) → CallsAre t → CallsAre (report_turned running k t u o)
 turned_are running k t u o now =
     let a : RunReport = turn_appends t u.node u.input k o in
     let b : RunReport = delivered_more a u.took in

@@ -5,7 +5,7 @@ use Rattle.dtx_values.specs.Limits.{link_limit}
 use Rattle.sql_print.specs.Printing.{IsPrintable}
 use Rattle.node_rules.specs.Data.{Place, Input}
 use Rattle.node_rules.specs.Data.inputs
-use Rattle.node_rules.specs.NodeState.{NodeState, Outcome}
+use Rattle.node_rules.specs.NodeState.{NodeState, TurnOutput}
 use Rattle.node_rules.specs.Turn.{turn_of}
 use Rattle.node_ready_laws.specs.Ready.{IsExpected}
 use Rattle.node_spell_laws.specs.Bytes.{HasBytes, KeepsBytes}
@@ -48,7 +48,7 @@ abbrev pub MessagesHaveBytes : Type 0
 MessagesHaveBytes = (t : History) → IsSpelledRun t → AllByRecursion (λ x. HasBytes x.msg.kind) (facts_at t).net.packets
 
 -- A turn whose record and whose messages have bytes.
-pub record TurnHasBytes (o : Outcome) : Type 0 where
+pub record TurnHasBytes (o : TurnOutput) : Type 0 where
   pub wrote : IfSome o.wrote RecordHasBytes
   pub sent : AllByRecursion (λ m. HasBytes m.kind) o.sent
 

@@ -7,4 +7,4 @@
 
 mod trace;
 
-pub use trace::{Recorded, Trace};
+pub use trace::{RunRecord, Trace};

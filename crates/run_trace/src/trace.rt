@@ -36,7 +36,7 @@ impl Model for Trace {
 
 /// A trace as plain lists.
 #[derive(Drop)]
-pub struct Recorded {
+pub struct RunRecord {
     /// The places of the nodes, in the order of their numbers.
     pub places: Places,
     /// The commands of the script.
@@ -178,14 +178,14 @@ impl Trace {
     }
 
     /// The trace as plain lists.
-    pub fn into_recorded(self) -> Recorded
+    pub fn into_recorded(self) -> RunRecord
         ensures places { result.places ≡ self.places }
         ensures asked { result.asked ≡ self.asked }
         ensures happenings { result.happenings ≡ self.happenings }
         ensures book { result.book ≡ book_of self.happenings }
         ensures run { IsRunOfScript self }
     {
-        Recorded {
+        RunRecord {
             places: self.places,
             asked: self.asked,
             happenings: Listing::of(self.happenings),

@@ -21,13 +21,15 @@ use Rattle.script_run.specs.declared.outcome.Status.TheVariants.{Done, BadScript
 use Rattle.script_run.specs.Headline.{IsRun, history_of, nothing_done}
 use Rattle.script_run.specs.Ending.{IsWhole, ending_of}
 use Rattle.script_run.proofs.ScriptLemmas.{of_a_script}
-use Rattle.world.specs.declared.ran.Ran.{Ran}
+use Rattle.world.specs.declared.ran.EndedRun.{EndedRun}
 use Rattle.run_claims.specs.ReportedDone.{DoneIsReported}
 use Rattle.run_claims.specs.CommitCourse.{QuietCommitsAreComplete}
+use Rattle.commit_answer_laws.specs.CommitLines.{CommitsAnswerTruly}
+use Rattle.commit_obey_laws.specs.ObeyLaws.{EveryDecisionIsObeyed}
 use Rattle.world.specs.Ran.{IsRan, as_ending}
 
 -- the run that these lists tell
-abbrev run_by : Ran → Run
+abbrev run_by : EndedRun → Run
 run_by ran = record { commands = ran.recorded.asked; answers = ran.answers; book = ran.recorded.book; trace = ran.recorded.happenings }
 
 -- a script of no commands
@@ -43,7 +45,7 @@ empty_report : IsReported (history_of nothing_done no_script) [] All_run
 unfolding past due_of
 empty_report = (refl, tt)
 
-module _ (lawful : TheRunIsLawful) (knows : EveryTurnKnows) (meant : EveryRunIsMeant) (comes : EveryAnswerHasItsPlace) (tells : DoneIsReported) (completes : QuietCommitsAreComplete) (sites : EverySiteDecides) (covers : EveryDecisionCovers) (agrees : EveryBookAgrees) (marked : EveryMixedIsMarked) (later : EveryScnIsLater) where
+module _ (lawful : TheRunIsLawful) (knows : EveryTurnKnows) (meant : EveryRunIsMeant) (comes : EveryAnswerHasItsPlace) (tells : DoneIsReported) (commits : CommitsAnswerTruly) (completes : QuietCommitsAreComplete) (obeys : EveryDecisionIsObeyed) (sites : EverySiteDecides) (covers : EveryDecisionCovers) (agrees : EveryBookAgrees) (marked : EveryMixedIsMarked) (later : EveryScnIsLater) where
   -- by the laws, of what is due and told
   by_laws : (run : Run) (ending : Ending) (script : AreOfAScript (places_of run.commands) run.commands)
       → IsTheRun (places_of run.commands) run.commands (start (places_of run.commands)) run.trace → run.book ≡ book_of run.trace
@@ -61,7 +63,9 @@ module _ (lawful : TheRunIsLawful) (knows : EveryTurnKnows) (meant : EveryRunIsM
         meant = meant t may;
         come = comes t due;
         done = tells t due;
+        commits = commits t due;
         completes = completes t due;
+        obeyed = obeys t may;
         site = sites t may;
         covers = covers t may;
         agrees = subst Agreement (sym booked) (agrees t may);
@@ -69,7 +73,7 @@ module _ (lawful : TheRunIsLawful) (knows : EveryTurnKnows) (meant : EveryRunIsM
         scns = subst ScnLaw (sym booked) (later t may);
       }
 
-  pub is_run : (ran : Ran) → IsOfAScript ran.recorded.asked → ran.recorded.places ≡ places_of ran.recorded.asked → IsRan ran → IsRun (run_by ran) (as_ending ran.ended)
+  pub is_run : (ran : EndedRun) → IsOfAScript ran.recorded.asked → ran.recorded.places ≡ places_of ran.recorded.asked → IsRan ran → IsRun (run_by ran) (as_ending ran.ended)
   is_run ran sound placed is =
       let script = of_a_script ran.recorded.asked sound in
       let due = subst (λ (ps : List Place). IsTheRun ps ran.recorded.asked (start ps) ran.recorded.happenings) placed is.due in
@@ -100,7 +104,9 @@ stands_too run is = record {
   meant = is.meant;
   come = is.come;
   done = is.done;
+  commits = is.commits;
   completes = is.completes;
+  obeyed = is.obeyed;
   site = is.site;
   covers = is.covers;
   agrees = is.agrees;

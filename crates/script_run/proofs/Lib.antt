@@ -4,3 +4,5 @@ pub mod ScriptLemmas
 pub mod Headlines
 pub mod FewLemmas
 pub mod AskLemmas
+mod WordLemmas
+mod MadeLemmas

@@ -107,11 +107,11 @@ EndsExplained w NoMemory = ⊥
 EndsExplained w ReadFault = ⊥
 EndsExplained w TooLong = ⊥
 
--- how a call ends whose words are wrong: nothing is read or run, and the usage line is written
+-- how a call ends whose words are wrong: nothing is read or run, and the usage line is written, unless memory runs out before
 pub record EndsUnread (r : Read) (w : Written) (run : Run) (status : Status) : Type 0 where
   pub unread : IsUnread r
   pub nothing : run ≡ nothing_done
-  pub explained : EndsExplained w status
+  pub explained : EndsExplained w status ⊎ ((status ≡ NoMemory) × Keeps w.before w.now)
 
 -- how the writing of the line ends that refuses a script which is bad on this line, for this reason
 abbrev pub EndsRefused : Written → ℕ → Why → Status → Type 0

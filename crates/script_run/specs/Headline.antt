@@ -11,6 +11,8 @@ use Rattle.run_claims.specs.Places.{AnswersHavePlaces}
 use Rattle.run_claims.specs.Site.{SiteDecides, Coverage}
 use Rattle.run_claims.specs.ReportedDone.{ReportsWhatIsDone}
 use Rattle.run_claims.specs.CommitCourse.{QuietCommitsAreDone}
+use Rattle.commit_answer_laws.specs.CommitLines.{CommitAnswersAreTrue}
+use Rattle.commit_obey_laws.specs.ObeyLaws.{Obedience}
 use Rattle.script_run.specs.declared.outcome.Run.{Run}
 
 -- a run over the nodes that its script makes, as the laws of runs have it
@@ -25,8 +27,11 @@ history_of run script = record { places = places_of run.commands; commands = run
 -- query's meaning over the rows that the book leaves there, with the changes of the asking branch, and examines no key in
 -- doubt; a change counts the rows that it means; what a client is answered is what such a run answered, at the table to which
 -- the names in its statement lead. What a client is told is created, set, forced or purged is on the disk, and such a record
--- is written for no other call. A COMMIT that nothing disturbs is answered Commit complete, its sealed branches end with
--- commit, and no node keeps a branch of it. Each decision is made by the commit point site of its session tree,
+-- is written for no other call. What a client is told of a COMMIT is true: by Commit complete its transaction is decided in
+-- the book, or none of its session tree had changes, or the session had no transaction; by ORA-02050 no branch of it is ever
+-- decided; by ORA-02053 one is. A COMMIT that nothing disturbs is answered Commit complete, its sealed branches end with
+-- commit, and no node keeps a branch of it. A decision that comes to a sealed branch from its neighbour on the way to the
+-- commit point site is written at once: the branch ends with it, or notes how it met it, if it was forced. Each decision is made by the commit point site of its session tree,
 -- once every other branch with changes on it or below it is sealed; a branch is sealed or decided with the changes that its
 -- own statements made, and a seal names the neighbour on the way to the site. Branches end as their site decided, mixed
 -- outcomes are marked, and the SCN law holds.
@@ -40,7 +45,9 @@ pub record IsRun (run : Run) (ending : Ending) : Type 0 where
   pub meant : RunsAreMeant (history_of run script)
   pub come : AnswersHavePlaces (history_of run script)
   pub done : ReportsWhatIsDone (history_of run script)
+  pub commits : CommitAnswersAreTrue (history_of run script)
   pub completes : QuietCommitsAreDone (history_of run script)
+  pub obeyed : Obedience (history_of run script)
   pub site : SiteDecides (history_of run script)
   pub covers : Coverage (history_of run script)
   pub agrees : Agreement run.book

@@ -1,4 +1,5 @@
 pub mod Report
 pub mod Headline
 pub mod Ending
+pub mod Making
 pub mod Words

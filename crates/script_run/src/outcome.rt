@@ -6,6 +6,8 @@ ghost use Rattle.run_rules.specs.Reported.{All_run};
 ghost use Rattle.run_rules.specs.Scripts.{places_of, TheRunIsLawful};
 ghost use Rattle.run_claims.specs.ReportedDone.{DoneIsReported};
 ghost use Rattle.run_claims.specs.CommitCourse.{QuietCommitsAreComplete};
+ghost use Rattle.commit_answer_laws.specs.CommitLines.{CommitsAnswerTruly};
+ghost use Rattle.commit_obey_laws.specs.ObeyLaws.{EveryDecisionIsObeyed};
 ghost use Rattle.world.specs.Ran.{IsRan, as_ending};
 ghost use Rattle.script_run.specs.Headline.{IsRun, nothing_done};
 ghost use Rattle.script_run.specs.Ending.{status_code};
@@ -14,17 +16,19 @@ use answer_done_laws::done_is_reported;
 use answer_laws::every_answer_has_its_place;
 use book::{AnswerLines, Book, Trace};
 use book_laws::every_scn_is_later;
+use commit_answer_laws::commits_answer_truly;
 use commit_course_laws::quiet_commits_are_complete;
+use commit_obey_laws::every_decision_is_obeyed;
 use dtx_values::Listing;
 use run_cause_laws::every_turn_knows;
 use run_ready_laws::the_run_is_lawful;
-use run_trace::Recorded;
+use run_trace::RunRecord;
 use script_read::Commands;
 use std::alloc::Global;
 use tree_cover_laws::every_decision_covers;
 use tree_laws::every_book_agrees;
 use tree_trail_laws::{every_run_is_meant, every_site_decides};
-use world::Ran;
+use world::EndedRun;
 
 /// How a run of the program ends.
 #[derive(Clone, Copy, Debug, PartialEq, Eq)]
@@ -82,7 +86,9 @@ fn laws_of_runs()
     ensures meant { EveryRunIsMeant }
     ensures comes { EveryAnswerHasItsPlace }
     ensures tells { DoneIsReported }
+    ensures commits { CommitsAnswerTruly }
     ensures completes { QuietCommitsAreComplete }
+    ensures obeys { EveryDecisionIsObeyed }
     ensures sites { EverySiteDecides }
     ensures covers { EveryDecisionCovers }
     ensures agrees { EveryBookAgrees }
@@ -94,7 +100,9 @@ fn laws_of_runs()
     every_run_is_meant();
     every_answer_has_its_place();
     done_is_reported();
+    commits_answer_truly();
     quiet_commits_are_complete();
+    every_decision_is_obeyed();
     every_site_decides();
     every_decision_covers();
     every_book_agrees();
@@ -103,20 +111,22 @@ fn laws_of_runs()
 
 impl Run {
     /// A run that has ended, of a script.
-    pub fn of(ran: Ran) -> Run
+    pub fn of(ran: EndedRun) -> Run
         requires script { IsOfAScript ran.recorded.asked }
         requires places { ran.recorded.places ≡ places_of ran.recorded.asked }
         requires ran { IsRan ran }
         ensures commands { result.commands ≡ ran.recorded.asked }
+        ensures trace { result.trace ≡ ran.recorded.happenings }
         ensures run { IsRun result (as_ending ran.ended) }
     {
         laws_of_runs();
-        let Ran {
+        let EndedRun {
             recorded,
             answers,
             ended: _ended,
+            pending: _pending,
         } = ran;
-        let Recorded {
+        let RunRecord {
             places: _places,
             asked,
             happenings,

@@ -35,7 +35,12 @@ fn reported(alloc: Global, answers: &[AnswerLine]) -> Result<Vec<u8>, AllocError
 }
 
 /// Adds the book at the end of the text where it is wanted. It is an error only where there is no memory.
-fn put_book(alloc: Global, out: &mut Vec<u8>, with_book: bool, run: &Run) -> Result<(), AllocError>
+pub fn put_book(
+    alloc: Global,
+    out: &mut Vec<u8>,
+    with_book: bool,
+    run: &Run,
+) -> Result<(), AllocError>
     ensures { OnOk result (out.new.items ≡ out.old.items ++ (if with_book then book_text_of (names_asked run.now.commands) run.now.book else [])) }
 {
     if !with_book {

@@ -1,21 +1,33 @@
 //! The lines that are written in place of a report.
 ghost use Rattle.std.specs.Prelude.{◌≡◌, IfOk};
-ghost use Rattle.script_run.specs.Ending.{EndsExplained, EndsRefused, refusal_line, why_text as text_of};
+ghost use Rattle.script_run.specs.Headline.{IsRun, nothing_done};
+ghost use Rattle.script_run.specs.Ending.{ending_of, EndsExplained, EndsRefused, refusal_line, why_text as text_of};
 
-use crate::outcome::Status;
+use crate::outcome::{Outcome, Run, Status};
 use dtx_ports::{Sink, write_whole};
 use script_read::Why;
 use std::alloc::{AllocError, Global};
 use tran_ids::put_decimal;
 
 /// Writes how the program is called.
-pub fn explain_words<K: Sink>(sink: &mut K) -> Status
+fn explain_words<K: Sink>(sink: &mut K) -> Status
     ensures { EndsExplained (record { before = K.written sink.old; now = K.written sink.new; faults_before = K.faults sink.old; faults_now = K.faults sink.new }) result }
 {
     match write_whole(sink, b"usage: dtx [--book] [--make N]\n") {
         Ok(()) => Status::Usage,
         Err(_) => Status::WriteFault,
     }
+}
+
+/// Refuses the words: nothing is run, and how the program is called is written.
+pub fn refuse_words<K: Sink>(alloc: Global, sink: &mut K) -> Outcome
+    ensures nothing { result.run ≡ nothing_done }
+    ensures run { IsRun result.run (ending_of result.status) }
+    ensures explained { EndsExplained (record { before = K.written sink.old; now = K.written sink.new; faults_before = K.faults sink.old; faults_now = K.faults sink.new }) result.status }
+{
+    let run = Run::empty(alloc);
+    let status = explain_words(sink);
+    Outcome { status, run }
 }
 
 /// Why a command is bad.

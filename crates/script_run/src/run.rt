@@ -1,5 +1,5 @@
 //! The top call: from the bytes of a script to the bytes of its report.
-ghost use Rattle.std.specs.Prelude.{◌≡◌, ◌≤◌, ◌<◌, ◌^◌, Bool, Some, None, map, length, IfOk, OnOk};
+ghost use Rattle.std.specs.Prelude.{◌≡◌, ◌≤◌, ◌<◌, ◌^◌, ℕ, Bool, map, length, IfOk, OnOk};
 ghost use Rattle.std.specs.List.{AllByRecursion};
 ghost use Rattle.std.specs.String.{string_bytes};
 ghost use Rattle.run_spell_laws.specs.ByteRuns.{AsksSpelled};
@@ -8,22 +8,24 @@ ghost use Rattle.script_read.specs.Sound.{IsOfAScript};
 ghost use Rattle.run_rules.specs.Reported.{All_run};
 ghost use Rattle.run_rules.specs.Scripts.{places_of};
 ghost use Rattle.world.specs.Ran.{IsRan};
-ghost use Rattle.script_run.specs.Words.{wanted as wanted_by};
+ghost use Rattle.script_run.specs.Making.{EndsMade};
+ghost use Rattle.script_run.specs.Words.{AreOther, AskMake, AskRun, EndsAsked};
 ghost use Rattle.script_run.specs.Report.{output_of};
 ghost use Rattle.script_run.specs.Headline.{IsRun};
-ghost use Rattle.script_run.specs.Ending.{ending_of, EndsReported, EndsOn, EndsUnread, EndsRead, IsComplete};
+ghost use Rattle.script_run.specs.Ending.{ending_of, EndsReported, EndsOn, EndsUnread, EndsRead, IsComplete, IsUnread};
 
+use crate::making::run_made;
 use crate::outcome::{Outcome, Run, Status};
 use crate::output::output;
 use crate::places::places;
-use crate::refusing::{explain_line, explain_words};
-use crate::words::wanted;
+use crate::refusing::{explain_line, refuse_words};
 use dtx_ports::{ReadErr, Sink, Source, read_whole, write_whole};
 use dtx_values::SCRIPT_LIMIT;
 use script_read::{Commands, ScriptErr, read_script};
 use sql_print::printed_statements_are_read;
 use std::alloc::{AllocError, Global};
-use world::{Ended, Ran};
+use words::{Words, read_words};
+use world::{Ended, EndedRun};
 
 /// Writes what a run prints.
 fn write_output<K: Sink>(alloc: Global, with_book: bool, run: &Run, sink: &mut K) -> Status
@@ -40,7 +42,7 @@ fn write_output<K: Sink>(alloc: Global, with_book: bool, run: &Run, sink: &mut K
 
 /// Runs commands over the nodes that they make. Fails where there is no memory to begin.
 #[tactic(auto, using(crate::proofs::ScriptLemmas::script_steps, crate::proofs::AskLemmas::in_range))]
-fn run_commands(alloc: Global, commands: Commands) -> Result<Ran, AllocError>
+pub(crate) fn run_commands(alloc: Global, commands: Commands) -> Result<EndedRun, AllocError>
     requires sound { IsOfAScript commands }
     requires few { length commands < 2 ^ 18 }
     requires asks { AllByRecursion AsksSpelled commands }
@@ -102,7 +104,7 @@ fn run_bytes<K: Sink>(alloc: Global, with_book: bool, bytes: &[u8], sink: &mut K
 
 /// Reads a script from the source, runs it, and writes the report.
 #[tactic(auto, using(crate::proofs::Headlines::whole_runs))]
-fn run_source<S: Source, K: Sink>(
+pub fn run_source<S: Source, K: Sink>(
     alloc: Global,
     with_book: bool,
     source: &mut S,
@@ -124,10 +126,32 @@ fn run_source<S: Source, K: Sink>(
     }
 }
 
-/// Reads a script from the source, runs it, and writes its report to the sink. The words are those of the command line
-/// after the program's name: none, or `--book` for the book after the report. For other words the usage line is written,
-/// and nothing is read.
-#[tactic(auto, using(crate::proofs::Headlines::whole_runs, crate::proofs::Endings::is_complete))]
+// Does what the words ask for.
+fn run_asked<S: Source, K: Sink>(
+    alloc: Global,
+    asked: Words,
+    source: &mut S,
+    sink: &mut K,
+) -> Outcome
+    ensures run { IsRun result.run (ending_of result.status) }
+    ensures ends { EndsAsked asked (record { before = S.left source.old; now = S.left source.new; faults_before = S.faults source.old; faults_now = S.faults source.new })
+        (record { before = K.written sink.old; now = K.written sink.new; faults_before = K.faults sink.old; faults_now = K.faults sink.new }) result.run result.status }
+{
+    match asked {
+        Words::Run { book } => run_source(alloc, book, source, sink),
+        Words::Make { number, book } => run_made(alloc, number, book, sink),
+        Words::Usage => refuse_words(alloc, sink),
+        Words::NoMemory => Outcome {
+            status: Status::NoMemory,
+            run: Run::empty(alloc),
+        },
+    }
+}
+
+/// Runs what the words of the command line after the program's name ask for, as clap takes them. Without `--make` a script is
+/// read from the source and run, and its report is written to the sink. With `--make` and a number from 1 to 65,535 no source
+/// is read: the script of that number is run, and the summary of its run is written in place of the report. With `--book` the
+/// book follows. For other words the usage line is written, and nothing is read.
 pub fn run_script<S: Source, K: Sink>(
     alloc: Global,
     words: &Vec<String>,
@@ -139,24 +163,24 @@ pub fn run_script<S: Source, K: Sink>(
     ensures run { IsRun result.run (ending_of result.status) }
 
     // Each status has its cause.
-    ensures words { wanted_by (map string_bytes words.now.items) ≡ None
+    ensures words { AreOther (map string_bytes words.now.items)
         → EndsUnread (record { before = S.left source.old; now = S.left source.new; faults_before = S.faults source.old; faults_now = S.faults source.new })
         (record { before = K.written sink.old; now = K.written sink.new; faults_before = K.faults sink.old; faults_now = K.faults sink.new }) result.run result.status }
-    ensures read { (with_book : Bool) → wanted_by (map string_bytes words.now.items) ≡ Some with_book
+    ensures read { (with_book : Bool) → AskRun with_book (map string_bytes words.now.items)
         → EndsRead with_book (record { before = S.left source.old; now = S.left source.new; faults_before = S.faults source.old; faults_now = S.faults source.new })
         (record { before = K.written sink.old; now = K.written sink.new; faults_before = K.faults sink.old; faults_now = K.faults sink.new }) result.run result.status }
 
+    // The script of a number is run without a look at the source, and is never a bad one.
+    ensures unread { (number : ℕ) (with_book : Bool) → AskMake number with_book (map string_bytes words.now.items)
+        → IsUnread (record { before = S.left source.old; now = S.left source.new; faults_before = S.faults source.old; faults_now = S.faults source.new }) }
+    ensures made { (number : ℕ) (with_book : Bool) → AskMake number with_book (map string_bytes words.now.items)
+        → EndsMade number with_book (record { before = K.written sink.old; now = K.written sink.new; faults_before = K.faults sink.old; faults_now = K.faults sink.new }) result.run result.status }
+
     // Good words, bytes and ends give the report.
-    ensures complete { (with_book : Bool) → wanted_by (map string_bytes words.now.items) ≡ Some with_book
+    ensures complete { (with_book : Bool) → AskRun with_book (map string_bytes words.now.items)
         → IsComplete (record { before = S.left source.old; now = S.left source.new; faults_before = S.faults source.old; faults_now = S.faults source.new })
         (record { before = K.written sink.old; now = K.written sink.new; faults_before = K.faults sink.old; faults_now = K.faults sink.new }) result.status }
 {
-    match wanted(words) {
-        Some(with_book) => run_source(alloc, with_book, source, sink),
-        None => {
-            let run = Run::empty(alloc);
-            let status = explain_words(sink);
-            Outcome { status, run }
-        }
-    }
+    let asked = read_words(alloc, words.as_slice());
+    run_asked(alloc, asked, source, sink)
 }

@@ -1,7 +1,6 @@
 -- A calm turn in which a question comes: what was so of undecided rows and live branches stays so.
-use Rattle.std.proofs.Common.{◌≡◌, ◌≢◌, ℕ, zero, suc, ◌⊎◌, ◌&&◌, ◌||◌, Bool, true, false, if◌then◌else◌, List, [], ◌∷◌, ◌++◌, map, length, slice_get, Option, Some, None, inl, inr, refl, sym, ap, subst, ◌∙◌}
+use Rattle.std.proofs.Common.{◌≡◌, ◌≢◌, ℕ, zero, suc, ◌⊎◌, Bool, true, false, if◌then◌else◌, List, [], ◌∷◌, slice_get, Option, Some, None, inl, inr, refl, sym, ap, subst, ◌∙◌}
 use Rattle.std.specs.List.{AllByRecursion}
-use Rattle.std.proofs.lemmas.Bool.{cond_both}
 use Rattle.tran_ids.proofs.BranchLemmas.{equal_from_same, same_from_equal}
 use Rattle.tran_ids.proofs.ListedLemmas.{item_is, drop_leaves}
 use Rattle.commit_forget.specs.Beyond.{is_neighbor}
@@ -9,45 +8,44 @@ use Rattle.net_bag.specs.Net.{lost_at_once}
 use Rattle.reco.specs.declared.told.Told.{Told}
 use Rattle.reco.specs.declared.told.Told.TheVariants as tolds
 use Rattle.session_tree.specs.Live.{is_branch, children_of}
-use Rattle.node_rules.specs.Data.{BranchId, Decision, Input, Kind, Live, Msg, Phase, Place, Post, Standing}
+use Rattle.node_rules.specs.Data.{BranchId, Decision, Kind, Live, Msg, Phase, Place, Post, KeptRow}
 use Rattle.node_rules.specs.Data.decisions
 use Rattle.node_rules.specs.Data.inputs
 use Rattle.node_rules.specs.Data.kinds
 use Rattle.node_rules.specs.Data.phases
-use Rattle.node_rules.specs.Words.{same, item_at, drop_item, numbered}
-use Rattle.node_rules.specs.NodeState.{NodeState, Branch, Deed, saying, post, post_one, to_each, live_at, live_id, standing_at, standing_id, branch_at, work_at}
-use Rattle.node_rules.specs.Prepare.{drops, to_children}
-use Rattle.node_rules.specs.Recovery.{told_by, told_kind, tells, ask_answer, on_ask, on_ask_told, on_ask_kept}
-use Rattle.node_rules.specs.Turn.{stamped, turn_of, deed_of, heard, kind_turn, ask_turn, stand_of, live_or}
+use Rattle.node_rules.specs.Words.{same, item_at, numbered}
+use Rattle.node_rules.specs.NodeState.{NodeState, Branch, TurnDraft, saying, post, post_one, live_at, live_id, kept_row_at, kept_row_id, branch_at, work_at}
+use Rattle.node_rules.specs.Prepare.{drops}
+use Rattle.node_rules.specs.Recovery.{told_by, told_kind, tells, on_ask, on_ask_told, on_ask_kept}
+use Rattle.node_rules.specs.Turn.{draft_of, heard, kind_turn, ask_turn, status_of, live_or}
 use Rattle.node_rules.proofs.StandLemmas.{live_so}
-use Rattle.node_rules.proofs.StepLemmas.{branch_found}
 use Rattle.run_rules.specs.Births.{Born, born_at, births_of}
 use Rattle.run_base_laws.specs.BirthLaws.{Began, KeptIs, LiveIs, TowardIs}
-use Rattle.run_rules.specs.Data.{Happening, Took, Turn}
+use Rattle.run_rules.specs.Data.{Took, Turn}
 use Rattle.run_rules.specs.Data.happenings
-use Rattle.run_rules.specs.Facts.{Facts, place_at, node_at, kept_after, taken, facts_after}
+use Rattle.run_rules.specs.Facts.{Facts, place_at, node_at, taken, facts_after}
 use Rattle.run_base_laws.specs.FreezeLaws.{was_asked}
-use Rattle.run_base_laws.specs.InTurnLaws.{post_of, said_in}
-use Rattle.run_rules.specs.Lawful.{Comes, IsOwed, MayTurn, History, IsLawfulRun}
+use Rattle.run_base_laws.specs.InTurnLaws.{said_in}
+use Rattle.run_rules.specs.Lawful.{MayTurn, History, IsLawfulRun}
 use Rattle.run_rules.specs.Trail.{is_prepare}
 use Rattle.run_base_laws.specs.EventRows.{RowIs, IsKnown}
 use Rattle.run_base_laws.specs.RunEvents.{events_of}
 use Rattle.agreement.specs.Events.{Sealed, exit}
-use Rattle.tree_site_laws.proofs.HeardLemmas.{left_were_asked}
-use Rattle.run_rules.proofs.AtNodeLemmas.{turn_elsewhere, turn_here}
+use Rattle.tree_laws.proofs.HeardLemmas.{left_were_asked}
+use Rattle.run_rules.proofs.AtNodeLemmas.{turn_elsewhere}
 use Rattle.run_base_laws.proofs.BirthRunLemmas.{nodes_name_the_born}
-use Rattle.run_base_laws.proofs.EventsStandLemmas.{run_stands, nodes_are_as_events}
+use Rattle.run_base_laws.proofs.EventsStandLemmas.{nodes_are_as_events}
 use Rattle.run_branch_laws.proofs.FreezeRunLemmas.{asked_stand_still}
-use Rattle.run_rules.proofs.ListLemmas.{all_weaker, all_append, all_each, all_filter}
+use Rattle.run_rules.proofs.ListLemmas.{all_weaker, all_each}
 use Rattle.run_base_laws.proofs.OwnLemmas.{all_found, all_without}
-use Rattle.run_base_laws.proofs.SaidPostLemmas.{posts_back, said_after}
 use Rattle.run_base_laws.proofs.TurnEventLemmas.{all_both, cases_nat}
 use Rattle.tree_laws.proofs.AskRunLemmas.{edges_asked}
-use Rattle.tree_laws.proofs.PrefixLemmas.{so_far, f_at, e_at}
+use Rattle.tree_laws.proofs.PrefixLemmas.{f_at}
 use Rattle.commit_laws.proofs.ListLemmas.{IsIn}
 use Rattle.settle_laws.specs.OverLaws.{is_rollback}
 use Rattle.settle_laws.specs.Interval.{Flies, is_ask, is_point, is_decision, LivesAt, RowNames, Sought, Asks, Points, Is_told, In_doubt, Under_live, Watched, Asks_up, Is_rolled, Up_lives, Up_names, Unasked, Obliged}
-use Rattle.settle_laws.proofs.FlyLemmas.{in_before, in_behind, in_map, sent_flies, flies_or_taken}
+use Rattle.settle_laws.proofs.CalmTurn.{calm}
+use Rattle.settle_laws.proofs.FlyLemmas.{in_map}
 use Rattle.settle_laws.proofs.RecoTurnLemmas.{unasked_on}
 
 -- ---- whom a live branch asked is one of its children
@@ -97,63 +95,29 @@ module _ (t : History) (s_lawful : IsLawfulRun t) (u : Turn) (k : NodeState) whe
     abbrev k0 : NodeState
     k0 = heard k (inputs.Message m)
 
-    abbrev d : Deed
-    d = ask_turn k0 m.from m.to (stand_of k0 m.to)
+    abbrev d : TurnDraft
+    d = ask_turn k0 m.from m.to (status_of k0 m.to)
 
-    even : length f.nodes ≡ length f.records
-    even = (run_stands t s_lawful).0.even
+    draft_is : draft_of p k u.input ≡ d
+    draft_is = ap (draft_of p k) it ∙ ap (λ x. kind_turn p k0 m.from m.to x (status_of k0 m.to)) kind
 
-    deed_is : deed_of p k u.input ≡ d
-    deed_is = ap (deed_of p k) it ∙ ap (λ x. kind_turn p k0 m.from m.to x (stand_of k0 m.to)) kind
-
-    owed : IsOwed p k u.input u.wrote u.sent false
-    owed = subst (IsOwed p k u.input u.wrote u.sent) uncut may.owed
-
-    sent_is : u.sent ≡ map (stamped d.after.clock) d.says
-    unfolding turn_of
-    sent_is = owed.1 ∙ ap (λ (x : Deed). map (stamped x.after.clock) x.says) deed_is
-
-    after_is : (turn_of p k u.input).after ≡ d.after
-    unfolding turn_of
-    after_is = ap (λ (x : Deed). x.after) deed_is
-
-    here : node_at g u.node ≡ Some d.after
-    here = (turn_here t.places t.commands f even u k may.up).0 ∙ (ap (λ c. kept_after c (Some (turn_of p k u.input))) uncut ∙ ap Some after_is)
-
-    comes : Comes f k u.node (inputs.Message m) (Some y)
-    comes = subst (λ o. Comes f k u.node (inputs.Message m) o) took (subst (λ i. Comes f k u.node i u.took) it may.comes)
-
-    at_to : m.to.node ≡ u.node
-    at_to = comes.1.here
-
-    up_to : node_at f m.to.node ≡ Some k
-    up_to = subst (λ n. node_at f n ≡ Some k) (sym at_to) may.up
-
-    here_to : node_at g m.to.node ≡ Some d.after
-    here_to = subst (λ n. node_at g n ≡ Some d.after) (sym at_to) here
-
-    said_now : said_in g ≡ said_in f ++ d.says
-    said_now = said_after t.places t.commands f (happenings.Turn u) ∙ ap (λ xs. said_in f ++ xs) (ap (map post_of) sent_is ∙ posts_back d.after.clock d.says)
-
-    post_flies : (test : Kind → Bool) (x : Post) → IsIn x d.says → test x.kind ≡ true → Flies test g x.from x.to
-    post_flies test x at is =
-        sent_flies t.places t.commands f u none test (stamped d.after.clock x) (subst (IsIn (stamped d.after.clock x)) (sym sent_is) (in_map (stamped d.after.clock) x d.says at)) is
+    open calm t s_lawful u k may uncut none m it y took d draft_is use {even, comes, at_to, here, up_to, here_to, said_now, post_flies, flown}
 
     -- ---- what the turn does
 
     -- The receiver is gone, or its row does not name who asks: it answers RolledBack. Or its row names it, and it tells what it
     -- knows. Or it is live, and does not know; or its parent asks, and it rolls back.
-    data Result (x : Deed) : Type 0 where
+    data Result (x : TurnDraft) : Type 0 where
       Rolls : x ≡ saying k0 (post m.to m.from kinds.RolledBack) → Result x
-      Row_tells : (s : Standing) → standing_at k m.to ≡ Some s → is_neighbor s m.from ≡ true → x ≡ saying k0 (post m.to m.from (tells s.decision)) → Result x
+      Row_tells : (s : KeptRow) → kept_row_at k m.to ≡ Some s → is_neighbor s m.from ≡ true → x ≡ saying k0 (post m.to m.from (tells s.decision)) → Result x
       Doubts : (l : Live) → live_at k m.to ≡ Some l → is_branch m.from l.parent ≡ false → x ≡ saying k0 (post m.to m.from kinds.InDoubt) → Result x
       Dropped : (l : Live) → live_at k m.to ≡ Some l → x ≡ drops k0 l (post m.to m.from kinds.RolledBack) → Result x
 
-    row_result : (s : Standing) → standing_at k m.to ≡ Some s → Result (on_ask_kept k0 s m.from)
+    row_result : (s : KeptRow) → kept_row_at k m.to ≡ Some s → Result (on_ask_kept k0 s m.from)
     row_result s at = by (is_neighbor s m.from) refl
       where
         me : s.me ≡ m.to
-        me = item_is standing_id k.stored.durable.kept m.to s at
+        me = item_is kept_row_id k.stored.durable.kept m.to s at
 
         by : (q : Bool) → is_neighbor s m.from ≡ q → Result (on_ask_kept k0 s m.from)
         by true near = Row_tells s at near (ap (λ (x : Told). saying k0 (post s.me m.from (told_kind x))) (ap (λ w. if w then told_by s.decision else tolds.RolledBack) near) ∙ ap (λ b. saying k0 (post b m.from (tells s.decision))) me)
@@ -169,37 +133,37 @@ module _ (t : History) (s_lawful : IsLawfulRun t) (u : Turn) (k : NodeState) whe
         by true up = Dropped l at (ap (λ w. on_ask_told k0 l m.from (if w then tolds.RollBackFirst else tolds.InDoubt)) up ∙ ap (λ b. drops k0 l (post b m.from kinds.RolledBack)) me)
         by false other = Doubts l at other (ap (λ w. on_ask_told k0 l m.from (if w then tolds.RollBackFirst else tolds.InDoubt)) other ∙ ap (λ b. saying k0 (post b m.from kinds.InDoubt)) me)
 
-    result_by : (o : Option Branch) (q : Option Standing) → branch_at k m.to ≡ o → standing_at k m.to ≡ q → Result (ask_turn k0 m.from m.to (live_or o q))
+    result_by : (o : Option Branch) (q : Option KeptRow) → branch_at k m.to ≡ o → kept_row_at k m.to ≡ q → Result (ask_turn k0 m.from m.to (live_or o q))
     result_by (Some x) q live at = live_result x.live (live_so k m.to x live)
     result_by None (Some s) live at = row_result s at
     result_by None None live at = Rolls refl
 
     result : Result d
-    unfolding stand_of
-    result = result_by (branch_at k m.to) (standing_at k m.to) refl refl
+    unfolding status_of
+    result = result_by (branch_at k m.to) (kept_row_at k m.to) refl refl
 
     -- ---- what it leaves
 
-    abbrev ks : List Standing
+    abbrev ks : List KeptRow
     ks = k.stored.durable.kept
 
-    rows_of : (x : Deed) → Result x → x.after.stored.durable.kept ≡ ks
-    rows_of x (Rolls is) = ap (λ (z : Deed). z.after.stored.durable.kept) is
-    rows_of x (Row_tells s at near is) = ap (λ (z : Deed). z.after.stored.durable.kept) is
-    rows_of x (Doubts l at other is) = ap (λ (z : Deed). z.after.stored.durable.kept) is
-    rows_of x (Dropped l at is) = ap (λ (z : Deed). z.after.stored.durable.kept) is
+    rows_of : (x : TurnDraft) → Result x → x.after.stored.durable.kept ≡ ks
+    rows_of x (Rolls is) = ap (λ (z : TurnDraft). z.after.stored.durable.kept) is
+    rows_of x (Row_tells s at near is) = ap (λ (z : TurnDraft). z.after.stored.durable.kept) is
+    rows_of x (Doubts l at other is) = ap (λ (z : TurnDraft). z.after.stored.durable.kept) is
+    rows_of x (Dropped l at is) = ap (λ (z : TurnDraft). z.after.stored.durable.kept) is
 
-    no_prepare : (x : Deed) → Result x → AllByRecursion (λ (z : Post). is_prepare z.kind ≡ false) x.says
-    no_prepare x (Rolls is) = subst (λ (z : Deed). AllByRecursion (λ (a : Post). is_prepare a.kind ≡ false) z.says) (sym is) (refl, tt)
-    no_prepare x (Row_tells s at near is) = subst (λ (z : Deed). AllByRecursion (λ (a : Post). is_prepare a.kind ≡ false) z.says) (sym is) (by s.decision, tt)
+    no_prepare : (x : TurnDraft) → Result x → AllByRecursion (λ (z : Post). is_prepare z.kind ≡ false) x.says
+    no_prepare x (Rolls is) = subst (λ (z : TurnDraft). AllByRecursion (λ (a : Post). is_prepare a.kind ≡ false) z.says) (sym is) (refl, tt)
+    no_prepare x (Row_tells s at near is) = subst (λ (z : TurnDraft). AllByRecursion (λ (a : Post). is_prepare a.kind ≡ false) z.says) (sym is) (by s.decision, tt)
       where
         by : (o : Option Decision) → is_prepare (tells o) ≡ false
         by None = refl
         by (Some (decisions.Commit n)) = refl
         by (Some decisions.Rollback) = refl
-    no_prepare x (Doubts l at other is) = subst (λ (z : Deed). AllByRecursion (λ (a : Post). is_prepare a.kind ≡ false) z.says) (sym is) (refl, tt)
+    no_prepare x (Doubts l at other is) = subst (λ (z : TurnDraft). AllByRecursion (λ (a : Post). is_prepare a.kind ≡ false) z.says) (sym is) (refl, tt)
     no_prepare x (Dropped l at is) =
-        subst (λ (z : Deed). AllByRecursion (λ (a : Post). is_prepare a.kind ≡ false) z.says) (sym is) (refl, all_each (λ (a : Post). is_prepare a.kind ≡ false) (post_one l.me kinds.Rollback) (children_of l) (λ b. refl))
+        subst (λ (z : TurnDraft). AllByRecursion (λ (a : Post). is_prepare a.kind ≡ false) z.says) (sym is) (refl, all_each (λ (a : Post). is_prepare a.kind ≡ false) (post_one l.me kinds.Rollback) (children_of l) (λ b. refl))
 
     -- what a node keeps after, of what it kept
     row_nodes : (n : ℕ) (i : NodeState) → node_at f n ≡ Some i → (j : NodeState) × (node_at g n ≡ Some j) × (j.stored.durable.kept ≡ i.stored.durable.kept)
@@ -212,7 +176,7 @@ module _ (t : History) (s_lawful : IsLawfulRun t) (u : Turn) (k : NodeState) whe
     names_on : (b z : BranchId) (r : RowNames f b z) → (w : RowNames g b z) × (w.row ≡ r.row)
     names_on b z r =
         let now = row_nodes b.node r.node r.up in
-        (record { node = now.0; up = now.1; row = r.row; found = ap (λ xs. item_at standing_id xs b) now.2 ∙ r.found; names = r.names }, refl)
+        (record { node = now.0; up = now.1; row = r.row; found = ap (λ xs. item_at kept_row_id xs b) now.2 ∙ r.found; names = r.names }, refl)
 
     -- a branch that is live is live after, or was dropped
     lives_on : (b : BranchId) → LivesAt f b → LivesAt g b ⊎ ((l : Live) × (live_at k m.to ≡ Some l) × (b ≡ m.to) × (d ≡ drops k0 l (post m.to m.from kinds.RolledBack)))
@@ -223,7 +187,7 @@ module _ (t : History) (s_lawful : IsLawfulRun t) (u : Turn) (k : NodeState) whe
     ]
       where
         still : node_at g b.node ≡ Some d.after → live_at k b ≡ Some x.live → (says : List Post) → d ≡ saying k0 says → LivesAt g b
-        still up found says is = record { node = d.after; up = up; live = x.live; found = ap (λ (z : Deed). live_at z.after b) is ∙ found }
+        still up found says is = record { node = d.after; up = up; live = x.live; found = ap (λ (z : TurnDraft). live_at z.after b) is ∙ found }
 
         at_node : node_at g b.node ≡ Some d.after → live_at k b ≡ Some x.live → Result d → LivesAt g b ⊎ ((l : Live) × (live_at k m.to ≡ Some l) × (b ≡ m.to) × (d ≡ drops k0 l (post m.to m.from kinds.RolledBack)))
         at_node up found (Rolls is) = inl (still up found _ is)
@@ -240,13 +204,10 @@ module _ (t : History) (s_lawful : IsLawfulRun t) (u : Turn) (k : NodeState) whe
               node = d.after;
               up = up;
               live = x.live;
-              found = ap (λ (z : Deed). live_at z.after b) is ∙ (drop_leaves live_id k.lives l.me b (ap (λ c. same c b) me ∙ other) ∙ found);
+              found = ap (λ (z : TurnDraft). live_at z.after b) is ∙ (drop_leaves live_id k.lives l.me b (ap (λ c. same c b) me ∙ other) ∙ found);
             })
 
     -- ---- messages
-
-    flown : (test : Kind → Bool) (a b : BranchId) → Flies test f a b → Flies test g a b ⊎ ((m.from ≡ a) × (m.to ≡ b) × (test m.kind ≡ true))
-    flown = flies_or_taken t.places t.commands f u none k m y took comes
 
     -- one that is no question flies on
     flies_on : (test : Kind → Bool) (a b : BranchId) → test kinds.Ask ≡ false → Flies test f a b → Flies test g a b
@@ -259,7 +220,7 @@ module _ (t : History) (s_lawful : IsLawfulRun t) (u : Turn) (k : NodeState) whe
     told_flies test x at is = post_flies test (post_one m.to x m.from) at is
 
     says_one : (x : Kind) → d ≡ saying k0 (post m.to m.from x) → IsIn (post_one m.to x m.from) d.says
-    says_one x is = subst (λ (z : Deed). IsIn (post_one m.to x m.from) z.says) (sym is) (inl refl)
+    says_one x is = subst (λ (z : TurnDraft). IsIn (post_one m.to x m.from) z.says) (sym is) (inl refl)
 
     -- a child of a branch that is dropped hears Rollback
     child_told : (test : Kind → Bool) → test kinds.Rollback ≡ true → (l : Live) → live_at k m.to ≡ Some l → d ≡ drops k0 l (post m.to m.from kinds.RolledBack) → (c : BranchId) → was_asked (said_in f) m.to c ≡ true → Flies test g m.to c
@@ -268,16 +229,16 @@ module _ (t : History) (s_lawful : IsLawfulRun t) (u : Turn) (k : NodeState) whe
         let found : live_at k l.me ≡ Some l = subst (λ b. live_at k b ≡ Some l) (sym me) at in
         let child : IsIn c (children_of l) = asked_child t s_lawful u.node k may.up l found c (subst (λ b. was_asked (said_in f) b c ≡ true) (sym me) asked) in
         let said : IsIn (post_one l.me kinds.Rollback c) d.says
-        = subst (λ (z : Deed). IsIn (post_one l.me kinds.Rollback c) z.says) (sym is) (inr (in_map (post_one l.me kinds.Rollback) c (children_of l) child)) in
+        = subst (λ (z : TurnDraft). IsIn (post_one l.me kinds.Rollback c) z.says) (sym is) (inr (in_map (post_one l.me kinds.Rollback) c (children_of l) child)) in
         subst (λ b. Flies test g b c) me (post_flies test (post_one l.me kinds.Rollback c) said rolls)
 
     -- ---- live branches
 
-    watched_asked : (x : Deed) → d ≡ x → Result x → Watched g m.from m.to
+    watched_asked : (x : TurnDraft) → d ≡ x → Result x → Watched g m.from m.to
     watched_asked x dx (Rolls is) = Is_rolled (told_flies is_rollback kinds.RolledBack (says_one kinds.RolledBack (dx ∙ is)) refl)
     watched_asked x dx (Row_tells s at near is) = Up_names (names_on m.to m.from (record { node = k; up = up_to; row = s; found = at; names = near })).0
-    watched_asked x dx (Doubts l at other is) = Up_lives (record { node = d.after; up = here_to; live = l; found = ap (λ (z : Deed). live_at z.after m.to) (dx ∙ is) ∙ at })
-    watched_asked x dx (Dropped l at is) = Is_rolled (told_flies is_rollback kinds.RolledBack (subst (λ (z : Deed). IsIn (post_one m.to kinds.RolledBack m.from) z.says) (sym (dx ∙ is)) (inl refl)) refl)
+    watched_asked x dx (Doubts l at other is) = Up_lives (record { node = d.after; up = here_to; live = l; found = ap (λ (z : TurnDraft). live_at z.after m.to) (dx ∙ is) ∙ at })
+    watched_asked x dx (Dropped l at is) = Is_rolled (told_flies is_rollback kinds.RolledBack (subst (λ (z : TurnDraft). IsIn (post_one m.to kinds.RolledBack m.from) z.says) (sym (dx ∙ is)) (inl refl)) refl)
 
     unasked_still : (q z : BranchId) → was_asked (said_in f) q z ≡ false → was_asked (said_in g) q z ≡ false
     unasked_still q z unasked = ap (λ said. was_asked said q z) said_now ∙ unasked_on (said_in f) d.says q z (no_prepare d result) unasked
@@ -308,7 +269,7 @@ module _ (t : History) (s_lawful : IsLawfulRun t) (u : Turn) (k : NodeState) whe
     same_born x z one other me = (let both : Some x ≡ Some z = sym one ∙ (ap (born_at (births_of t)) me ∙ other) in cc)
 
     -- a live neighbour that is toward and is no child is the parent
-    under_parent : (s : Standing) → KeptIs B s → s.me ≡ m.from → s.toward ≡ Some m.to → (l : Live) → live_at k m.to ≡ Some l → is_branch m.from l.parent ≡ false → s.parent ≡ Some m.to
+    under_parent : (s : KeptRow) → KeptIs B s → s.me ≡ m.from → s.toward ≡ Some m.to → (l : Live) → live_at k m.to ≡ Some l → is_branch m.from l.parent ≡ false → s.parent ≡ Some m.to
     under_parent s is me toward l at other = elim (subst (TowardIs B s.me) toward is.site_way) [
       | inl up ↦ (let it : up.0 ≡ is.born = same_born up.0 is.born up.1 is.began (up.2 ∙ sym is.is_me) in sym is.is_parent ∙ (ap (λ (x : Born). x.parent) (sym it) ∙ up.3))
       | inr down ↦ (let born : LiveIs B l = all_found (LiveIs B) live_id k.lives m.to l (nodes_name_the_born t s_lawful u.node k may.up).0 at in
@@ -319,7 +280,7 @@ module _ (t : History) (s_lawful : IsLawfulRun t) (u : Turn) (k : NodeState) whe
     ]
 
     -- the row of the branch that asked
-    sought_asked : (s : Standing) → KeptIs B s → s.me ≡ m.from → s.toward ≡ Some m.to → (x : Deed) → d ≡ x → Result x → Sought g s m.to
+    sought_asked : (s : KeptRow) → KeptIs B s → s.me ≡ m.from → s.toward ≡ Some m.to → (x : TurnDraft) → d ≡ x → Result x → Sought g s m.to
     sought_asked s born me toward x dx (Rolls is) = Is_told (subst (Flies is_decision g m.to) (sym me) (told_flies is_decision kinds.RolledBack (says_one kinds.RolledBack (dx ∙ is)) refl))
     sought_asked s born me toward x dx (Row_tells r at near is) = by r.decision refl
       where
@@ -331,29 +292,29 @@ module _ (t : History) (s_lawful : IsLawfulRun t) (u : Turn) (k : NodeState) whe
             Is_told (subst (Flies is_decision g m.to) (sym me) (told_flies is_decision (tells (Some o)) (says_one (tells (Some o)) (dx ∙ (is ∙ ap (λ (w : Option Decision). saying k0 (post m.to m.from (tells w))) known))) decides))
 
         by : (o : Option Decision) → r.decision ≡ o → Sought g s m.to
-        by None undecided = (let on = names_on m.to s.me names in In_doubt on.0 (ap (λ (w : Standing). w.decision) on.1 ∙ undecided))
+        by None undecided = (let on = names_on m.to s.me names in In_doubt on.0 (ap (λ (w : KeptRow). w.decision) on.1 ∙ undecided))
         by (Some (decisions.Commit n)) known = told (decisions.Commit n) known refl
         by (Some decisions.Rollback) known = told decisions.Rollback known refl
     sought_asked s born me toward x dx (Doubts l at other is) =
-        Under_live (record { node = d.after; up = here_to; live = l; found = ap (λ (z : Deed). live_at z.after m.to) (dx ∙ is) ∙ at }) (under_parent s born me toward l at other)
+        Under_live (record { node = d.after; up = here_to; live = l; found = ap (λ (z : TurnDraft). live_at z.after m.to) (dx ∙ is) ∙ at }) (under_parent s born me toward l at other)
     sought_asked s born me toward x dx (Dropped l at is) =
-        Is_told (subst (Flies is_decision g m.to) (sym me) (told_flies is_decision kinds.RolledBack (subst (λ (z : Deed). IsIn (post_one m.to kinds.RolledBack m.from) z.says) (sym (dx ∙ is)) (inl refl)) refl))
+        Is_told (subst (Flies is_decision g m.to) (sym me) (told_flies is_decision kinds.RolledBack (subst (λ (z : TurnDraft). IsIn (post_one m.to kinds.RolledBack m.from) z.says) (sym (dx ∙ is)) (inl refl)) refl))
 
     -- its parent asked a branch that is sealed
-    asked_above : (s : Standing) → KeptIs B s → (n : ℕ) → exit (events_of t) s.me ≡ Some (Sealed n) → (q : BranchId) → s.parent ≡ Some q → was_asked (said_in f) q s.me ≡ true
+    asked_above : (s : KeptRow) → KeptIs B s → (n : ℕ) → exit (events_of t) s.me ≡ Some (Sealed n) → (q : BranchId) → s.parent ≡ Some q → was_asked (said_in f) q s.me ≡ true
     asked_above s born n sealed q parent =
         let heard = left_were_asked t s_lawful s.me (Sealed n) sealed (λ no_drop. absurd cc) in
         let it : heard.0 ≡ born.born = same_born heard.0 born.born heard.1 born.began (heard.2 ∙ sym born.is_me) in
         heard.3 q (ap (λ (x : Born). x.parent) it ∙ (born.is_parent ∙ parent))
 
-    pub sought_on : (s : Standing) → KeptIs B s → (n : ℕ) → exit (events_of t) s.me ≡ Some (Sealed n) → (e : BranchId) → s.toward ≡ Some e → Sought f s e → Sought g s e
+    pub sought_on : (s : KeptRow) → KeptIs B s → (n : ℕ) → exit (events_of t) s.me ≡ Some (Sealed n) → (e : BranchId) → s.toward ≡ Some e → Sought f s e → Sought g s e
     sought_on s born n sealed e toward (Asks fly) = elim (flown is_ask s.me e fly) [
       | inl on ↦ Asks on
       | inr that ↦ subst (Sought g s) that.1 (sought_asked s born (sym that.0) (toward ∙ ap Some (sym that.1)) d refl result)
     ]
     sought_on s born n sealed e toward (Points fly) = Points (flies_on is_point s.me e refl fly)
     sought_on s born n sealed e toward (Is_told fly) = Is_told (flies_on is_decision e s.me refl fly)
-    sought_on s born n sealed e toward (In_doubt r undecided) = (let on = names_on e s.me r in In_doubt on.0 (ap (λ (w : Standing). w.decision) on.1 ∙ undecided))
+    sought_on s born n sealed e toward (In_doubt r undecided) = (let on = names_on e s.me r in In_doubt on.0 (ap (λ (w : KeptRow). w.decision) on.1 ∙ undecided))
     sought_on s born n sealed e toward (Under_live l parent) = elim (lives_on e l) [
       | inl on ↦ Under_live on parent
       | inr gone ↦ Is_told (subst (λ b. Flies is_decision g b s.me) (sym gone.2)
@@ -362,13 +323,13 @@ module _ (t : History) (s_lawful : IsLawfulRun t) (u : Turn) (k : NodeState) whe
 
     -- ---- all of them
 
-    abbrev RowSo : Facts → Standing → Type 0
+    abbrev RowSo : Facts → KeptRow → Type 0
     RowSo x s = s.decision ≡ None → (e : BranchId) → s.toward ≡ Some e → Sought x s e
 
     abbrev LiveSo : Facts → Live → Type 0
     LiveSo x l = (q : BranchId) → l.parent ≡ Some q → Watched x l.me q
 
-    row_on : (s : Standing) → (RowIs (events_of t) s × KeptIs B s) × RowSo f s → RowSo g s
+    row_on : (s : KeptRow) → (RowIs (events_of t) s × KeptIs B s) × RowSo f s → RowSo g s
     row_on s so undecided e toward = sought_on s so.0.1 s.scn (subst (IsKnown (events_of t) s) undecided so.0.0.known).0 e toward (so.1 undecided e toward)
 
     rows_on : (n : ℕ) (i : NodeState) → node_at f n ≡ Some i → AllByRecursion (RowSo f) i.stored.durable.kept → AllByRecursion (RowSo g) i.stored.durable.kept
@@ -376,18 +337,18 @@ module _ (t : History) (s_lawful : IsLawfulRun t) (u : Turn) (k : NodeState) whe
         all_weaker (λ s. (RowIs (events_of t) s × KeptIs B s) × RowSo f s) (RowSo g) row_on i.stored.durable.kept
         (all_both _ _ i.stored.durable.kept (all_both _ _ i.stored.durable.kept (nodes_are_as_events t s_lawful n i up).1 (nodes_name_the_born t s_lawful n i up).1) all)
 
-    lives_left : (P : Live → Type 0) (x : Deed) → Result x → AllByRecursion P k.lives → AllByRecursion P x.after.lives
-    lives_left P x (Rolls is) all = subst (λ (z : Deed). AllByRecursion P z.after.lives) (sym is) all
-    lives_left P x (Row_tells s at near is) all = subst (λ (z : Deed). AllByRecursion P z.after.lives) (sym is) all
-    lives_left P x (Doubts l at other is) all = subst (λ (z : Deed). AllByRecursion P z.after.lives) (sym is) all
-    lives_left P x (Dropped l at is) all = subst (λ (z : Deed). AllByRecursion P z.after.lives) (sym is) (all_without P live_id k.lives l.me all)
+    lives_left : (P : Live → Type 0) (x : TurnDraft) → Result x → AllByRecursion P k.lives → AllByRecursion P x.after.lives
+    lives_left P x (Rolls is) all = subst (λ (z : TurnDraft). AllByRecursion P z.after.lives) (sym is) all
+    lives_left P x (Row_tells s at near is) all = subst (λ (z : TurnDraft). AllByRecursion P z.after.lives) (sym is) all
+    lives_left P x (Doubts l at other is) all = subst (λ (z : TurnDraft). AllByRecursion P z.after.lives) (sym is) all
+    lives_left P x (Dropped l at is) all = subst (λ (z : TurnDraft). AllByRecursion P z.after.lives) (sym is) (all_without P live_id k.lives l.me all)
 
     module _ (R : ℕ → Type 0) (now : Obliged R f) where
       rows_here : (n : ℕ) → R n → (j : NodeState) → node_at g n ≡ Some j → AllByRecursion (RowSo g) j.stored.durable.kept
       rows_here n r j up = elim (cases_nat u.node n) [
         | inl at ↦ (let both : Some d.after ≡ Some j = sym here ∙ subst (λ x. node_at g x ≡ Some j) (sym at) up in let its : d.after ≡ j = cc in
             let upf : node_at f n ≡ Some k = subst (λ x. node_at f x ≡ Some k) at may.up in
-            subst (λ (x : NodeState). AllByRecursion (RowSo g) x.stored.durable.kept) its (subst (λ (xs : List Standing). AllByRecursion (RowSo g) xs) (sym (rows_of d result)) (rows_on n k upf (now.rows n r k upf))))
+            subst (λ (x : NodeState). AllByRecursion (RowSo g) x.stored.durable.kept) its (subst (λ (xs : List KeptRow). AllByRecursion (RowSo g) xs) (sym (rows_of d result)) (rows_on n k upf (now.rows n r k upf))))
         | inr other ↦ (let upf : node_at f n ≡ Some j = sym (turn_elsewhere t.places t.commands f even u n other).0 ∙ up in rows_on n j upf (now.rows n r j upf))
       ]
 

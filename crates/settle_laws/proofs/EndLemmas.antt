@@ -1,44 +1,42 @@
 -- Where it is so of all nodes, nothing flies any more, and each live root works, nothing is in doubt.
-use Rattle.std.proofs.Common.{◌≡◌, ◌≢◌, ℕ, zero, suc, ◌+◌, ◌<◌, ◌≤◌, ◌⊎◌, Bool, true, false, List, [], ◌∷◌, Option, Some, None, inl, inr, refl, sym, ap, subst, ◌∙◌, arith, append-nil}
+use Rattle.std.proofs.Common.{◌≡◌, ◌≢◌, ℕ, zero, suc, ◌+◌, ◌<◌, ◌≤◌, Bool, true, false, List, [], ◌∷◌, Option, Some, None, inl, inr, refl, sym, ap, subst, ◌∙◌, arith, append-nil}
 use Rattle.std.specs.List.{AllByRecursion}
 use Rattle.tran_ids.proofs.ListedLemmas.{item_is}
-use Rattle.commit_forget.specs.Beyond.{is_neighbor}
 use Rattle.agreement.specs.Events.{Forest, Event, Sealed, Send_rollback, Learn, exit, learned, Has, Knows, Lawful, site_of}
 use Rattle.agreement.proofs.EventLemmas.{learn_by, learned_new}
 use Rattle.agreement.proofs.Invariant.{Inv, allowed_at}
-use Rattle.node_rules.specs.Data.{BranchId, Decision, Kind, Live, Phase, Standing}
+use Rattle.node_rules.specs.Data.{BranchId, Decision, Kind, Live, KeptRow}
 use Rattle.node_rules.specs.Data.decisions
 use Rattle.node_rules.specs.Data.phases
-use Rattle.node_rules.specs.NodeState.{NodeState, Branch, branch_at, live_at, live_id, standing_at, standing_id, with_work, work_at}
+use Rattle.node_rules.specs.NodeState.{NodeState, branch_at, live_at, live_id, kept_row_at, kept_row_id, with_work, work_at}
 use Rattle.run_rules.specs.Births.{Born, born_at, births_of}
 use Rattle.run_base_laws.specs.BirthLaws.{Began, KeptIs, LiveIs, StandsBelow}
 use Rattle.run_rules.specs.Data.fates
 use Rattle.run_base_laws.specs.EventRows.{RowIs, IsKnown}
-use Rattle.run_rules.specs.Facts.{Facts, node_at}
+use Rattle.run_rules.specs.Facts.{node_at}
 use Rattle.run_base_laws.specs.FreezeLaws.{was_asked}
 use Rattle.run_base_laws.specs.InTurnLaws.{said_in}
 use Rattle.run_rules.specs.Lawful.{History, IsLawfulRun, facts_at}
-use Rattle.run_base_laws.specs.RunEvents.{events_of}
 use Rattle.run_base_laws.proofs.BirthRunLemmas.{nodes_name_the_born, births_are_trees}
 use Rattle.run_base_laws.proofs.EventsStandLemmas.{nodes_are_as_events}
 use Rattle.run_branch_laws.proofs.FreezeRunLemmas.{asked_stand_still}
 use Rattle.run_base_laws.proofs.OwnLemmas.{all_found}
-use Rattle.tree_laws.specs.Forests.{forest_of}
 use Rattle.tree_laws.proofs.ForestRunLemmas.{runs_have_forests}
-use Rattle.tree_site_laws.proofs.HeardLemmas.{left_were_asked}
-use Rattle.tree_site_laws.proofs.TimeLemmas.{Part}
-use Rattle.commit_laws.proofs.ListLemmas.{IsIn, all_in, in_all}
+use Rattle.tree_laws.proofs.HeardLemmas.{left_were_asked}
+use Rattle.tree_laws.proofs.TimeLemmas.{Part}
 use Rattle.commit_laws.proofs.NetLemmas.{numbered_all}
-use Rattle.commit_forget_laws.proofs.EventLemmas.{part_inv, part_allowed, learn_knows}
-use Rattle.commit_forget_laws.proofs.WayLemmas.{WayIs, rows_way}
+use Rattle.tree_laws.proofs.MoreLemmas.{inv_at, lawful_at}
+use Rattle.commit_forget_laws.proofs.EventLemmas.{learn_knows}
+use Rattle.tree_laws.proofs.FitRowLemmas.{RowFits, rows_fit}
 use Rattle.settle_laws.specs.RowLaws.{RowHolds, NamesSo}
 use Rattle.settle_laws.specs.Interval.{Flies, LivesAt, RowNames, Sought, Asks, Points, Is_told, In_doubt, Under_live, Watched, Asks_up, Is_rolled, Up_lives, Up_names, Unasked, Obliged}
 use Rattle.settle_laws.specs.EndLaws.{NothingFlies, RootsWork, NothingInDoubt, ObligedAreSettled}
 use Rattle.settle_laws.proofs.RowLemmas.{rows_hold, names_so}
 use Rattle.settle_laws.proofs.OverLemmas.{rollers_left}
-use Rattle.settle_laws.proofs.FoundLiveLemmas.{lives_found}
+use Rattle.commit_forget_laws.proofs.FoundRowLemmas.{lives_found}
 use Rattle.commit_forget_laws.proofs.FoundRowLemmas.{rows_found}
 use Rattle.run_rules.proofs.ListLemmas.{all_weaker}
+use Rattle.tree_laws.proofs.AtPart.{at_end}
 
 -- who learned a rollback was told it by the neighbour that is toward
 pub learn_rolled : (p : Forest) (t : List Event) → Lawful p t → (b : BranchId) → learned t b ≡ Some decisions.Rollback → Has (Send_rollback (p.toward b) b) t
@@ -49,14 +47,7 @@ learn_rolled p (s ∷ t) lawful b is = elim (learned_new s t b decisions.Rollbac
 ]
 
 module _ (t : History) (whole : IsLawfulRun t) (now : Obliged (λ n. Unit {0}) (facts_at t)) (still : NothingFlies (facts_at t)) (work : RootsWork (facts_at t)) where
-  abbrev f : Facts
-  f = facts_at t
-
-  abbrev e : List Event
-  e = events_of t
-
-  abbrev p : Forest
-  p = forest_of t
+  open at_end t use {f, e, forest as p}
 
   abbrev B : Born → Type 0
   B x = Began (births_of t) x
@@ -65,7 +56,7 @@ module _ (t : History) (whole : IsLawfulRun t) (now : Obliged (λ n. Unit {0}) (
   part = record { rest = []; is = append-nil t.trace }
 
   i : Inv p e
-  i = part_inv t whole t.trace part
+  i = inv_at t whole t.trace part
 
   none_flies : (test : Kind → Bool) (a b : BranchId) → Flies test f a b → ⊥
   none_flies test a b fly = numbered_all (λ x. x.fate ≢ fates.InFlight) f.net.packets fly.0 fly.1 still fly.2.sent fly.2.flying
@@ -107,11 +98,11 @@ module _ (t : History) (whole : IsLawfulRun t) (now : Obliged (λ n. Unit {0}) (
         by (Some q) parent = (q, parent, rules.1 not_working q parent)
 
   -- a row that names a live branch as toward does not know its decision
-  undecided_row : (n : ℕ) (k : NodeState) (up : node_at f n ≡ Some k) (s : Standing) → standing_at k s.me ≡ Some s → (z : BranchId) → s.toward ≡ Some z → exit e z ≡ None → s.decision ≡ None
-  undecided_row n k up s row z toward live = by s.decision refl (all_found (RowIs e) standing_id k.stored.durable.kept s.me s (nodes_are_as_events t whole n k up).1 row).known
+  undecided_row : (n : ℕ) (k : NodeState) (up : node_at f n ≡ Some k) (s : KeptRow) → kept_row_at k s.me ≡ Some s → (z : BranchId) → s.toward ≡ Some z → exit e z ≡ None → s.decision ≡ None
+  undecided_row n k up s row z toward live = by s.decision refl (all_found (RowIs e) kept_row_id k.stored.durable.kept s.me s (nodes_are_as_events t whole n k up).1 row).known
     where
-      way : WayIs p s.me s.toward
-      way = all_found (λ (y : Standing). WayIs p y.me y.toward) standing_id k.stored.durable.kept s.me s (rows_way t whole t.trace part n k up) row
+      way : RowFits p s.me s.toward
+      way = all_found (λ (y : KeptRow). RowFits p y.me y.toward) kept_row_id k.stored.durable.kept s.me s (rows_fit t whole t.trace part n k up) row
 
       its : (p.toward s.me ≡ z) × (s.me ≢ site_of p s.me)
       its = elim way [
@@ -126,9 +117,9 @@ module _ (t : History) (whole : IsLawfulRun t) (now : Obliged (λ n. Unit {0}) (
       by : (o : Option Decision) → s.decision ≡ o → IsKnown e s o → s.decision ≡ None
       by None is known = is
       by (Some (decisions.Commit m)) is (inl decided) = absurd (its.1 (i.decided_at s.me m decided))
-      by (Some (decisions.Commit m)) is (inr learnt) = absurd (knows_not (subst (λ b. Knows e b m) its.0 (learn_knows p e (part_allowed t whole t.trace part) s.me m learnt)))
+      by (Some (decisions.Commit m)) is (inr learnt) = absurd (knows_not (subst (λ b. Knows e b m) its.0 (learn_knows p e (lawful_at t whole t.trace part) s.me m learnt)))
       by (Some decisions.Rollback) is known =
-          let teller = rollers_left t whole (p.toward s.me) s.me (learn_rolled p e (part_allowed t whole t.trace part) s.me known) in
+          let teller = rollers_left t whole (p.toward s.me) s.me (learn_rolled p e (lawful_at t whole t.trace part) s.me known) in
           let left : exit e z ≡ Some teller.0 = subst (λ b. exit e b ≡ Some teller.0) its.0 teller.1 in absurd (cc (live, left))
 
   -- no live branch was asked, where none was that is less deep
@@ -153,26 +144,26 @@ module _ (t : History) (whole : IsLawfulRun t) (now : Obliged (λ n. Unit {0}) (
       -- the row of its parent names it, so it is toward there, and knows nothing
       named : RowNames f q l.me → ⊥
       named r =
-          let me : r.row.me ≡ q = item_is standing_id r.node.stored.durable.kept q r.row r.found in
-          let row : standing_at r.node r.row.me ≡ Some r.row = subst (λ b. standing_at r.node b ≡ Some r.row) (sym me) r.found in
-          let names : NamesSo e r.row = names_so e r.row (all_found (RowHolds e) standing_id r.node.stored.durable.kept q r.row (rows_hold t whole q.node r.node r.up) r.found).sealed in
+          let me : r.row.me ≡ q = item_is kept_row_id r.node.stored.durable.kept q r.row r.found in
+          let row : kept_row_at r.node r.row.me ≡ Some r.row = subst (λ b. kept_row_at r.node b ≡ Some r.row) (sym me) r.found in
+          let names : NamesSo e r.row = names_so e r.row (all_found (RowHolds e) kept_row_id r.node.stored.durable.kept q r.row (rows_hold t whole q.node r.node r.up) r.found).sealed in
           elim (names l.me r.names) [
             | inl sealed ↦ (let left = sealed.1 in let live = unleft n k up l found in absurd (cc (live, left)))
             | inr on ↦ sought r row me on
-                (all_found (λ (y : Standing). y.decision ≡ None → (c : BranchId) → y.toward ≡ Some c → Sought f y c) standing_id r.node.stored.durable.kept q r.row (now.rows q.node tt r.node r.up) r.found
+                (all_found (λ (y : KeptRow). y.decision ≡ None → (c : BranchId) → y.toward ≡ Some c → Sought f y c) kept_row_id r.node.stored.durable.kept q r.row (now.rows q.node tt r.node r.up) r.found
                 (undecided_row q.node r.node r.up r.row row l.me on (unleft n k up l found)) l.me on)
           ]
         where
-          sought : (r : RowNames f q l.me) → standing_at r.node r.row.me ≡ Some r.row → r.row.me ≡ q → r.row.toward ≡ Some l.me → Sought f r.row l.me → ⊥
+          sought : (r : RowNames f q l.me) → kept_row_at r.node r.row.me ≡ Some r.row → r.row.me ≡ q → r.row.toward ≡ Some l.me → Sought f r.row l.me → ⊥
           sought r row me on (Asks fly) = none_flies _ r.row.me l.me fly
           sought r row me on (Points fly) = none_flies _ r.row.me l.me fly
           sought r row me on (Is_told fly) = none_flies _ l.me r.row.me fly
           sought r row me on (In_doubt w undecided) =
-              let its : RowIs e w.row = all_found (RowIs e) standing_id w.node.stored.durable.kept l.me w.row (nodes_are_as_events t whole l.me.node w.node w.up).1 w.found in
-              its.left (ap (exit e) (item_is standing_id w.node.stored.durable.kept l.me w.row w.found) ∙ unleft n k up l found)
+              let its : RowIs e w.row = all_found (RowIs e) kept_row_id w.node.stored.durable.kept l.me w.row (nodes_are_as_events t whole l.me.node w.node w.up).1 w.found in
+              its.left (ap (exit e) (item_is kept_row_id w.node.stored.durable.kept l.me w.row w.found) ∙ unleft n k up l found)
           sought r row me on (Under_live v parent_of) =
               -- it would be the parent of its parent
-              let its : KeptIs B r.row = all_found (KeptIs B) standing_id r.node.stored.durable.kept q r.row (nodes_name_the_born t whole q.node r.node r.up).1 r.found in
+              let its : KeptIs B r.row = all_found (KeptIs B) kept_row_id r.node.stored.durable.kept q r.row (nodes_name_the_born t whole q.node r.node r.up).1 r.found in
               let over : StandsBelow B its.born (Some l.me) = subst (StandsBelow B its.born) (its.is_parent ∙ parent_of) (below its.born its.began) in
               let one : up_one.0 ≡ its.born = same_born up_one.0 its.born up_one.1 its.began (up_one.2 ∙ (sym me ∙ sym its.is_me)) in
               let two : over.0 ≡ place.born = same_born over.0 place.born over.1 place.began (over.2 ∙ sym place.is_me) in
@@ -197,25 +188,25 @@ module _ (t : History) (whole : IsLawfulRun t) (now : Obliged (λ n. Unit {0}) (
 
   -- ---- an undecided row
 
-  asked_above : (s : Standing) → KeptIs B s → (n : ℕ) → exit e s.me ≡ Some (Sealed n) → (q : BranchId) → s.parent ≡ Some q → was_asked (said_in f) q s.me ≡ true
+  asked_above : (s : KeptRow) → KeptIs B s → (n : ℕ) → exit e s.me ≡ Some (Sealed n) → (q : BranchId) → s.parent ≡ Some q → was_asked (said_in f) q s.me ≡ true
   asked_above s its n sealed q parent =
       let heard = left_were_asked t whole s.me (Sealed n) sealed (λ no_drop. absurd cc) in
       let at : heard.0 ≡ its.born = same_born heard.0 its.born heard.1 its.began (heard.2 ∙ sym its.is_me) in
       heard.3 q (ap (λ (x : Born). x.parent) at ∙ (its.is_parent ∙ parent))
 
   -- no row is undecided, where none is that is nearer to the site
-  one_decided : (n : ℕ) (k : NodeState) → node_at f n ≡ Some k → (s : Standing) → standing_at k s.me ≡ Some s → s.decision ≡ None
+  one_decided : (n : ℕ) (k : NodeState) → node_at f n ≡ Some k → (s : KeptRow) → kept_row_at k s.me ≡ Some s → s.decision ≡ None
       → ((c : BranchId) (r : RowNames f c s.me) → r.row.decision ≡ None → p.far c < p.far s.me → ⊥) → ⊥
   one_decided n k up s row undecided again = by s.toward refl way
     where
-      way : WayIs p s.me s.toward
-      way = all_found (λ (y : Standing). WayIs p y.me y.toward) standing_id k.stored.durable.kept s.me s (rows_way t whole t.trace part n k up) row
+      way : RowFits p s.me s.toward
+      way = all_found (λ (y : KeptRow). RowFits p y.me y.toward) kept_row_id k.stored.durable.kept s.me s (rows_fit t whole t.trace part n k up) row
 
       sealed : exit e s.me ≡ Some (Sealed s.scn)
-      sealed = (subst (IsKnown e s) undecided (all_found (RowIs e) standing_id k.stored.durable.kept s.me s (nodes_are_as_events t whole n k up).1 row).known).0
+      sealed = (subst (IsKnown e s) undecided (all_found (RowIs e) kept_row_id k.stored.durable.kept s.me s (nodes_are_as_events t whole n k up).1 row).known).0
 
       its : KeptIs B s
-      its = all_found (KeptIs B) standing_id k.stored.durable.kept s.me s (nodes_name_the_born t whole n k up).1 row
+      its = all_found (KeptIs B) kept_row_id k.stored.durable.kept s.me s (nodes_name_the_born t whole n k up).1 row
 
       sought : (c : BranchId) → p.far c < p.far s.me → Sought f s c → ⊥
       sought c near (Asks fly) = none_flies _ s.me c fly
@@ -228,7 +219,7 @@ module _ (t : History) (whole : IsLawfulRun t) (now : Obliged (λ n. Unit {0}) (
           let above = asker c.node v.node v.up v.live live s.me (subst (λ b. was_asked (said_in f) b s.me ≡ true) (sym me) (asked_above s its s.scn sealed c parent)) in
           unasked v.live.depth c.node v.node v.up v.live live (omega arith) above.0 above.1 above.2
 
-      by : (o : Option BranchId) → s.toward ≡ o → WayIs p s.me s.toward → ⊥
+      by : (o : Option BranchId) → s.toward ≡ o → RowFits p s.me s.toward → ⊥
       by None none (inl on) = (let some = on.0 in absurd (cc (none, some)))
       by None none (inr site) = (i.sealed_in s.me s.scn sealed).1 site.1
       by (Some c) toward (inr site) = (let none = site.0 in absurd (cc (none, toward)))
@@ -236,13 +227,13 @@ module _ (t : History) (whole : IsLawfulRun t) (now : Obliged (λ n. Unit {0}) (
           let both : Some (p.toward s.me) ≡ Some c = sym on.0 ∙ toward in
           let it : p.toward s.me ≡ c = cc in
           sought c (subst (λ b. p.far b < p.far s.me) it ((runs_have_forests t whole).nearer s.me on.1 on.2))
-          (all_found (λ (y : Standing). y.decision ≡ None → (b : BranchId) → y.toward ≡ Some b → Sought f y b) standing_id k.stored.durable.kept s.me s (now.rows n tt k up) row undecided c toward)
+          (all_found (λ (y : KeptRow). y.decision ≡ None → (b : BranchId) → y.toward ≡ Some b → Sought f y b) kept_row_id k.stored.durable.kept s.me s (now.rows n tt k up) row undecided c toward)
 
-  decided : (fuel : ℕ) (n : ℕ) (k : NodeState) → node_at f n ≡ Some k → (s : Standing) → standing_at k s.me ≡ Some s → s.decision ≡ None → p.far s.me ≤ fuel → ⊥
+  decided : (fuel : ℕ) (n : ℕ) (k : NodeState) → node_at f n ≡ Some k → (s : KeptRow) → kept_row_at k s.me ≡ Some s → s.decision ≡ None → p.far s.me ≤ fuel → ⊥
   decided zero n k up s row undecided low = one_decided n k up s row undecided (λ c r none_known near. absurd (omega (arith, near, low)))
   decided (suc w) n k up s row undecided low = one_decided n k up s row undecided (λ c r none_known near.
-      (let me : r.row.me ≡ c = item_is standing_id r.node.stored.durable.kept c r.row r.found in
-      decided w c.node r.node r.up r.row (subst (λ b. standing_at r.node b ≡ Some r.row) (sym me) r.found) none_known (subst (λ b. p.far b ≤ w) (sym me) (omega (arith, near, low)))))
+      (let me : r.row.me ≡ c = item_is kept_row_id r.node.stored.durable.kept c r.row r.found in
+      decided w c.node r.node r.up r.row (subst (λ b. kept_row_at r.node b ≡ Some r.row) (sym me) r.found) none_known (subst (λ b. p.far b ≤ w) (sym me) (omega (arith, near, low)))))
 
   pub nothing_in_doubt : NothingInDoubt f
   nothing_in_doubt n k up = (

@@ -5,17 +5,16 @@ use Rattle.std.proofs.lemmas.List.{append_assoc}
 use Rattle.std.proofs.lemmas.Bool.{cond_both}
 use Rattle.tran_ids.specs.Branch.{put_by_branch, branch_below}
 use Rattle.tran_ids.proofs.NumberedLemmas.{set_or_before}
-use Rattle.net_bag.specs.Net.{Net, sent_one, sent_on, is_lost_at_once, lost_at_once, first_fate, fated, with_fate, flies, packet, packet_at, delivered}
-use Rattle.node_rules.specs.Data.{BranchId, Input, Kind, Msg, Place, Post}
+use Rattle.net_bag.specs.Net.{Net, sent_one, sent_on, is_lost_at_once, lost_at_once, first_fate, fated, with_fate, packet, packet_at, delivered}
+use Rattle.node_rules.specs.Data.{BranchId, Kind, Msg, Place}
 use Rattle.node_rules.specs.Data.inputs
 use Rattle.node_rules.specs.NodeState.{NodeState}
-use Rattle.node_rules.specs.Turn.{stamped}
-use Rattle.node_rules.specs.Words.{numbered, set_numbered}
+use Rattle.node_rules.specs.Words.{numbered}
 use Rattle.run_rules.specs.Data.{Packet, Took, Turn, Command}
 use Rattle.run_rules.specs.Data.fates
 use Rattle.run_rules.specs.Data.happenings
 use Rattle.run_rules.specs.Facts.{Facts, taken, facts_after}
-use Rattle.run_rules.specs.Lawful.{Comes, IsInFlight}
+use Rattle.run_rules.specs.Lawful.{Comes}
 use Rattle.run_base_laws.proofs.TurnEventLemmas.{cases_nat}
 use Rattle.commit_laws.proofs.ListLemmas.{IsIn}
 use Rattle.settle_laws.specs.Interval.{Flies}

@@ -1,10 +1,10 @@
 -- Why a branch says Forgotten: its record of this turn is Forgot, or its row has forgotten, or it is gone and is acknowledged.
-use Rattle.std.proofs.Common.{◌≡◌, ◌≢◌, ℕ, ◌+◌, ◌-◌, ◌⊎◌, ◌&&◌, not, Bool, true, false, if◌then◌else◌, List, [], ◌∷◌, ◌++◌, length, map, filter, fold, is_none, Option, Some, None, inl, inr, refl, sym, ap, subst, ◌∙◌}
+use Rattle.std.proofs.Common.{◌≡◌, ℕ, ◌+◌, ◌-◌, ◌⊎◌, ◌&&◌, not, Bool, true, false, if◌then◌else◌, List, [], ◌∷◌, ◌++◌, length, map, filter, fold, is_none, Option, Some, None, inl, inr, refl, ap, ◌∙◌}
 use Rattle.std.specs.Prelude.{flat_map}
 use Rattle.std.specs.List.{AllByRecursion}
 use Rattle.std.proofs.lemmas.Bool.{cond_both}
 use Rattle.agreement.specs.Events.{Event, Forget, Has}
-use Rattle.node_rules.specs.Data.{Answer, BranchId, Decision, Edge, Stmt, Kind, Standing, Live, Place, Input, RedoRecord}
+use Rattle.node_rules.specs.Data.{Answer, BranchId, Decision, Edge, Stmt, Kind, KeptRow, Place, Input, RedoRecord}
 use Rattle.node_rules.specs.Data.decisions
 use Rattle.node_rules.specs.Data.kinds
 use Rattle.node_rules.specs.Data.records
@@ -16,23 +16,22 @@ use Rattle.commit_forget.specs.declared.next.Beyond.{Beyond}
 use Rattle.commit_forget.specs.declared.next.Next.TheVariants as nexts
 use Rattle.commit_forget.specs.Next.{ack_counts, acked_by, next_on_ack}
 use Rattle.node_rules.specs.Words.{put_by_branch}
-use Rattle.node_rules.specs.NodeState.{NodeState, Branch, Deed, post_one, to_each, to_one, standing_id, standing_at, branch_at, with_standing, nothing, post}
+use Rattle.node_rules.specs.NodeState.{NodeState, Branch, TurnDraft, post_one, to_each, to_one, kept_row_id, kept_row_at, branch_at, with_kept_row, nothing}
 use Rattle.session_tree.specs.Tree.{step as step_from}
 use Rattle.node_rules.specs.Calls.{answer_says, exec_to, with_edge, hears_reply}
 use Rattle.node_rules.specs.Statement.{ran, after_run}
 use Rattle.node_rules.specs.Prepare.{path_of, prepares, site_neighbors}
-use Rattle.node_rules.specs.Commit.{all_acked, beyond, is_neighbor, passes_commit, rollback_to, passes, next_turn, counts_ack, on_ack, to_beyond}
+use Rattle.node_rules.specs.Commit.{all_acked, beyond, passes_commit, rollback_to, passes, next_turn, counts_ack, on_ack}
 use Rattle.reco.specs.declared.told.Told.{Told}
 use Rattle.reco.specs.declared.told.Told.TheVariants as tolds
-use Rattle.node_rules.specs.Recovery.{told_by, told_kind, Asking, asking_id, asks_live, asks_kept, acks_again, recovers, askings, ask_answer}
-use Rattle.node_rules.specs.Turn.{Is_gone, live_or, stand_of, ack_turn}
+use Rattle.node_rules.specs.Recovery.{told_kind, Asking, asking_id, asks_live, asks_kept, acks_again, recovers, askings}
+use Rattle.node_rules.specs.Turn.{Is_gone, live_or, status_of, ack_turn}
 use Rattle.node_rules.specs.Inputs.{Came}
 use Rattle.node_rules.proofs.Steps as steps
 use Rattle.node_rules.proofs.Steps.{Step, Says}
 use Rattle.run_base_laws.specs.EventRows.{RowIs, RowsAre}
-use Rattle.run_rules.proofs.ListLemmas.{all_weaker, all_append, all_map, all_each, all_put}
+use Rattle.run_rules.proofs.ListLemmas.{all_append, all_each, all_put}
 use Rattle.run_base_laws.proofs.OwnLemmas.{all_found}
-use Rattle.tran_ids.proofs.ListedLemmas.{item_is}
 
 -- ---- lists of messages
 
@@ -67,11 +66,11 @@ module _ (Q : BranchId → BranchId → Type 0) where
   prepares_told me comment path i [] = tt
   prepares_told me comment path i (e ∷ es) = (tt, prepares_told me comment path (i + 1) es)
 
-  commit_told : (s : Standing) (n : ℕ) (bs : List Beyond) → AllSo (passes_commit s n bs)
+  commit_told : (s : KeptRow) (n : ℕ) (bs : List Beyond) → AllSo (passes_commit s n bs)
   commit_told s n [] = one_told s.me kinds.Ack s.toward (λ b. tt)
   commit_told s n (b ∷ bs) = each_told s.me (kinds.Committed n) (map (λ c. c.branch) (b ∷ bs)) (λ c. tt)
 
-  passes_told : (s : Standing) (d : Decision) → AllSo (passes s d)
+  passes_told : (s : KeptRow) (d : Decision) → AllSo (passes s d)
   passes_told s (decisions.Commit n) = commit_told s n (beyond s)
   passes_told s decisions.Rollback =
       all_each May (rollback_to s.me) (beyond s) (λ b. cond_both b.is_parent kinds.RolledBack kinds.Rollback (λ kind. ForgottenSo s.me b.branch kind) (λ up. tt) (λ down. tt))
@@ -82,10 +81,10 @@ module _ (Q : BranchId → BranchId → Type 0) where
   told_told from to tolds.RollBackFirst = tt
   told_told from to tolds.InDoubt = tt
 
-  again_told : (s : Standing) → AllSo (acks_again s)
+  again_told : (s : KeptRow) → AllSo (acks_again s)
   again_told s = cond_both (all_acked s && not s.forgot) (to_one s.me kinds.Ack s.toward) [] AllSo (λ all. one_told s.me kinds.Ack s.toward (λ b. tt)) (λ some. tt)
 
-  recovers_told : (s : Standing) (d : Option Decision) → AllSo (recovers s d)
+  recovers_told : (s : KeptRow) (d : Option Decision) → AllSo (recovers s d)
   recovers_told s None = one_told s.me kinds.Ask s.toward (λ b. tt)
   recovers_told s (Some (decisions.Commit n)) =
       all_append May _ (acks_again s) (each_told s.me (kinds.Committed n) (map (λ b. b.branch) (filter (λ b. not b.acked) (beyond s))) (λ b. tt)) (again_told s)
@@ -115,7 +114,7 @@ module _ (p : Place) (input : Input) (no : (from to : BranchId) → Came input f
   abbrev pub Forgets : Option RedoRecord → BranchId → BranchId → Type 0
   Forgets w from to = w ≡ Some (records.Forgot from)
 
-  abbrev pub StepSo : Deed → Type 0
+  abbrev pub StepSo : TurnDraft → Type 0
   StepSo d = AllSo (Forgets d.wrote) d.says
 
   says_so : (k : NodeState) {says : List Post} → Says k input says → AllSo (Forgets None) says
@@ -124,7 +123,7 @@ module _ (p : Place) (input : Input) (no : (from to : BranchId) → Came input f
   says_so k (steps.Gone_forgets to from came gone) = absurd (no from to came)
   says_so k _ = (tt, tt)
 
-  pub step_so : {k : NodeState} {d : Deed} → Step p input k d → StepSo d
+  pub step_so : {k : NodeState} {d : TurnDraft} → Step p input k d → StepSo d
   step_so (steps.Begins m s call rows fit none step) = step_so step
   step_so (steps.Pends m l given call has live code step) = step_so step
   step_so (steps.Lets_reads_go l comment site_below live begins step) = step_so step
@@ -166,21 +165,21 @@ module _ (p : Place) (input : Input) (no : (from to : BranchId) → Came input f
 module _ (t : List Event) (k : NodeState) (from to : BranchId) (rows : RowsAre t k.stored.durable.kept) where
   -- the record is Forgot of who says it, or it had forgotten, or it is gone
   abbrev pub AckedSo : Option RedoRecord → BranchId → BranchId → Type 0
-  AckedSo w a b = (w ≡ Some (records.Forgot a)) ⊎ (Has (Forget a) t ⊎ ((stand_of k to ≡ Is_gone) × (a ≡ to) × (b ≡ from)))
+  AckedSo w a b = (w ≡ Some (records.Forgot a)) ⊎ (Has (Forget a) t ⊎ ((status_of k to ≡ Is_gone) × (a ≡ to) × (b ≡ from)))
 
-  abbrev pub AckSo : Deed → Type 0
+  abbrev pub AckSo : TurnDraft → Type 0
   AckSo d = AllSo (AckedSo d.wrote) d.says
 
-  module _ (s : Standing) (at : standing_at k to ≡ Some s) where
-    abbrev y : Standing
+  module _ (s : KeptRow) (at : kept_row_at k to ≡ Some s) where
+    abbrev y : KeptRow
     y = acked_by s from
 
-    counted : AckSo (next_turn (with_standing k y) y from (next_on_ack y))
+    counted : AckSo (next_turn (with_kept_row k y) y from (next_on_ack y))
     unfolding next_on_ack
     counted = by s.forgot refl (all_acked y) s.toward
       where
-        by : (f : Bool) → s.forgot ≡ f → (a : Bool) (o : Option BranchId) → AckSo (next_turn (with_standing k y) y from (if f then nexts.SayForgotten else (if a then (if is_none o then nexts.Forget else nexts.AckToward) else nexts.Rest)))
-        by true is a o = (inr (inl ((all_found (RowIs t) standing_id k.stored.durable.kept to s rows at).forgot is)), tt)
+        by : (f : Bool) → s.forgot ≡ f → (a : Bool) (o : Option BranchId) → AckSo (next_turn (with_kept_row k y) y from (if f then nexts.SayForgotten else (if a then (if is_none o then nexts.Forget else nexts.AckToward) else nexts.Rest)))
+        by true is a o = (inr (inl ((all_found (RowIs t) kept_row_id k.stored.durable.kept to s rows at).forgot is)), tt)
         by false is true None = each_told (AckedSo (Some (records.Forgot y.me))) y.me kinds.Forgotten (map (λ b. b.branch) (beyond y)) (λ b. inl refl)
         by false is true (Some q) = one_told (AckedSo None) y.me kinds.Ack y.toward (λ b. tt)
         by false is false o = tt
@@ -188,12 +187,12 @@ module _ (t : List Event) (k : NodeState) (from to : BranchId) (rows : RowsAre t
     here : AckSo (on_ack k s from)
     here = cond_both (ack_counts s from) (counts_ack k (acked_by s from) from) (nothing k) AckSo (λ counts. counted) (λ not. tt)
 
-  by_stand : (o : Option Branch) (q : Option Standing) → branch_at k to ≡ o → standing_at k to ≡ q → AckSo (ack_turn k from to (live_or o q))
-  unfolding stand_of
+  by_stand : (o : Option Branch) (q : Option KeptRow) → branch_at k to ≡ o → kept_row_at k to ≡ q → AckSo (ack_turn k from to (live_or o q))
+  unfolding status_of
   by_stand (Some x) q live at = tt
-  by_stand None None live at = (inr (inr (ap (λ (o : Option Branch). live_or o (standing_at k to)) live ∙ ap (live_or None) at, refl, refl)), tt)
+  by_stand None None live at = (inr (inr (ap (λ (o : Option Branch). live_or o (kept_row_at k to)) live ∙ ap (live_or None) at, refl, refl)), tt)
   by_stand None (Some s) live at = here s at
 
-  pub ack_so : AckSo (ack_turn k from to (stand_of k to))
-  unfolding stand_of
-  ack_so = by_stand (branch_at k to) (standing_at k to) refl refl
+  pub ack_so : AckSo (ack_turn k from to (status_of k to))
+  unfolding status_of
+  ack_so = by_stand (branch_at k to) (kept_row_at k to) refl refl

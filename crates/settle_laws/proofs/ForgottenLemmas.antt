@@ -1,29 +1,27 @@
 -- Who told Forgotten to a neighbour beyond has forgotten.
-use Rattle.std.proofs.Common.{◌≡◌, ◌≢◌, ℕ, ◌⊎◌, Bool, true, false, List, [], ◌∷◌, ◌++◌, map, Option, Some, None, inl, inr, refl, sym, ap, subst, ◌∙◌, append-nil}
-use Rattle.std.specs.List.{AllByRecursion, list_any}
-use Rattle.std.proofs.lemmas.Bool.{cond_both}
-use Rattle.agreement.specs.Events.{Forest, Event, Sealed, Decided, Quiet, Answer_read_only, Drop, Forget, Send_ack, Send_forgotten, Beyond, exit, learned, Has, Knows, Lawful}
+use Rattle.std.proofs.Common.{◌≡◌, ℕ, ◌⊎◌, Bool, true, false, List, [], ◌∷◌, ◌++◌, Option, Some, None, inl, inr, refl, sym, ap, subst, ◌∙◌, append-nil}
+use Rattle.std.specs.List.{AllByRecursion}
+use Rattle.agreement.specs.Events.{Forest, Event, Decided, Quiet, Forget, Send_ack, Send_forgotten, Beyond, exit, Has, Knows}
 use Rattle.agreement.proofs.Invariant.{Inv}
-use Rattle.node_rules.specs.Data.{BranchId, Input, Kind, Msg, RedoRecord, Standing, Place, Post}
+use Rattle.node_rules.specs.Data.{BranchId, Input, Kind, Msg, Place, Post}
 use Rattle.node_rules.specs.Data.decisions
 use Rattle.node_rules.specs.Data.inputs
 use Rattle.node_rules.specs.Data.kinds
 use Rattle.node_rules.specs.Data.records
 use Rattle.node_rules.specs.Inputs.{Came}
-use Rattle.node_rules.specs.NodeState.{NodeState, Deed}
-use Rattle.node_rules.specs.Turn.{Is_gone, stand_of, stamped, turn_of, heard, deed_of, kind_turn, ack_turn}
+use Rattle.node_rules.specs.NodeState.{NodeState, TurnDraft}
+use Rattle.node_rules.specs.Turn.{Is_gone, status_of, stamped, turn_of, heard, draft_of, kind_turn, ack_turn}
 use Rattle.run_rules.specs.Data.{Happening, Turn, Took}
 use Rattle.run_rules.specs.Data.happenings
 use Rattle.run_base_laws.specs.EventRows.{RowsAre, HasRow, IsDone}
-use Rattle.run_rules.specs.Facts.{Facts, first_facts, place_at, node_at, facts_after}
-use Rattle.run_rules.specs.Lawful.{IsOwed, MayHappen, MayTurn, Comes, History, IsLawfulRun, facts_at}
+use Rattle.run_rules.specs.Facts.{Facts, place_at, node_at, facts_after}
+use Rattle.run_rules.specs.Lawful.{IsOwed, MayHappen, MayTurn, Comes, History, IsLawfulRun}
 use Rattle.run_base_laws.specs.NodeLaws.{unacked_row}
-use Rattle.run_base_laws.specs.RunEvents.{with_event, record_event, wrote_event, message_event, with_messages, leave_event, has_left, with_leaver, with_leavers, with_record, with_exits, lives_at, events_after, events_from, events_of}
-use Rattle.run_rules.specs.Trail.{is_quiet}
+use Rattle.run_base_laws.specs.RunEvents.{with_event, wrote_event, message_event, with_messages, with_record, with_exits, lives_at, events_after, events_from, events_of}
 use Rattle.run_base_laws.proofs.EventsStandLemmas.{nodes_are_as_events, run_stands}
 use Rattle.run_branch_laws.proofs.GoneLemmas.{kept_not_gone, gone_are_done}
 use Rattle.run_branch_laws.proofs.KeptRowLemmas.{any_map}
-use Rattle.run_base_laws.proofs.LaterLemmas.{Added, exit_later, has_later, turn_added}
+use Rattle.run_base_laws.proofs.LaterLemmas.{has_later, turn_added}
 use Rattle.run_base_laws.proofs.LawfulLemmas.{serves}
 use Rattle.run_rules.proofs.ListLemmas.{all_weaker, all_map}
 use Rattle.run_base_laws.proofs.NodesStandLemmas.{stored_rows}
@@ -32,21 +30,21 @@ use Rattle.run_base_laws.proofs.StoredLemmas.{records_are_kept}
 use Rattle.run_branch_laws.proofs.TowardLemmas.{heard_rows}
 use Rattle.tree_laws.specs.Forests.{forest_of}
 use Rattle.tree_laws.proofs.DecidedRowLemmas.{IsAlone}
-use Rattle.tree_laws.proofs.PrefixLemmas.{so_far, f_at, e_at, one_on, more_on}
-use Rattle.tree_site_laws.proofs.TimeLemmas.{Part, part_of, part_lawful, may_of, exit_on, keep_on}
-use Rattle.commit_forget_laws.specs.RowLaws.{is_ack, IsSealed}
-use Rattle.commit_forget_laws.proofs.EventLemmas.{happening_added, part_allowed, part_inv, learn_knows}
+use Rattle.tree_laws.proofs.PrefixLemmas.{e_at, more_on}
+use Rattle.tree_laws.proofs.TimeLemmas.{may_of, exit_on, keep_on}
+use Rattle.commit_forget_laws.specs.RowLaws.{is_ack}
+use Rattle.tree_laws.proofs.MoreLemmas.{happening_added, lawful_at, inv_at}
+use Rattle.commit_forget_laws.proofs.EventLemmas.{learn_knows}
 use Rattle.commit_forget_laws.proofs.ForgetRunLemmas.{forgets_come_from_toward}
 use Rattle.settle_laws.specs.ForgottenLaws.{TellersHaveForgotten, TowardHasForgotten}
-use Rattle.settle_laws.proofs.DecidedStayLemmas.{decided_at}
-use Rattle.settle_laws.proofs.ForgotSayLemmas.{ForgottenSo, AllSo, Forgets, StepSo, step_so, AckedSo, AckSo, ack_so}
+use Rattle.commit_forget_laws.proofs.DecidedEndLemmas.{decided_at}
+use Rattle.settle_laws.proofs.ForgotSayLemmas.{ForgottenSo, AllSo, Forgets, step_so, AckedSo, AckSo, ack_so}
+use Rattle.tree_laws.proofs.AtTurn.{at_happening}
+use Rattle.commit_forget_laws.proofs.SentBackLemmas.{leavers_back, wrote_back}
+use Rattle.commit_forget_laws.proofs.RowRunLemmas.{ack_is}
 
-ack_is : (kind : Kind) → is_ack kind ≡ true → kind ≡ kinds.Ack
-ack_is kinds.Ack is = refl
-ack_is _ is = absurd cc
-
-heard_stand : (k : NodeState) (i : Input) (b : BranchId) → stand_of (heard k i) b ≡ stand_of k b
-unfolding stand_of
+heard_stand : (k : NodeState) (i : Input) (b : BranchId) → status_of (heard k i) b ≡ status_of k b
+unfolding status_of
 heard_stand k (inputs.Message m) b = refl
 heard_stand k (inputs.Call n s) b = refl
 heard_stand k (inputs.GiveUp n) b = refl
@@ -81,28 +79,6 @@ module _ (z q : BranchId) where
       | inr later ↦ inr later
     ]
 
-  leave_plain : (c : BranchId) (sent : List Msg) → leave_event sent c ≡ Send_forgotten z q → ⊥
-  leave_plain c sent = cond_both (list_any (is_quiet c) sent) (Answer_read_only c) (Drop c) (λ e. e ≡ Send_forgotten z q → ⊥) (λ quiet it. absurd cc) (λ other it. absurd cc)
-
-  leavers_back : (after : List BranchId) (sent : List Msg) (cs : List BranchId) (t : List Event) → Told (with_leavers after sent cs t) → Told t
-  leavers_back after sent [] t has = has
-  leavers_back after sent (c ∷ cs) t has =
-      cond_both (has_left after t c) (leave_event sent c ∷ t) t (λ xs. Told xs → Told t) (λ left. one_back (leave_event sent c) t (leave_plain c sent)) (λ stays it. it) (leavers_back after sent cs (with_leaver after sent c t) has)
-
-  record_back : (n : ℕ) (r : RedoRecord) (t : List Event) → Told (with_event (record_event n r) t) → Told t
-  record_back n (records.Table y) t has = one_back _ t (λ no. absurd cc) has
-  record_back n (records.Sealed r) t has = one_back _ t (λ no. absurd cc) has
-  record_back n (records.Decided r) t has = one_back _ t (λ no. absurd cc) has
-  record_back n (records.Ended c d) t has = one_back _ t (λ no. absurd cc) has
-  record_back n (records.Forced c d given) t has = one_back _ t (λ no. absurd cc) has
-  record_back n (records.Met c d mixed) t has = one_back _ t (λ no. absurd cc) has
-  record_back n (records.Forgot c) t has = one_back _ t (λ no. absurd cc) has
-  record_back n _ t has = has
-
-  wrote_back : (n : ℕ) (w : Option RedoRecord) (t : List Event) → Told (with_event (wrote_event n w) t) → Told t
-  wrote_back n None t has = has
-  wrote_back n (Some r) t has = record_back n r t has
-
 so_weaker : (P Q : BranchId → BranchId → Type 0) → ((a b : BranchId) → P a b → Q a b) → (a b : BranchId) (kind : Kind) → ForgottenSo P a b kind → ForgottenSo Q a b kind
 so_weaker P Q each a b kinds.Forgotten so = each a b so
 so_weaker P Q each a b _ so = tt
@@ -119,23 +95,10 @@ module _ (t : History) (whole : IsLawfulRun t) where
   AllHave e = (f y : BranchId) → Has (Send_forgotten f y) e → Has_or_quiet e f y
 
   module _ (hs : List Happening) (h : Happening) (rest : List Happening) (is : hs ++ h ∷ rest ≡ t.trace) (now : AllHave (e_at t hs)) where
-    abbrev f : Facts
-    f = f_at t hs
-
-    abbrev e : List Event
-    e = e_at t hs
-
-    abbrev s : History
-    s = so_far t hs
-
-    part : Part t whole hs
-    part = part_of t whole hs h rest is
-
-    lawful : IsLawfulRun s
-    lawful = part_lawful t whole hs part
+    open at_happening t whole hs h rest is use {f, e, s, part, lawful}
 
     i : Inv p e
-    i = part_inv t whole hs part
+    i = inv_at t whole hs part
 
     abbrev events_h : Happening → List Event
     events_h y = events_after t.places t.commands f y e
@@ -147,10 +110,10 @@ module _ (t : History) (whole : IsLawfulRun t) where
     ]
 
     -- a branch that is gone, and that one acknowledged to which it told the commit
-    gone_forgot : (k : NodeState) (a b : BranchId) → node_at f a.node ≡ Some k → stand_of k a ≡ Is_gone → Has (Send_ack b a) e → Has_or_quiet e a b
+    gone_forgot : (k : NodeState) (a b : BranchId) → node_at f a.node ≡ Some k → status_of k a ≡ Is_gone → Has (Send_ack b a) e → Has_or_quiet e a b
     gone_forgot k a b up gone acked edge = elim (i.acks b a acked edge) [
       | inr quiet ↦ inl quiet
-      | inl learns ↦ elim (subst (λ c. Knows e c learns.0.0) edge.next (learn_knows p e (part_allowed t whole hs part) b learns.0.0 learns.0.1)) [
+      | inl learns ↦ elim (subst (λ c. Knows e c learns.0.0) edge.next (learn_knows p e (lawful_at t whole hs part) b learns.0.0 learns.0.1)) [
         | inl decided ↦ by_row (decided_at t whole a hs part learns.0.0 decided) decided
         | inr learnt ↦ (let sealed = i.learned_sealed a (decisions.Commit learns.0.0) learnt in
             elim (gone_are_done s lawful a k up gone sealed.0 sealed.1) [ inl rolled ↦ absurd (cc (learnt, rolled)) | inr forgot ↦ inr forgot ])
@@ -168,8 +131,8 @@ module _ (t : History) (whole : IsLawfulRun t) where
       abbrev place : Place
       place = place_at t.places u.node
 
-      abbrev d : Deed
-      d = deed_of place k u.input
+      abbrev d : TurnDraft
+      d = draft_of place k u.input
 
       abbrev g : Facts
       g = facts_after t.places t.commands f (happenings.Turn u)
@@ -225,9 +188,9 @@ module _ (t : History) (whole : IsLawfulRun t) where
 
           by_ack : AllSo Q d.says
           by_ack =
-              let plain : AckSo e k0 m.from m.to rows (ack_turn k0 m.from m.to (stand_of k0 m.to)) = ack_so e k0 m.from m.to rows in
-              let same_turn : AckSo e k0 m.from m.to rows (kind_turn place k0 m.from m.to m.kind (stand_of k0 m.to)) = subst (λ x. AckSo e k0 m.from m.to rows (kind_turn place k0 m.from m.to x (stand_of k0 m.to))) (sym kind) plain in
-              let its : AckSo e k0 m.from m.to rows d = subst (λ x. AckSo e k0 m.from m.to rows (deed_of place k x)) (sym it) same_turn in
+              let plain : AckSo e k0 m.from m.to rows (ack_turn k0 m.from m.to (status_of k0 m.to)) = ack_so e k0 m.from m.to rows in
+              let same_turn : AckSo e k0 m.from m.to rows (kind_turn place k0 m.from m.to m.kind (status_of k0 m.to)) = subst (λ x. AckSo e k0 m.from m.to rows (kind_turn place k0 m.from m.to x (status_of k0 m.to))) (sym kind) plain in
+              let its : AckSo e k0 m.from m.to rows d = subst (λ x. AckSo e k0 m.from m.to rows (draft_of place k x)) (sym it) same_turn in
               all_weaker (λ (x : Post). ForgottenSo (AckedSo e k0 m.from m.to rows d.wrote) x.from x.to x.kind) (λ (x : Post). ForgottenSo Q x.from x.to x.kind)
               (λ x y. so_weaker (AckedSo e k0 m.from m.to rows d.wrote) Q so x.from x.to x.kind y) d.says its
 
@@ -250,13 +213,13 @@ module _ (t : History) (whole : IsLawfulRun t) where
 
       turn_have : AllHave after
       turn_have a b has = elim (messages_back a b Q u.sent (with_exits f g u e) (sent_so u.cut may.owed) has) [
-        | inl before ↦ old (happenings.Turn u) a b (wrote_back a b u.node u.wrote e (leavers_back a b (lives_at (node_at g u.node)) u.sent (lives_at (node_at f u.node)) (with_record u e) before))
+        | inl before ↦ old (happenings.Turn u) a b (wrote_back (Send_forgotten a b) refl u.node u.wrote e (leavers_back (Send_forgotten a b) refl (lives_at (node_at g u.node)) u.sent (lives_at (node_at f u.node)) (with_record u e) before))
         | inr said ↦ said
       ]
 
     have_by : (y : Happening) → MayHappen t.places t.commands f y → AllHave (events_h y)
     have_by (happenings.Turn u) may = turn_have u may.0 may.1
-    have_by (happenings.Stopped m) may = λ a b has. old (happenings.Stopped m) a b (leavers_back a b [] [] (lives_at (node_at f m)) e has)
+    have_by (happenings.Stopped m) may = λ a b has. old (happenings.Stopped m) a b (leavers_back (Send_forgotten a b) refl [] [] (lives_at (node_at f m)) e has)
     have_by (happenings.Started m boot) may = λ a b has. old (happenings.Started m boot) a b has
     have_by (happenings.Begun c) may = λ a b has. old (happenings.Begun c) a b has
     have_by (happenings.Cut x y) may = λ a b has. old (happenings.Cut x y) a b has
@@ -278,7 +241,7 @@ tellers_have_forgotten t whole f y has edge = all_have t whole f y has edge
 
 pub toward_has_forgotten : TowardHasForgotten
 toward_has_forgotten t whole y has sealed =
-    let i : Inv (forest_of t) (events_of t) = part_inv t whole t.trace (record { rest = []; is = append-nil t.trace }) in
+    let i : Inv (forest_of t) (events_of t) = inv_at t whole t.trace (record { rest = []; is = append-nil t.trace }) in
     let place = i.sealed_in y sealed.0 sealed.1 in
     elim (all_have t whole ((forest_of t).toward y) y (forgets_come_from_toward t whole y has sealed) (record { member = place.0; not_site = place.1; next = refl })) [
       | inl quiet ↦ (let it = sealed.1 in absurd (cc (quiet, it)))

@@ -1,12 +1,12 @@
 -- What a row holds whatever stops its node had: it stays so where the Acks are lost, and it is the row of one that told so.
-use Rattle.std.proofs.Common.{◌≡◌, ℕ, ◌<◌, ◌⊎◌, not, Bool, true, false, if◌then◌else◌, List, [], ◌∷◌, ◌++◌, map, filter, Option, Some, None, inl, inr, refl, sym, ap, subst, ◌∙◌, arith}
+use Rattle.std.proofs.Common.{◌≡◌, not, Bool, true, false, if◌then◌else◌, List, [], ◌∷◌, ◌++◌, map, filter, Option, Some, None, inl, inr, refl, sym, ap, subst, ◌∙◌, arith}
 use Rattle.std.specs.List.{AllByRecursion, list_all}
 use Rattle.commit_forget.specs.declared.next.Beyond.{Beyond}
 use Rattle.commit_forget.specs.Beyond.{beyond, parent_beyond, kid_beyond, all_acked}
 use Rattle.commit_forget.specs.Next.{knows_commit}
 use Rattle.session_tree.specs.Live.{is_branch}
 use Rattle.agreement.specs.Events.{Event}
-use Rattle.node_rules.specs.Data.{BranchId, Kid, Post, Standing}
+use Rattle.node_rules.specs.Data.{BranchId, Kid, Post, KeptRow}
 use Rattle.node_rules.specs.Data.kinds
 use Rattle.node_rules.specs.NodeState.{to_one}
 use Rattle.run_base_laws.specs.NodeLaws.{unacked_kid, unacked_row}
@@ -17,13 +17,13 @@ use Rattle.commit_forget_laws.specs.RowLaws.{is_ack, IsSealed}
 use Rattle.commit_forget_laws.proofs.TellLemmas.{Plain, Tells, Stays, stays_same, plain_stays, tells_stays}
 
 -- where a row knows the commit, has not forgotten and holds all Acks, it is not the site's
-abbrev pub Sited : Standing → Type 0
+abbrev pub Sited : KeptRow → Type 0
 Sited s = knows_commit s.decision ≡ true → s.forgot ≡ false → all_acked s ≡ true → (q : BranchId) × (s.toward ≡ Some q)
 
-abbrev pub Holds : List Event → Standing → Type 0
+abbrev pub Holds : List Event → KeptRow → Type 0
 Holds t s = Plain t s × Sited s
 
-pub holds_stays : (t r : List Event) (s : Standing) → Stays t r s.me → Holds t s → Holds r s
+pub holds_stays : (t r : List Event) (s : KeptRow) → Stays t r s.me → Holds t s → Holds r s
 holds_stays t r s stays is = (plain_stays t r s stays is.0, is.1)
 
 -- ---- no Ack
@@ -42,7 +42,7 @@ kids_unacked toward cs =
     ∙ (map_after kid_beyond unacked_kid (λ c. unheard_one (kid_beyond c)) (λ c. refl) (filter (λ c. not (is_branch c.branch toward)) cs)
     ∙ sym (map_after unheard_one kid_beyond (λ c. unheard_one (kid_beyond c)) (λ c. refl) (filter (λ c. not (is_branch c.branch toward)) cs)))
 
-parent_unacked : (s : Standing) (o : Option BranchId) → parent_beyond (unacked_row s) o ≡ map unheard_one (parent_beyond s o)
+parent_unacked : (s : KeptRow) (o : Option BranchId) → parent_beyond (unacked_row s) o ≡ map unheard_one (parent_beyond s o)
 parent_unacked s None = refl
 parent_unacked s (Some b) = by (is_branch b s.toward)
   where
@@ -50,7 +50,7 @@ parent_unacked s (Some b) = by (is_branch b s.toward)
     by true = refl
     by false = refl
 
-pub unacked_beyond : (s : Standing) → beyond (unacked_row s) ≡ map unheard_one (beyond s)
+pub unacked_beyond : (s : KeptRow) → beyond (unacked_row s) ≡ map unheard_one (beyond s)
 unfolding beyond
 unacked_beyond s =
     ap (λ ys. ys ++ map kid_beyond (filter (λ c. not (is_branch c.branch s.toward)) (map unacked_kid s.children))) (parent_unacked s s.parent)
@@ -62,7 +62,7 @@ none_left [] all = refl
 none_left (y ∷ ys) all = absurd cc
 
 -- a start loses the Acks, and the row holds on
-pub unacked_holds : (t : List Event) (s : Standing) → Holds t s → Holds t (unacked_row s)
+pub unacked_holds : (t : List Event) (s : KeptRow) → Holds t s → Holds t (unacked_row s)
 unacked_holds t s is = (
   record {
     sealed = subst (λ (bs : List Beyond). AllByRecursion (λ y. IsSealed t y.branch) bs) (sym (unacked_beyond s)) (all_map (λ (y : Beyond). IsSealed t y.branch) unheard_one (beyond s) is.0.sealed);
@@ -73,12 +73,12 @@ unacked_holds t s is = (
   λ knows fresh all. is.1 knows fresh (none_left (beyond s) (subst (λ (bs : List Beyond). list_all (λ y. y.acked) bs ≡ true) (unacked_beyond s) all)),
 )
 
-pub all_unacked : (t : List Event) (ks : List Standing) → AllByRecursion (Holds t) ks → AllByRecursion (Holds t) (map unacked_row ks)
+pub all_unacked : (t : List Event) (ks : List KeptRow) → AllByRecursion (Holds t) ks → AllByRecursion (Holds t) (map unacked_row ks)
 all_unacked t ks all = all_map (Holds t) unacked_row ks (all_weaker (Holds t) (λ x. Holds t (unacked_row x)) (λ x is. unacked_holds t x is) ks all)
 
 -- ---- rows that hold so tell so, of some messages
 
-pub tells_for : (t : List Event) (ks : List Standing) → AllByRecursion (Holds t) ks → (said : List Post) × AllByRecursion (Tells said t 0) ks
+pub tells_for : (t : List Event) (ks : List KeptRow) → AllByRecursion (Holds t) ks → (said : List Post) × AllByRecursion (Tells said t 0) ks
 tells_for t [] all = ([], tt)
 tells_for t (x ∷ ks) all =
     let rest = tells_for t ks all.1 in
@@ -90,6 +90,6 @@ tells_for t (x ∷ ks) all =
       ),
     )
 
-pub from_tells : (said : List Post) (t : List Event) (s : Standing) → Tells said t 0 s → Holds t s
+pub from_tells : (said : List Post) (t : List Event) (s : KeptRow) → Tells said t 0 s → Holds t s
 from_tells said t s (inl so) = (so.0, λ knows fresh all. (let it = so.1 knows fresh all in (it.0, it.1)))
 from_tells said t s (inr old) = absurd (omega (arith, old))

@@ -1,18 +1,18 @@
 -- In every lawful run the rows of nodes hold so, and those that their records make.
-use Rattle.std.proofs.Common.{◌≡◌, ◌≢◌, ℕ, ◌+◌, ◌<◌, ◌≤◌, ◌⊎◌, Bool, true, false, List, [], ◌∷◌, ◌++◌, map, length, Option, Some, None, inl, inr, refl, sym, ap, subst, subst₂, ◌∙◌, arith, append-nil}
+use Rattle.std.proofs.Common.{◌≡◌, ◌≢◌, ℕ, ◌+◌, Bool, true, false, List, [], ◌∷◌, ◌++◌, map, length, Option, Some, None, inl, inr, refl, sym, ap, subst, subst₂, ◌∙◌, arith, append-nil}
 use Rattle.std.specs.Prelude.{IfSome}
 use Rattle.std.specs.Option.{option_to_list}
 use Rattle.std.specs.List.{AllByRecursion}
 use Rattle.redo_record.specs.Durable.{durable_after}
 use Rattle.agreement.specs.Events.{Event, Forget, exit, Has}
-use Rattle.node_rules.specs.Data.{BranchId, Input, Kind, Msg, Place, Post, RedoRecord, Standing}
+use Rattle.node_rules.specs.Data.{BranchId, Input, Msg, Place, Post, RedoRecord, KeptRow}
 use Rattle.node_rules.specs.Data.inputs
 use Rattle.node_rules.specs.Data.kinds
 use Rattle.node_rules.specs.Data.records
 use Rattle.node_rules.specs.Inputs.{Came}
-use Rattle.node_rules.specs.NodeState.{NodeState, Stored, Deed}
+use Rattle.node_rules.specs.NodeState.{NodeState, Stored, TurnDraft}
 use Rattle.node_rules.specs.Records.{applied, nothing_stored, stored_by}
-use Rattle.node_rules.specs.Turn.{turn_of, start_of, heard, deed_of, kind_turn, ack_turn, stand_of}
+use Rattle.node_rules.specs.Turn.{turn_of, start_of, heard, draft_of, kind_turn, ack_turn, status_of}
 use Rattle.run_rules.specs.Data.{Happening, Turn}
 use Rattle.run_rules.specs.Data.happenings
 use Rattle.run_base_laws.specs.EventRows.{MayStand, RowIs}
@@ -33,21 +33,20 @@ use Rattle.run_base_laws.proofs.StoredLemmas.{StoresOf, stored_with, step_stores
 use Rattle.run_branch_laws.proofs.TowardLemmas.{heard_rows}
 use Rattle.run_base_laws.proofs.TurnEventLemmas.{all_both, cases_nat, record_own}
 use Rattle.tree_laws.specs.RecordLaws.{RecordLeads, WritesAsTold}
-use Rattle.tree_laws.proofs.PrefixLemmas.{so_far, f_at, e_at, one_on, more_on}
+use Rattle.tree_laws.proofs.PrefixLemmas.{f_at, e_at, one_on, more_on}
 use Rattle.tree_laws.proofs.RecordRunLemmas.{records_are_as_told}
-use Rattle.tree_site_laws.proofs.TimeLemmas.{part_of, part_lawful, may_of, fact_at, exit_on, keep_on}
+use Rattle.tree_laws.proofs.TimeLemmas.{may_of, fact_at, exit_on, keep_on}
 use Rattle.commit_forget_laws.specs.RowLaws.{is_ack}
 use Rattle.commit_forget_laws.proofs.AckTurnLemmas.{ack_rows}
-use Rattle.commit_forget_laws.proofs.EventLemmas.{part_inv, forgot_left, turn_back, stop_back, wrote_back}
+use Rattle.tree_laws.proofs.MoreLemmas.{inv_at}
+use Rattle.commit_forget_laws.proofs.EventLemmas.{forgot_left, turn_back, stop_back, wrote_back}
 use Rattle.commit_forget_laws.proofs.TellLemmas.{Tells, Stays}
 use Rattle.commit_forget_laws.proofs.RowStepLemmas.{After, Found, rows_on}
-use Rattle.commit_forget_laws.proofs.VotedLemmas.{deed_voted}
+use Rattle.commit_forget_laws.proofs.VotedLemmas.{draft_voted}
 use Rattle.commit_forget_laws.proofs.FoundRowLemmas.{rows_found}
-use Rattle.settle_laws.proofs.HoldLemmas.{Holds, holds_stays, unacked_holds, all_unacked, tells_for, from_tells}
-
-ack_is : (kind : Kind) → is_ack kind ≡ true → kind ≡ kinds.Ack
-ack_is kinds.Ack is = refl
-ack_is _ is = absurd cc
+use Rattle.settle_laws.proofs.HoldLemmas.{Holds, holds_stays, all_unacked, tells_for, from_tells}
+use Rattle.tree_laws.proofs.AtTurn.{at_happening}
+use Rattle.commit_forget_laws.proofs.RowRunLemmas.{ack_is}
 
 heard_stored : (k : NodeState) (input : Input) → (heard k input).stored ≡ k.stored
 heard_stored k (inputs.Message m) = refl
@@ -67,17 +66,7 @@ module _ (t : History) (whole : IsLawfulRun t) where
   BothHold f e = NodesHold f e × DisksHold f e
 
   module _ (hs : List Happening) (h : Happening) (rest : List Happening) (is : hs ++ h ∷ rest ≡ t.trace) (now : BothHold (f_at t hs) (e_at t hs)) where
-    abbrev f : Facts
-    f = f_at t hs
-
-    abbrev e : List Event
-    e = e_at t hs
-
-    abbrev s : History
-    s = so_far t hs
-
-    lawful : IsLawfulRun s
-    lawful = part_lawful t whole hs (part_of t whole hs h rest is)
+    open at_happening t whole hs h rest is use {f, e, s, lawful}
 
     abbrev after_h : Happening → Facts
     after_h y = facts_after t.places t.commands f y
@@ -86,7 +75,7 @@ module _ (t : History) (whole : IsLawfulRun t) where
     events_h y = events_after t.places t.commands f y e
 
     known : (b : BranchId) → Has (Forget b) e → exit e b ≢ None
-    known b has = forgot_left _ e (part_inv s lawful hs (record { rest = []; is = append-nil hs })) b has
+    known b has = forgot_left _ e (inv_at s lawful hs (record { rest = []; is = append-nil hs })) b has
 
     rows_here : (n : ℕ) (k : NodeState) → node_at f n ≡ Some k → AllByRecursion (λ x. Holds e x × (x.me.node ≡ n)) k.stored.durable.kept
     rows_here n k up = all_both _ _ k.stored.durable.kept (now.0 n k up) (ids_name_their_node s lawful n k up).rows
@@ -99,7 +88,7 @@ module _ (t : History) (whole : IsLawfulRun t) where
       stays_so : (b : BranchId) → (Has (Forget b) (events_h y) → Has (Forget b) e) → Stays e (events_h y) b
       stays_so b back = record { seals = λ c so. (so.0, exit_on t.places t.commands f y e c _ so.1); forgets = back }
 
-      rows_stay : (n : ℕ) (ks : List Standing) → AllByRecursion (λ x. Holds e x × (x.me.node ≡ n)) ks → ((b : BranchId) → b.node ≡ n → Has (Forget b) (events_h y) → Has (Forget b) e) → AllByRecursion (Holds (events_h y)) ks
+      rows_stay : (n : ℕ) (ks : List KeptRow) → AllByRecursion (λ x. Holds e x × (x.me.node ≡ n)) ks → ((b : BranchId) → b.node ≡ n → Has (Forget b) (events_h y) → Has (Forget b) e) → AllByRecursion (Holds (events_h y)) ks
       rows_stay n ks all back = all_weaker _ (Holds (events_h y)) (λ x so. holds_stays e (events_h y) x (stays_so x.me (back x.me so.1)) so.0) ks all
 
       disk_stays : (n : ℕ) → records_at (after_h y) n ≡ records_at f n → ((b : BranchId) → b.node ≡ n → Has (Forget b) (events_h y) → Has (Forget b) e) → AllByRecursion (Holds (events_h y)) (stored_rows (after_h y) n)
@@ -112,8 +101,8 @@ module _ (t : History) (whole : IsLawfulRun t) where
       abbrev p : Place
       p = place_at t.places u.node
 
-      abbrev d : Deed
-      d = deed_of p k u.input
+      abbrev d : TurnDraft
+      d = draft_of p k u.input
 
       abbrev g : Facts
       g = after_h (happenings.Turn u)
@@ -129,9 +118,9 @@ module _ (t : History) (whole : IsLawfulRun t) where
       told = ghost_said.0
 
       rows0 : (i : Input) → AllByRecursion (Tells told e 0) (heard k i).stored.durable.kept
-      rows0 i = subst (λ (ks : List Standing). AllByRecursion (Tells told e 0) ks) (sym (heard_rows k i)) ghost_said.1
+      rows0 i = subst (λ (ks : List KeptRow). AllByRecursion (Tells told e 0) ks) (sym (heard_rows k i)) ghost_said.1
 
-      abbrev Left : Deed → Type 0
+      abbrev Left : TurnDraft → Type 0
       Left x = After told e 0 u.node known x
 
       leads : IfSome u.wrote (RecordLeads (said_in f))
@@ -149,14 +138,14 @@ module _ (t : History) (whole : IsLawfulRun t) where
         by_step : ((from to : BranchId) → Came u.input from to kinds.Ack → ⊥) → Left d
         by_step never =
             rows_on told e 0 u.node known p u.input never (serves t.places f u k may).step (subst (λ w. IfSome w (MayStand e)) wrote stands)
-            (deed_voted t hs lawful u k may (subst (λ w. IfSome w (RecordLeads (said_in f))) wrote leads)) found0 (rows0 u.input)
+            (draft_voted t hs lawful u k may (subst (λ w. IfSome w (RecordLeads (said_in f))) wrote leads)) found0 (rows0 u.input)
 
         by_ack : (m : Msg) → u.input ≡ inputs.Message m → m.kind ≡ kinds.Ack → Left d
         by_ack m it kind =
             let k0 : NodeState = heard k (inputs.Message m) in
-            let left : Left (ack_turn k0 m.from m.to (stand_of k0 m.to)) = ack_rows told e 0 u.node known k0 m.from m.to (rows0 (inputs.Message m)) in
-            let same_turn : Left (kind_turn p k0 m.from m.to m.kind (stand_of k0 m.to)) = subst (λ x. Left (kind_turn p k0 m.from m.to x (stand_of k0 m.to))) (sym kind) left in
-            subst (λ i. Left (deed_of p k i)) (sym it) same_turn
+            let left : Left (ack_turn k0 m.from m.to (status_of k0 m.to)) = ack_rows told e 0 u.node known k0 m.from m.to (rows0 (inputs.Message m)) in
+            let same_turn : Left (kind_turn p k0 m.from m.to m.kind (status_of k0 m.to)) = subst (λ x. Left (kind_turn p k0 m.from m.to x (status_of k0 m.to))) (sym kind) left in
+            subst (λ i. Left (draft_of p k i)) (sym it) same_turn
 
         by_input : (i : Input) → u.input ≡ i → Left d
         by_input (inputs.Message m) it = by_kind (is_ack m.kind) refl
@@ -189,12 +178,12 @@ module _ (t : History) (whole : IsLawfulRun t) where
       rest_stays : (b : BranchId) → Stays (with_record u e) (events_h (happenings.Turn u)) b
       rest_stays b = record { seals = λ c so. (so.0, exit_later c _ (turn_added f g u e) so.1); forgets = λ has. turn_back b f g u e has }
 
-      rows_later : (ks : List Standing) → AllByRecursion (Holds (with_record u e)) ks → AllByRecursion (Holds (events_h (happenings.Turn u))) ks
+      rows_later : (ks : List KeptRow) → AllByRecursion (Holds (with_record u e)) ks → AllByRecursion (Holds (events_h (happenings.Turn u))) ks
       rows_later ks all = all_weaker _ (Holds (events_h (happenings.Turn u))) (λ x so. holds_stays (with_record u e) (events_h (happenings.Turn u)) x (rest_stays x.me) so) ks all
 
       disk_wrote : u.wrote ≡ d.wrote → AllByRecursion (Holds (events_h (happenings.Turn u))) (stored_rows g u.node)
       disk_wrote wrote =
-          rows_later (stored_rows g u.node) (subst (λ (ks : List Standing). AllByRecursion (Holds (with_record u e)) ks) (sym (stored_now wrote)) (all_unacked (with_record u e) d.after.stored.durable.kept (left wrote)))
+          rows_later (stored_rows g u.node) (subst (λ (ks : List KeptRow). AllByRecursion (Holds (with_record u e)) ks) (sym (stored_now wrote)) (all_unacked (with_record u e) d.after.stored.durable.kept (left wrote)))
 
       -- a turn that is cut before its record stands
       disk_none : u.wrote ≡ None → AllByRecursion (Holds (events_h (happenings.Turn u))) (stored_rows g u.node)
@@ -271,7 +260,7 @@ module _ (t : History) (whole : IsLawfulRun t) where
       booted = ap (λ x. x.durable.kept) (stored_with (records_at f m) (Some (records.Boot boot)))
 
       disk_started : AllByRecursion (Holds e) (stored_by nothing_stored zs).durable.kept
-      disk_started = subst (λ (ks : List Standing). AllByRecursion (Holds e) ks) (sym booted) (now.1 m)
+      disk_started = subst (λ (ks : List KeptRow). AllByRecursion (Holds e) ks) (sym booted) (now.1 m)
 
       started : AllByRecursion (Holds e) (start_of zs).stored.durable.kept
       unfolding start_of

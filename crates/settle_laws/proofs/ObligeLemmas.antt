@@ -1,9 +1,8 @@
 -- In a calm stretch what is so of the branches of nodes that have recovered begins with each node's turn of RECO, and stays.
-use Rattle.std.proofs.Common.{◌≡◌, true, refl, sym, ap, subst, ◌∙◌}
-use Rattle.node_rules.specs.Data.inputs
+use Rattle.std.proofs.Common.{◌≡◌, true}
 use Rattle.run_rules.specs.Lawful.{facts_at}
 use Rattle.run_base_laws.proofs.EventsStandLemmas.{run_stands}
-use Rattle.settle_laws.specs.Interval.{IsCalm, By_reco, By_message}
+use Rattle.settle_laws.specs.Interval.{By_reco, By_message}
 use Rattle.settle_laws.specs.ObligeLaws.{NoneIsObliged, RecoObliges, QuestionsKeep, RollbacksKeep, CommitsKeep}
 use Rattle.settle_laws.proofs.RecoTurnLemmas.{first_obliged, reco_obliged}
 use Rattle.settle_laws.proofs.AskTurnLemmas.{ask_obliged}

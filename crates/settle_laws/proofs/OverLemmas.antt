@@ -1,24 +1,21 @@
 -- Who tells a rollback is live no more.
-use Rattle.std.proofs.Common.{◌≡◌, ◌≢◌, ℕ, ◌⊎◌, Bool, true, false, List, [], ◌∷◌, ◌++◌, Option, Some, None, inl, inr, refl, sym, ap, subst, ◌∙◌, append-nil}
-use Rattle.std.specs.List.{AllByRecursion, list_any}
-use Rattle.std.proofs.lemmas.Bool.{cond_both}
+use Rattle.std.proofs.Common.{◌≡◌, ◌≢◌, ℕ, ◌⊎◌, true, List, [], ◌∷◌, ◌++◌, Option, Some, None, inl, inr, refl, sym, subst, append-nil}
+use Rattle.std.specs.List.{AllByRecursion}
 use Rattle.tran_ids.proofs.ListedLemmas.{item_is}
-use Rattle.agreement.specs.Events.{Event, Exit, Sealed, Decided, Quiet, Dropped, Answer_read_only, Drop, Forget, Send_rollback, exit, learned, Has, Gone}
+use Rattle.agreement.specs.Events.{Event, Exit, Sealed, Decided, Quiet, Dropped, Forget, Send_rollback, exit, Has}
 use Rattle.agreement.proofs.Invariant.{Inv}
-use Rattle.node_rules.specs.Data.{BranchId, Kind, Msg, RedoRecord, Standing, Place}
+use Rattle.node_rules.specs.Data.{BranchId, Kind, Msg, KeptRow}
 use Rattle.node_rules.specs.Data.decisions
 use Rattle.node_rules.specs.Data.kinds
-use Rattle.node_rules.specs.Data.records
-use Rattle.node_rules.specs.NodeState.{NodeState, standing_id}
-use Rattle.run_rules.specs.Data.{Happening, Turn, Packet}
+use Rattle.node_rules.specs.NodeState.{NodeState, kept_row_id}
+use Rattle.run_rules.specs.Data.{Happening, Turn}
 use Rattle.run_rules.specs.Data.happenings
 use Rattle.run_base_laws.specs.EventLaws.{EachEventFrom}
 use Rattle.run_base_laws.specs.EventRows.{RowIs}
 use Rattle.run_rules.specs.Facts.{Facts, first_facts, node_at, facts_after}
 use Rattle.run_rules.specs.Lawful.{MayHappen, History, IsLawfulRun, facts_at}
 use Rattle.run_branch_laws.specs.RowSayLaws.{IsOver, RollbackIs, SaysByRow, TellsByRow}
-use Rattle.run_base_laws.specs.RunEvents.{with_event, record_event, wrote_event, message_event, with_messages, leave_event, has_left, with_leaver, with_leavers, with_record, with_exits, lives_at, events_after, events_from, events_of}
-use Rattle.run_rules.specs.Trail.{is_quiet}
+use Rattle.run_base_laws.specs.RunEvents.{with_event, message_event, with_messages, with_record, with_exits, lives_at, events_after, events_from, events_of}
 use Rattle.run_base_laws.proofs.EventsStandLemmas.{nodes_are_as_events, run_stands}
 use Rattle.run_base_laws.proofs.LaterLemmas.{Added, Later, exit_later, has_later, learned_later, messages_added}
 use Rattle.run_rules.proofs.ListLemmas.{all_weaker}
@@ -26,10 +23,13 @@ use Rattle.run_base_laws.proofs.OwnLemmas.{all_found}
 use Rattle.run_branch_laws.proofs.RowSayStandLemmas.{turns_tell_by_rows}
 use Rattle.run_base_laws.proofs.SaidLemmas.{Stands}
 use Rattle.tree_laws.specs.Forests.{forest_of}
-use Rattle.tree_laws.proofs.PrefixLemmas.{so_far, f_at, e_at, one_on, more_on}
-use Rattle.tree_site_laws.proofs.TimeLemmas.{part_of, part_on, part_lawful, may_of, each_at, exit_on, keep_on}
-use Rattle.commit_forget_laws.proofs.EventLemmas.{part_inv, forgot_left}
+use Rattle.tree_laws.proofs.PrefixLemmas.{e_at, more_on}
+use Rattle.tree_laws.proofs.TimeLemmas.{part_on, may_of, each_at, exit_on, keep_on}
+use Rattle.tree_laws.proofs.MoreLemmas.{inv_at}
+use Rattle.commit_forget_laws.proofs.EventLemmas.{forgot_left}
 use Rattle.settle_laws.specs.OverLaws.{is_rollback, RollersHaveLeft}
+use Rattle.tree_laws.proofs.AtTurn.{at_happening}
+use Rattle.commit_forget_laws.proofs.SentBackLemmas.{leavers_back, wrote_back}
 
 -- it has some exit
 abbrev pub HasLeft : List Event → BranchId → Type 0
@@ -75,50 +75,18 @@ module _ (z q : BranchId) where
       | inr later ↦ inr later
     ]
 
-  leave_plain : (c : BranchId) (sent : List Msg) → leave_event sent c ≡ Send_rollback z q → ⊥
-  leave_plain c sent = cond_both (list_any (is_quiet c) sent) (Answer_read_only c) (Drop c) (λ e. e ≡ Send_rollback z q → ⊥) (λ quiet it. absurd cc) (λ other it. absurd cc)
-
-  pub leavers_back : (after : List BranchId) (sent : List Msg) (cs : List BranchId) (t : List Event) → Told (with_leavers after sent cs t) → Told t
-  leavers_back after sent [] t has = has
-  leavers_back after sent (c ∷ cs) t has =
-      cond_both (has_left after t c) (leave_event sent c ∷ t) t (λ xs. Told xs → Told t) (λ left. one_back (leave_event sent c) t (leave_plain c sent)) (λ stays it. it) (leavers_back after sent cs (with_leaver after sent c t) has)
-
-  record_back : (n : ℕ) (r : RedoRecord) (t : List Event) → Told (with_event (record_event n r) t) → Told t
-  record_back n (records.Table y) t has = one_back _ t (λ no. absurd cc) has
-  record_back n (records.Sealed r) t has = one_back _ t (λ no. absurd cc) has
-  record_back n (records.Decided r) t has = one_back _ t (λ no. absurd cc) has
-  record_back n (records.Ended c d) t has = one_back _ t (λ no. absurd cc) has
-  record_back n (records.Forced c d given) t has = one_back _ t (λ no. absurd cc) has
-  record_back n (records.Met c d mixed) t has = one_back _ t (λ no. absurd cc) has
-  record_back n (records.Forgot c) t has = one_back _ t (λ no. absurd cc) has
-  record_back n _ t has = has
-
-  wrote_back : (n : ℕ) (w : Option RedoRecord) (t : List Event) → Told (with_event (wrote_event n w) t) → Told t
-  wrote_back n None t has = has
-  wrote_back n (Some r) t has = record_back n r t has
-
 module _ (t : History) (whole : IsLawfulRun t) where
   abbrev pub RollersLeft : List Event → Type 0
   RollersLeft e = (z q : BranchId) → Has (Send_rollback z q) e → HasLeft e z
 
   module _ (hs : List Happening) (h : Happening) (rest : List Happening) (is : hs ++ h ∷ rest ≡ t.trace) (now : RollersLeft (e_at t hs)) where
-    abbrev f : Facts
-    f = f_at t hs
-
-    abbrev e : List Event
-    e = e_at t hs
-
-    abbrev s : History
-    s = so_far t hs
-
-    lawful : IsLawfulRun s
-    lawful = part_lawful t whole hs (part_of t whole hs h rest is)
+    open at_happening t whole hs h rest is use {f, e, s, lawful}
 
     abbrev events_h : Happening → List Event
     events_h y = events_after t.places t.commands f y e
 
     later_inv : Inv (forest_of t) (events_h h)
-    later_inv = subst (Inv (forest_of t)) (more_on t hs h) (part_inv t whole (hs ++ h ∷ []) (part_on t whole hs h rest is))
+    later_inv = subst (Inv (forest_of t)) (more_on t hs h) (inv_at t whole (hs ++ h ∷ []) (part_on t whole hs h rest is))
 
     old : (y : Happening) (z q : BranchId) → Has (Send_rollback z q) e → HasLeft (events_h y) z
     old y z q has = (let left = now z q has in (left.0, exit_on t.places t.commands f y e z left.0 left.1))
@@ -130,7 +98,7 @@ module _ (t : History) (whole : IsLawfulRun t) where
       abbrev r : List Event
       r = with_exits f g u e
 
-      abbrev ks : List Standing
+      abbrev ks : List KeptRow
       ks = k.stored.durable.kept
 
       inv_now : Inv (forest_of t) (events_h (happenings.Turn u))
@@ -155,20 +123,20 @@ module _ (t : History) (whole : IsLawfulRun t) where
       rolled : (z q : BranchId) → RollbackIs r ks z q → HasLeft (events_h (happenings.Turn u)) z
       rolled z q (inl is_over) = over z is_over
       rolled z q (inr row) =
-          let kept : RowIs e row.0 = all_found (RowIs e) standing_id ks z row.0 (nodes_are_as_events s lawful u.node k up).1 row.1 in
+          let kept : RowIs e row.0 = all_found (RowIs e) kept_row_id ks z row.0 (nodes_are_as_events s lawful u.node k up).1 row.1 in
           let left = some_exit e row.0.me kept.left in
-          subst (HasLeft (events_h (happenings.Turn u))) (item_is standing_id ks z row.0 row.1) (left.0, exit_on t.places t.commands f (happenings.Turn u) e row.0.me left.0 left.1)
+          subst (HasLeft (events_h (happenings.Turn u))) (item_is kept_row_id ks z row.0 row.1) (left.0, exit_on t.places t.commands f (happenings.Turn u) e row.0.me left.0 left.1)
 
       turn_left : RollersLeft (events_h (happenings.Turn u))
       turn_left z q has = elim (messages_back z q (SaysByRow e r ks) u.sent r told has) [
-        | inl before ↦ old (happenings.Turn u) z q (wrote_back z q u.node u.wrote e (leavers_back z q (lives_at (node_at g u.node)) u.sent (lives_at (node_at f u.node)) (with_record u e) before))
+        | inl before ↦ old (happenings.Turn u) z q (wrote_back (Send_rollback z q) refl u.node u.wrote e (leavers_back (Send_rollback z q) refl (lives_at (node_at g u.node)) u.sent (lives_at (node_at f u.node)) (with_record u e) before))
         | inr (inl said) ↦ rolled z q said
         | inr (inr said) ↦ rolled z q said
       ]
 
     left_by : (y : Happening) → h ≡ y → MayHappen t.places t.commands f y → RollersLeft (events_h y)
     left_by (happenings.Turn u) turn may = turn_left u may.0 may.1.up turn
-    left_by (happenings.Stopped m) it may = λ z q has. old (happenings.Stopped m) z q (leavers_back z q [] [] (lives_at (node_at f m)) e has)
+    left_by (happenings.Stopped m) it may = λ z q has. old (happenings.Stopped m) z q (leavers_back (Send_rollback z q) refl [] [] (lives_at (node_at f m)) e has)
     left_by (happenings.Started m boot) it may = λ z q has. old (happenings.Started m boot) z q has
     left_by (happenings.Begun c) it may = λ z q has. old (happenings.Begun c) z q has
     left_by (happenings.Cut a b) it may = λ z q has. old (happenings.Cut a b) z q has

@@ -1,14 +1,14 @@
 -- A calm turn of RECO: its node's undecided rows and live branches have asked, and all else is as it was.
-use Rattle.std.proofs.Common.{◌≡◌, ◌≢◌, ℕ, ◌⊎◌, ◌&&◌, ◌||◌, Bool, true, false, List, [], ◌∷◌, ◌++◌, map, length, Option, Some, None, inl, inr, refl, sym, ap, subst, ◌∙◌}
+use Rattle.std.proofs.Common.{◌≡◌, ℕ, ◌⊎◌, ◌&&◌, ◌||◌, Bool, true, false, List, [], ◌∷◌, ◌++◌, map, length, Option, Some, None, inl, inr, refl, sym, ap, subst, ◌∙◌}
 use Rattle.std.specs.Prelude.{flat_map}
-use Rattle.std.specs.List.{AllByRecursion, list_any}
+use Rattle.std.specs.List.{AllByRecursion}
 use Rattle.net_bag.specs.Net.{lost_at_once}
-use Rattle.node_rules.specs.Data.{BranchId, Decision, Input, Kind, Live, Msg, Place, Post, Standing}
+use Rattle.node_rules.specs.Data.{BranchId, Decision, Kind, Live, Place, Post, KeptRow}
 use Rattle.node_rules.specs.Data.inputs
 use Rattle.node_rules.specs.Data.kinds
 use Rattle.node_rules.specs.NodeState.{NodeState, post_one, to_one}
 use Rattle.node_rules.specs.Recovery.{Asking, asking_id, asks_live, asks_kept, recovers, askings, recovery}
-use Rattle.node_rules.specs.Turn.{stamped, turn_of, deed_of}
+use Rattle.node_rules.specs.Turn.{stamped, turn_of}
 use Rattle.node_rules.specs.Words.{same}
 use Rattle.run_rules.specs.Data.{Command, Took, Turn}
 use Rattle.run_rules.specs.Data.happenings
@@ -19,9 +19,9 @@ use Rattle.run_rules.specs.Lawful.{Comes, IsOwed, MayTurn}
 use Rattle.run_rules.specs.Trail.{is_prepare}
 use Rattle.run_branch_laws.specs.WalkLaws.{was_sent}
 use Rattle.run_rules.proofs.AtNodeLemmas.{turn_elsewhere, turn_here}
-use Rattle.run_base_laws.proofs.KindSayLemmas.{OfDecisions, AllSay, askings_say}
+use Rattle.run_base_laws.proofs.KindSayLemmas.{OfDecisions, askings_say}
 use Rattle.run_rules.proofs.ListLemmas.{all_weaker}
-use Rattle.run_base_laws.proofs.SaidPostLemmas.{posts_back, posts_of, said_after}
+use Rattle.run_base_laws.proofs.SaidPostLemmas.{posts_back, said_after}
 use Rattle.run_base_laws.proofs.TurnEventLemmas.{cases_nat}
 use Rattle.tree_laws.proofs.AskLemmas.{sent_split}
 use Rattle.commit_laws.proofs.ListLemmas.{IsIn, all_in}
@@ -108,7 +108,7 @@ module _ (places : List Place) (asked : List Command) (f : Facts) (even : length
   abbrev pub names_same : (b z : BranchId) → RowNames f b z → RowNames g b z
   names_same b z r = record { node = r.node; up = nodes_same b.node ∙ r.up; row = r.row; found = r.found; names = r.names }
 
-  pub sought_same : (y : Standing) (e : BranchId) → Sought f y e → Sought g y e
+  pub sought_same : (y : KeptRow) (e : BranchId) → Sought f y e → Sought g y e
   sought_same y e (Asks fly) = Asks (flies_on _ y.me e fly)
   sought_same y e (Points fly) = Points (flies_on _ y.me e fly)
   sought_same y e (Is_told fly) = Is_told (flies_on _ e y.me fly)
@@ -137,7 +137,7 @@ module _ (places : List Place) (asked : List Command) (f : Facts) (even : length
   one_in from kind None to is = absurd cc
   one_in from kind (Some b) to is = inl (let it : b ≡ to = cc in ap (post_one from kind) it)
 
-  row_asks : (y : Standing) → IsIn y k.stored.durable.kept → y.decision ≡ None → (e : BranchId) → y.toward ≡ Some e → Sought g y e
+  row_asks : (y : KeptRow) → IsIn y k.stored.durable.kept → y.decision ≡ None → (e : BranchId) → y.toward ≡ Some e → Sought g y e
   row_asks y at undecided e toward =
       Asks (asking_flies (asks_kept y) (post_one y.me kinds.Ask e) (in_behind (asks_kept y) (map asks_live k.lives) (map asks_kept k.stored.durable.kept) (in_map asks_kept y k.stored.durable.kept at))
       (subst (λ (d : Option Decision). IsIn (post_one y.me kinds.Ask e) (recovers y d)) (sym undecided) (one_in y.me kinds.Ask y.toward e toward)) refl)
@@ -154,7 +154,7 @@ module _ (places : List Place) (asked : List Command) (f : Facts) (even : length
       rows = λ n r j up. elim r [
         | inl old ↦ all_weaker _ _ (λ y so undecided e toward. sought_same y e (so undecided e toward)) j.stored.durable.kept (now.rows n old j (sym (nodes_same n) ∙ up))
         | inr at ↦ subst (λ (x : NodeState). AllByRecursion (λ y. y.decision ≡ None → (e : BranchId) → y.toward ≡ Some e → Sought g y e) x.stored.durable.kept) (its n at j up)
-            (all_in (λ (y : Standing). y.decision ≡ None → (e : BranchId) → y.toward ≡ Some e → Sought g y e) k.stored.durable.kept row_asks)
+            (all_in (λ (y : KeptRow). y.decision ≡ None → (e : BranchId) → y.toward ≡ Some e → Sought g y e) k.stored.durable.kept row_asks)
       ];
       lives = λ n r j up. elim r [
         | inl old ↦ all_weaker _ _ (λ l so q parent. watched_same l.me q (so q parent)) j.lives (now.lives n old j (sym (nodes_same n) ∙ up))

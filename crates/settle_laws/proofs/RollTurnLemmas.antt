@@ -1,111 +1,105 @@
 -- A calm turn in which a rollback comes: what was so of undecided rows and live branches stays so.
-use Rattle.std.proofs.Common.{◌≡◌, ◌≢◌, ℕ, zero, suc, ◌<◌, ◌⊎◌, ◌&&◌, ◌||◌, not, Bool, true, false, if◌then◌else◌, List, [], ◌∷◌, ◌++◌, map, length, slice_get, Option, Some, None, inl, inr, refl, sym, ap, subst, ◌∙◌, arith, append-nil}
+use Rattle.std.proofs.Common.{◌≡◌, ◌≢◌, ℕ, ◌⊎◌, not, Bool, true, false, if◌then◌else◌, List, [], ◌∷◌, Option, Some, None, inl, inr, refl, sym, ap, subst, ◌∙◌, append-nil}
 use Rattle.std.specs.List.{AllByRecursion}
 use Rattle.std.proofs.lemmas.Bool.{cond_both, not-true}
 use Rattle.tran_ids.proofs.BranchLemmas.{equal_from_same, same_from_equal}
 use Rattle.tran_ids.proofs.ListedLemmas.{item_is, drop_leaves}
 use Rattle.commit_forget.specs.Beyond.{is_neighbor}
 use Rattle.net_bag.specs.Net.{lost_at_once}
-use Rattle.reco.specs.declared.told.Told.{Told}
-use Rattle.reco.specs.declared.told.Told.TheVariants as tolds
 use Rattle.session_tree.specs.Live.{is_branch, children_of}
-use Rattle.node_rules.specs.Data.{BranchId, Decision, Input, Kind, Live, Msg, Phase, Place, Post, Standing}
+use Rattle.node_rules.specs.Data.{BranchId, Decision, Kind, Live, Msg, Place, Post, KeptRow}
 use Rattle.node_rules.specs.Data.decisions
 use Rattle.node_rules.specs.Data.inputs
 use Rattle.node_rules.specs.Data.kinds
-use Rattle.node_rules.specs.Data.phases
-use Rattle.node_rules.specs.Words.{same, item_at, drop_item, numbered}
-use Rattle.node_rules.specs.NodeState.{NodeState, Branch, Deed, saying, post, post_one, to_each, live_at, live_id, standing_at, standing_id, branch_at, work_at, with_work}
-use Rattle.node_rules.specs.Prepare.{drops, to_children}
-use Rattle.node_rules.specs.Recovery.{told_by, told_kind, tells, ask_answer, on_ask, on_ask_told, on_ask_kept}
-use Rattle.node_rules.specs.Turn.{stamped, turn_of, deed_of, heard, kind_turn, ask_turn, stand_of, live_or}
+use Rattle.node_rules.specs.Words.{same, item_at}
+use Rattle.node_rules.specs.NodeState.{NodeState, Branch, TurnDraft, post_one, live_at, live_id, kept_row_at, kept_row_id, branch_at, work_at, with_work}
+use Rattle.node_rules.specs.Prepare.{drops}
+use Rattle.node_rules.specs.Recovery.{tells}
+use Rattle.node_rules.specs.Turn.{draft_of, heard, kind_turn, status_of, live_or}
 use Rattle.node_rules.proofs.StandLemmas.{live_so}
 use Rattle.node_rules.proofs.StepLemmas.{branch_found}
 use Rattle.run_rules.specs.Births.{Born, born_at, births_of}
-use Rattle.run_base_laws.specs.BirthLaws.{Began, KeptIs, LiveIs, TowardIs}
-use Rattle.run_rules.specs.Data.{Happening, Took, Turn}
+use Rattle.run_base_laws.specs.BirthLaws.{Began, KeptIs}
+use Rattle.run_rules.specs.Data.{Took, Turn}
 use Rattle.run_rules.specs.Data.happenings
-use Rattle.run_rules.specs.Facts.{Facts, place_at, node_at, kept_after, taken, facts_after}
+use Rattle.run_rules.specs.Facts.{Facts, place_at, node_at, taken, facts_after}
 use Rattle.run_base_laws.specs.FreezeLaws.{was_asked}
-use Rattle.run_base_laws.specs.InTurnLaws.{post_of, said_in}
-use Rattle.run_rules.specs.Lawful.{Comes, IsOwed, MayTurn, History, IsLawfulRun}
+use Rattle.run_base_laws.specs.InTurnLaws.{said_in}
+use Rattle.run_rules.specs.Lawful.{MayTurn, History, IsLawfulRun}
 use Rattle.run_rules.specs.Trail.{is_prepare}
 use Rattle.run_base_laws.specs.EventRows.{RowIs, IsKnown}
 use Rattle.run_base_laws.specs.RunEvents.{events_of}
 use Rattle.agreement.specs.Events.{Sealed, exit}
-use Rattle.tree_site_laws.proofs.HeardLemmas.{left_were_asked}
-use Rattle.run_rules.proofs.AtNodeLemmas.{turn_elsewhere, turn_here}
+use Rattle.tree_laws.proofs.HeardLemmas.{left_were_asked}
+use Rattle.run_rules.proofs.AtNodeLemmas.{turn_elsewhere}
 use Rattle.run_base_laws.proofs.BirthRunLemmas.{nodes_name_the_born}
-use Rattle.run_base_laws.proofs.EventsStandLemmas.{run_stands, nodes_are_as_events}
-use Rattle.run_branch_laws.proofs.FreezeRunLemmas.{asked_stand_still}
-use Rattle.run_rules.proofs.ListLemmas.{all_weaker, all_append, all_each, all_filter}
-use Rattle.run_base_laws.proofs.OwnLemmas.{all_found, all_without}
-use Rattle.run_base_laws.proofs.SaidPostLemmas.{posts_back, said_after}
+use Rattle.run_base_laws.proofs.EventsStandLemmas.{nodes_are_as_events}
+use Rattle.run_rules.proofs.ListLemmas.{all_weaker, all_each, all_filter}
+use Rattle.run_base_laws.proofs.OwnLemmas.{all_found}
 use Rattle.run_base_laws.proofs.TurnEventLemmas.{all_both, cases_nat}
-use Rattle.tree_laws.proofs.AskRunLemmas.{edges_asked}
-use Rattle.tree_laws.proofs.PrefixLemmas.{so_far, f_at, e_at}
+use Rattle.tree_laws.proofs.PrefixLemmas.{f_at}
 use Rattle.commit_laws.proofs.ListLemmas.{IsIn}
 use Rattle.settle_laws.specs.OverLaws.{is_rollback}
 use Rattle.settle_laws.specs.Interval.{Flies, is_ask, is_point, is_decision, LivesAt, RowNames, Sought, Asks, Points, Is_told, In_doubt, Under_live, Watched, Asks_up, Is_rolled, Up_lives, Up_names, Unasked, Obliged}
-use Rattle.settle_laws.proofs.FlyLemmas.{in_before, in_behind, in_map, sent_flies, flies_or_taken}
+use Rattle.settle_laws.proofs.CalmTurn.{calm}
+use Rattle.settle_laws.proofs.FlyLemmas.{in_map}
 use Rattle.settle_laws.proofs.RecoTurnLemmas.{unasked_on}
 use Rattle.settle_laws.proofs.AskTurnLemmas.{asked_child}
-use Rattle.settle_laws.proofs.FoundLiveLemmas.{lives_found}
+use Rattle.commit_forget_laws.proofs.FoundRowLemmas.{lives_found}
 use Rattle.commit_forget_laws.proofs.FoundRowLemmas.{rows_found}
 use Rattle.settle_laws.proofs.RowLemmas.{names_so, rows_hold, neighbor_off}
 use Rattle.settle_laws.proofs.OverLemmas.{rollers_have_left}
 use Rattle.settle_laws.specs.RowLaws.{RowHolds, NamesSo}
 use Rattle.commit_forget.specs.declared.next.Beyond.{Beyond as Neighbor}
 use Rattle.commit_forget.specs.Beyond.{beyond}
-use Rattle.commit_forget.specs.Next.{is_mixed, next_on_decision, decision_at, first_decision}
-use Rattle.commit_forget.specs.declared.next.Next.{Next}
+use Rattle.commit_forget.specs.Next.{next_on_decision, decision_at}
 use Rattle.commit_forget.specs.declared.next.Next.TheVariants as nexts
 use Rattle.redo_record.specs.Durable.{durable_after}
 use Rattle.redo_record.specs.Kept.{stands_at, met_as, kept_after as rows_after}
 use Rattle.node_rules.specs.Data.{RedoRecord, State}
 use Rattle.node_rules.specs.Data.records
 use Rattle.node_rules.specs.Data.states
-use Rattle.node_rules.specs.Words.{change_where, drop_where}
+use Rattle.node_rules.specs.Words.{change_where}
 use Rattle.node_rules.specs.Records.{applied}
 use Rattle.node_rules.specs.NodeState.{nothing}
-use Rattle.node_rules.specs.Commit.{learns, next_turn, on_decision, passes, rollback_to}
-use Rattle.node_rules.specs.Turn.{Is_live, Is_kept, Is_gone, Stand, rollback_turn, rolled_back_turn}
-use Rattle.agreement.specs.Events.{Forest, site_of}
+use Rattle.node_rules.specs.Commit.{learns, next_turn, on_decision, rollback_to}
+use Rattle.node_rules.specs.Turn.{BranchStatus, rollback_turn, rolled_back_turn}
+use Rattle.agreement.specs.Events.{Forest}
 use Rattle.run_base_laws.specs.EventRows.{IsForcedAs}
 use Rattle.run_base_laws.proofs.EventsStandLemmas.{ids_name_their_node}
 use Rattle.commit_laws.proofs.ListLemmas.{all_in}
 use Rattle.commit_laws.proofs.NetLemmas.{numbered_all}
 use Rattle.commit_forget_laws.proofs.TellLemmas.{rows_changed, rows_left}
-use Rattle.commit_forget_laws.proofs.WayLemmas.{WayIs, rows_way}
+use Rattle.commit_forget_laws.proofs.WayLemmas.{not_each_other}
+use Rattle.tree_laws.proofs.FitRowLemmas.{RowFits, rows_fit}
 use Rattle.tree_laws.specs.Forests.{forest_of}
-use Rattle.tree_laws.proofs.ForestRunLemmas.{runs_have_forests}
-use Rattle.tree_site_laws.proofs.TimeLemmas.{Part}
+use Rattle.tree_laws.proofs.TimeLemmas.{Part}
 
 -- Rollback, or RolledBack
 abbrev pub TellsRollback : Kind → Type 0
 TellsRollback kind = (kind ≡ kinds.Rollback) ⊎ (kind ≡ kinds.RolledBack)
 
 -- what it does
-abbrev pub roll_turn : {kind : Kind} → TellsRollback kind → NodeState → BranchId → Stand → Deed
+abbrev pub roll_turn : {kind : Kind} → TellsRollback kind → NodeState → BranchId → BranchStatus → TurnDraft
 roll_turn (inl rollback) k from stand = rollback_turn k from stand
 roll_turn (inr rolled_back) k from stand = rolled_back_turn k from stand
 
 -- a row that is changed where it stands leaves those of other branches
-pub change_leaves : (b : BranchId) (h : Standing → Standing) → ((x : Standing) → (h x).me ≡ x.me) → (ks : List Standing) (c : BranchId) → same b c ≡ false → item_at standing_id (change_where (stands_at b) h ks) c ≡ item_at standing_id ks c
+pub change_leaves : (b : BranchId) (h : KeptRow → KeptRow) → ((x : KeptRow) → (h x).me ≡ x.me) → (ks : List KeptRow) (c : BranchId) → same b c ≡ false → item_at kept_row_id (change_where (stands_at b) h ks) c ≡ item_at kept_row_id ks c
 change_leaves b h me [] c other = refl
 change_leaves b h me (x ∷ xs) c other = by (same x.me b) refl (change_leaves b h me xs c other)
   where
-    by : (q : Bool) → same x.me b ≡ q → item_at standing_id (change_where (stands_at b) h xs) c ≡ item_at standing_id xs c
-        → item_at standing_id ((if same x.me b then h x else x) ∷ change_where (stands_at b) h xs) c ≡ item_at standing_id (x ∷ xs) c
+    by : (q : Bool) → same x.me b ≡ q → item_at kept_row_id (change_where (stands_at b) h xs) c ≡ item_at kept_row_id xs c
+        → item_at kept_row_id ((if same x.me b then h x else x) ∷ change_where (stands_at b) h xs) c ≡ item_at kept_row_id (x ∷ xs) c
     by true here rest =
         let off : same x.me c ≡ false = ap (λ z. same z c) (equal_from_same x.me b here) ∙ other in
         let off_h : same (h x).me c ≡ false = ap (λ z. same z c) (me x) ∙ off in
-        ap (λ (w : Bool). item_at standing_id ((if w then h x else x) ∷ change_where (stands_at b) h xs) c) here
-        ∙ (ap (λ (w : Bool). if w then Some (h x) else item_at standing_id (change_where (stands_at b) h xs) c) off_h
-        ∙ (rest ∙ sym (ap (λ (w : Bool). if w then Some x else item_at standing_id xs c) off)))
+        ap (λ (w : Bool). item_at kept_row_id ((if w then h x else x) ∷ change_where (stands_at b) h xs) c) here
+        ∙ (ap (λ (w : Bool). if w then Some (h x) else item_at kept_row_id (change_where (stands_at b) h xs) c) off_h
+        ∙ (rest ∙ sym (ap (λ (w : Bool). if w then Some x else item_at kept_row_id xs c) off)))
     by false there rest =
-        ap (λ (w : Bool). item_at standing_id ((if w then h x else x) ∷ change_where (stands_at b) h xs) c) there
-        ∙ ap (λ (z : Option Standing). if same x.me c then Some x else z) rest
+        ap (λ (w : Bool). item_at kept_row_id ((if w then h x else x) ∷ change_where (stands_at b) h xs) c) there
+        ∙ ap (λ (z : Option KeptRow). if same x.me c then Some x else z) rest
 
 module _ (t : History) (s_lawful : IsLawfulRun t) (u : Turn) (k : NodeState) where
   abbrev pub f : Facts
@@ -122,96 +116,62 @@ module _ (t : History) (s_lawful : IsLawfulRun t) (u : Turn) (k : NodeState) whe
     abbrev k0 : NodeState
     k0 = heard k (inputs.Message m)
 
-    abbrev d : Deed
-    d = roll_turn told_turn k0 m.from (stand_of k0 m.to)
+    abbrev d : TurnDraft
+    d = roll_turn told_turn k0 m.from (status_of k0 m.to)
 
-    even : length f.nodes ≡ length f.records
-    even = (run_stands t s_lawful).0.even
-
-    deed_is : deed_of p k u.input ≡ d
-    deed_is = ap (deed_of p k) it ∙ by told_turn
+    draft_is : draft_of p k u.input ≡ d
+    draft_is = ap (draft_of p k) it ∙ by told_turn
       where
-        by : (w : TellsRollback m.kind) → kind_turn p k0 m.from m.to m.kind (stand_of k0 m.to) ≡ roll_turn w k0 m.from (stand_of k0 m.to)
-        by (inl is) = ap (λ x. kind_turn p k0 m.from m.to x (stand_of k0 m.to)) is
-        by (inr is) = ap (λ x. kind_turn p k0 m.from m.to x (stand_of k0 m.to)) is
+        by : (w : TellsRollback m.kind) → kind_turn p k0 m.from m.to m.kind (status_of k0 m.to) ≡ roll_turn w k0 m.from (status_of k0 m.to)
+        by (inl is) = ap (λ x. kind_turn p k0 m.from m.to x (status_of k0 m.to)) is
+        by (inr is) = ap (λ x. kind_turn p k0 m.from m.to x (status_of k0 m.to)) is
 
-    owed : IsOwed p k u.input u.wrote u.sent false
-    owed = subst (IsOwed p k u.input u.wrote u.sent) uncut may.owed
-
-    sent_is : u.sent ≡ map (stamped d.after.clock) d.says
-    unfolding turn_of
-    sent_is = owed.1 ∙ ap (λ (x : Deed). map (stamped x.after.clock) x.says) deed_is
-
-    after_is : (turn_of p k u.input).after ≡ d.after
-    unfolding turn_of
-    after_is = ap (λ (x : Deed). x.after) deed_is
-
-    here : node_at g u.node ≡ Some d.after
-    here = (turn_here t.places t.commands f even u k may.up).0 ∙ (ap (λ c. kept_after c (Some (turn_of p k u.input))) uncut ∙ ap Some after_is)
-
-    comes : Comes f k u.node (inputs.Message m) (Some y)
-    comes = subst (λ o. Comes f k u.node (inputs.Message m) o) took (subst (λ i. Comes f k u.node i u.took) it may.comes)
-
-    at_to : m.to.node ≡ u.node
-    at_to = comes.1.here
-
-    up_to : node_at f m.to.node ≡ Some k
-    up_to = subst (λ n. node_at f n ≡ Some k) (sym at_to) may.up
-
-    here_to : node_at g m.to.node ≡ Some d.after
-    here_to = subst (λ n. node_at g n ≡ Some d.after) (sym at_to) here
-
-    said_now : said_in g ≡ said_in f ++ d.says
-    said_now = said_after t.places t.commands f (happenings.Turn u) ∙ ap (λ xs. said_in f ++ xs) (ap (map post_of) sent_is ∙ posts_back d.after.clock d.says)
-
-    post_flies : (test : Kind → Bool) (x : Post) → IsIn x d.says → test x.kind ≡ true → Flies test g x.from x.to
-    post_flies test x at is =
-        sent_flies t.places t.commands f u none test (stamped d.after.clock x) (subst (IsIn (stamped d.after.clock x)) (sym sent_is) (in_map (stamped d.after.clock) x d.says at)) is
+    open calm t s_lawful u k may uncut none m it y took d draft_is use {even, comes, at_to, here, up_to, here_to, said_now, post_flies, flown}
 
     -- ---- what the turn does
 
-    abbrev ks : List Standing
+    abbrev ks : List KeptRow
     ks = k.stored.durable.kept
 
     -- the record of a rollback that is learned
-    data Learns (s : Standing) : RedoRecord → Type 0 where
+    data Learns (s : KeptRow) : RedoRecord → Type 0 where
       Ends : Learns s (records.Ended s.me decisions.Rollback)
       Meets : (mixed : Bool) → Learns s (records.Met s.me decisions.Rollback mixed)
 
     -- Nothing: no undecided row hears it from toward, and no live branch from its parent. Or a live branch is dropped; or an
     -- undecided row learns it from toward.
-    data Result (x : Deed) : Type 0 where
-      Rests : ((s : Standing) → standing_at k m.to ≡ Some s → s.toward ≡ Some m.from → s.decision ≡ None → ⊥) → ((l : Live) → live_at k m.to ≡ Some l → l.parent ≡ Some m.from → ⊥) → x ≡ nothing k0 → Result x
+    data Result (x : TurnDraft) : Type 0 where
+      Rests : ((s : KeptRow) → kept_row_at k m.to ≡ Some s → s.toward ≡ Some m.from → s.decision ≡ None → ⊥) → ((l : Live) → live_at k m.to ≡ Some l → l.parent ≡ Some m.from → ⊥) → x ≡ nothing k0 → Result x
       Dropped : (l : Live) → live_at k m.to ≡ Some l → x ≡ drops k0 l [] → Result x
-      Learnt : (s : Standing) (r : RedoRecord) → standing_at k m.to ≡ Some s → s.toward ≡ Some m.from → Learns s r → x ≡ learns k0 s decisions.Rollback r → Result x
+      Learnt : (s : KeptRow) (r : RedoRecord) → kept_row_at k m.to ≡ Some s → s.toward ≡ Some m.from → Learns s r → x ≡ learns k0 s decisions.Rollback r → Result x
 
-    row_exit : (s : Standing) → standing_at k m.to ≡ Some s → RowIs (events_of t) s
-    row_exit s at = all_found (RowIs (events_of t)) standing_id ks m.to s (nodes_are_as_events t s_lawful u.node k may.up).1 at
+    row_exit : (s : KeptRow) → kept_row_at k m.to ≡ Some s → RowIs (events_of t) s
+    row_exit s at = all_found (RowIs (events_of t)) kept_row_id ks m.to s (nodes_are_as_events t s_lawful u.node k may.up).1 at
 
     live_exit : (l : Live) → live_at k m.to ≡ Some l → exit (events_of t) l.me ≡ None
     live_exit l at = all_found (λ (x : Live). exit (events_of t) x.me ≡ None) live_id k.lives m.to l (nodes_are_as_events t s_lawful u.node k may.up).0 at
 
     -- not both
-    not_both : (s : Standing) (l : Live) → standing_at k m.to ≡ Some s → live_at k m.to ≡ Some l → ⊥
-    not_both s l row live = (row_exit s row).left (ap (exit (events_of t)) (item_is standing_id ks m.to s row ∙ sym (item_is live_id k.lives m.to l live)) ∙ live_exit l live)
+    not_both : (s : KeptRow) (l : Live) → kept_row_at k m.to ≡ Some s → live_at k m.to ≡ Some l → ⊥
+    not_both s l row live = (row_exit s row).left (ap (exit (events_of t)) (item_is kept_row_id ks m.to s row ∙ sym (item_is live_id k.lives m.to l live)) ∙ live_exit l live)
 
-    row_result : (s : Standing) → standing_at k m.to ≡ Some s → Result (on_decision k0 s m.from decisions.Rollback)
+    row_result : (s : KeptRow) → kept_row_at k m.to ≡ Some s → Result (on_decision k0 s m.from decisions.Rollback)
     unfolding next_on_decision
     row_result s at = by (is_branch m.from s.toward) refl s.decision refl s.state (row_exit s at).force
       where
         not_live : (l : Live) → live_at k m.to ≡ Some l → l.parent ≡ Some m.from → ⊥
         not_live l live parent = not_both s l at live
 
-        this : (w : Standing) → standing_at k m.to ≡ Some w → w ≡ s
+        this : (w : KeptRow) → kept_row_at k m.to ≡ Some w → w ≡ s
         this w found = (let both : Some w ≡ Some s = sym found ∙ at in cc)
 
-        decided : (o : Decision) → s.decision ≡ Some o → (w : Standing) → standing_at k m.to ≡ Some w → w.toward ≡ Some m.from → w.decision ≡ None → ⊥
-        decided o known w found toward undecided = (let its : s.decision ≡ None = ap (λ (z : Standing). z.decision) (sym (this w found)) ∙ undecided in absurd (cc (its, known)))
+        decided : (o : Decision) → s.decision ≡ Some o → (w : KeptRow) → kept_row_at k m.to ≡ Some w → w.toward ≡ Some m.from → w.decision ≡ None → ⊥
+        decided o known w found toward undecided = (let its : s.decision ≡ None = ap (λ (z : KeptRow). z.decision) (sym (this w found)) ∙ undecided in absurd (cc (its, known)))
 
         by : (q : Bool) → is_branch m.from s.toward ≡ q → (o : Option Decision) → s.decision ≡ o → (st : State) → IsForcedAs (events_of t) s.me st s.decision
             → Result (next_turn k0 s m.from (if q then decision_at (record s { state = st }) decisions.Rollback o else nexts.Rest))
         by false off o known st force =
-            Rests (λ w found toward undecided. (let on : is_branch m.from s.toward ≡ true = ap (is_branch m.from) (ap (λ (z : Standing). z.toward) (sym (this w found)) ∙ toward) ∙ same_from_equal m.from m.from refl in absurd (cc (on, off)))) not_live refl
+            Rests (λ w found toward undecided. (let on : is_branch m.from s.toward ≡ true = ap (is_branch m.from) (ap (λ (z : KeptRow). z.toward) (sym (this w found)) ∙ toward) ∙ same_from_equal m.from m.from refl in absurd (cc (on, off)))) not_live refl
         by true on (Some (decisions.Commit n)) known st force = Rests (decided (decisions.Commit n) known) not_live refl
         by true on (Some decisions.Rollback) known st force = Rests (decided decisions.Rollback known) not_live refl
         by true on None undecided states.Sealed force = Learnt s (records.Ended s.me decisions.Rollback) at (branch_found m.from s.toward on) Ends refl
@@ -219,12 +179,12 @@ module _ (t : History) (s_lawful : IsLawfulRun t) (u : Turn) (k : NodeState) whe
         by true on None undecided (states.ForcedCommit n) force = Learnt s (records.Met s.me decisions.Rollback true) at (branch_found m.from s.toward on) (Meets true) refl
         by true on None undecided states.ForcedRollback force = Learnt s (records.Met s.me decisions.Rollback false) at (branch_found m.from s.toward on) (Meets false) refl
 
-    gone_result : branch_at k m.to ≡ None → standing_at k m.to ≡ None → Result (nothing k0)
+    gone_result : branch_at k m.to ≡ None → kept_row_at k m.to ≡ None → Result (nothing k0)
     gone_result live row =
         Rests (λ s found toward undecided. absurd (cc (row, found)))
         (λ l found parent. (let some : branch_at k m.to ≡ Some (record { live = l; work = work_at k l.me }) = ap (with_work k) found in absurd (cc (some, live)))) refl
 
-    result_by : (w : TellsRollback m.kind) (o : Option Branch) (q : Option Standing) → branch_at k m.to ≡ o → standing_at k m.to ≡ q → Result (roll_turn w k0 m.from (live_or o q))
+    result_by : (w : TellsRollback m.kind) (o : Option Branch) (q : Option KeptRow) → branch_at k m.to ≡ o → kept_row_at k m.to ≡ q → Result (roll_turn w k0 m.from (live_or o q))
     result_by (inl is) (Some x) q live row = Dropped x.live (live_so k m.to x live) refl
     result_by (inl is) None (Some s) live row = row_result s row
     result_by (inl is) None None live row = gone_result live row
@@ -244,79 +204,79 @@ module _ (t : History) (s_lawful : IsLawfulRun t) (u : Turn) (k : NodeState) whe
             (ap (λ (w : Bool). if w then drops k0 x.live [] else nothing k0) other)
 
     result : Result d
-    unfolding stand_of
-    result = result_by told_turn (branch_at k m.to) (standing_at k m.to) refl refl
+    unfolding status_of
+    result = result_by told_turn (branch_at k m.to) (kept_row_at k m.to) refl refl
 
     -- ---- what it leaves
 
     -- an undecided row to which this is not told by toward
-    abbrev NotTold : Standing → Type 0
+    abbrev NotTold : KeptRow → Type 0
     NotTold x = (e : BranchId) → x.decision ≡ None → x.toward ≡ Some e → m.to ≡ x.me → m.from ≡ e → ⊥
 
-    apart_not : (b : BranchId) (x : Standing) → b ≡ m.to → same x.me b ≡ false → NotTold x
+    apart_not : (b : BranchId) (x : KeptRow) → b ≡ m.to → same x.me b ≡ false → NotTold x
     apart_not b x me apart e undecided toward at from = (let yes_same : same x.me b ≡ true = same_from_equal x.me b (sym at ∙ sym me) in absurd (cc (yes_same, apart)))
 
-    module _ (P Q : Standing → Type 0) (each : (x : Standing) → P x → NotTold x → Q x) (decided : (x : Standing) → (x.decision ≡ None → ⊥) → Q x) where
-      abbrev Found : Standing → Type 0
-      Found x = (item_at standing_id ks x.me ≡ Some x) × P x
+    module _ (P Q : KeptRow → Type 0) (each : (x : KeptRow) → P x → NotTold x → Q x) (decided : (x : KeptRow) → (x.decision ≡ None → ⊥) → Q x) where
+      abbrev Found : KeptRow → Type 0
+      Found x = (item_at kept_row_id ks x.me ≡ Some x) × P x
 
-      same_all : ((x : Standing) → item_at standing_id ks x.me ≡ Some x → NotTold x) → AllByRecursion Found ks → AllByRecursion Q ks
+      same_all : ((x : KeptRow) → item_at kept_row_id ks x.me ≡ Some x → NotTold x) → AllByRecursion Found ks → AllByRecursion Q ks
       same_all none_told all = all_weaker Found Q (λ x so. each x so.1 (none_told x so.0)) ks all
 
-      its_row : (x : Standing) → item_at standing_id ks x.me ≡ Some x → m.to ≡ x.me → standing_at k m.to ≡ Some x
-      its_row x found at = subst (λ b. standing_at k b ≡ Some x) (sym at) found
+      its_row : (x : KeptRow) → item_at kept_row_id ks x.me ≡ Some x → m.to ≡ x.me → kept_row_at k m.to ≡ Some x
+      its_row x found at = subst (λ b. kept_row_at k b ≡ Some x) (sym at) found
 
-      learnt_all : (s : Standing) → s.me ≡ m.to → (r : RedoRecord) → Learns s r → AllByRecursion Found ks → AllByRecursion Q (applied k0.stored r).durable.kept
+      learnt_all : (s : KeptRow) → s.me ≡ m.to → (r : RedoRecord) → Learns s r → AllByRecursion Found ks → AllByRecursion Q (applied k0.stored r).durable.kept
       unfolding applied durable_after rows_after
       learnt_all s me _ Ends all = rows_left Found Q (stands_at s.me) (λ x apart so. each x so.1 (apart_not s.me x me apart)) ks all
       learnt_all s me _ (Meets false) all = rows_left Found Q (stands_at s.me) (λ x apart so. each x so.1 (apart_not s.me x me apart)) ks all
       learnt_all s me _ (Meets true) all =
           rows_changed Found Q s.me (met_as decisions.Rollback true) (λ x at so. decided (met_as decisions.Rollback true x) (λ no_decision. absurd cc)) (λ x apart so. each x so.1 (apart_not s.me x me apart)) ks all
 
-      rows_after_all : (x : Deed) → Result x → AllByRecursion Found ks → AllByRecursion Q x.after.stored.durable.kept
+      rows_after_all : (x : TurnDraft) → Result x → AllByRecursion Found ks → AllByRecursion Q x.after.stored.durable.kept
       rows_after_all x (Rests none_row none_live is) all =
-          subst (λ (z : Deed). AllByRecursion Q z.after.stored.durable.kept) (sym is)
+          subst (λ (z : TurnDraft). AllByRecursion Q z.after.stored.durable.kept) (sym is)
           (same_all (λ y found e undecided toward at from. none_row y (its_row y found at) (toward ∙ ap Some (sym from)) undecided) all)
       rows_after_all x (Dropped l live is) all =
-          subst (λ (z : Deed). AllByRecursion Q z.after.stored.durable.kept) (sym is) (same_all (λ y found e undecided toward at from. not_both y l (its_row y found at) live) all)
+          subst (λ (z : TurnDraft). AllByRecursion Q z.after.stored.durable.kept) (sym is) (same_all (λ y found e undecided toward at from. not_both y l (its_row y found at) live) all)
       rows_after_all x (Learnt s r row toward why is) all =
-          subst (λ (z : Deed). AllByRecursion Q z.after.stored.durable.kept) (sym is) (learnt_all s (item_is standing_id ks m.to s row) r why all)
+          subst (λ (z : TurnDraft). AllByRecursion Q z.after.stored.durable.kept) (sym is) (learnt_all s (item_is kept_row_id ks m.to s row) r why all)
 
     -- a row of another branch is found as before
-    learnt_row : (s : Standing) (r : RedoRecord) → Learns s r → (b : BranchId) → same s.me b ≡ false → item_at standing_id (applied k0.stored r).durable.kept b ≡ item_at standing_id ks b
+    learnt_row : (s : KeptRow) (r : RedoRecord) → Learns s r → (b : BranchId) → same s.me b ≡ false → item_at kept_row_id (applied k0.stored r).durable.kept b ≡ item_at kept_row_id ks b
     unfolding applied durable_after rows_after
-    learnt_row s _ Ends b other = drop_leaves standing_id ks s.me b other
-    learnt_row s _ (Meets false) b other = drop_leaves standing_id ks s.me b other
+    learnt_row s _ Ends b other = drop_leaves kept_row_id ks s.me b other
+    learnt_row s _ (Meets false) b other = drop_leaves kept_row_id ks s.me b other
     learnt_row s _ (Meets true) b other = change_leaves s.me (met_as decisions.Rollback true) (λ x. refl) ks b other
 
     -- a row that names a branch does so after, or it is the one that learned the rollback
     data NamesAfter (b z : BranchId) (r : RowNames f b z) : Type 0 where
       Still_names : (w : RowNames g b z) → w.row ≡ r.row → NamesAfter b z r
-      Has_learnt : (s : Standing) (c : RedoRecord) → standing_at k m.to ≡ Some s → s.toward ≡ Some m.from → Learns s c → d ≡ learns k0 s decisions.Rollback c → b ≡ m.to → r.row ≡ s → NamesAfter b z r
+      Has_learnt : (s : KeptRow) (c : RedoRecord) → kept_row_at k m.to ≡ Some s → s.toward ≡ Some m.from → Learns s c → d ≡ learns k0 s decisions.Rollback c → b ≡ m.to → r.row ≡ s → NamesAfter b z r
 
     names_after : (b z : BranchId) (r : RowNames f b z) → NamesAfter b z r
     names_after b z r = elim (cases_nat u.node b.node) [
       | inr other ↦ Still_names (record { node = r.node; up = (turn_elsewhere t.places t.commands f even u b.node other).0 ∙ r.up; row = r.row; found = r.found; names = r.names }) refl
       | inl at ↦ (let both : Some k ≡ Some r.node = sym may.up ∙ subst (λ n. node_at f n ≡ Some r.node) (sym at) r.up in let same_node : k ≡ r.node = cc in
-          at_node (subst (λ n. node_at g n ≡ Some d.after) at here) (subst (λ (z : NodeState). standing_at z b ≡ Some r.row) (sym same_node) r.found) result)
+          at_node (subst (λ n. node_at g n ≡ Some d.after) at here) (subst (λ (z : NodeState). kept_row_at z b ≡ Some r.row) (sym same_node) r.found) result)
     ]
       where
-        still : node_at g b.node ≡ Some d.after → standing_at d.after b ≡ Some r.row → NamesAfter b z r
+        still : node_at g b.node ≡ Some d.after → kept_row_at d.after b ≡ Some r.row → NamesAfter b z r
         still up found = Still_names (record { node = d.after; up = up; row = r.row; found = found; names = r.names }) refl
 
-        at_node : node_at g b.node ≡ Some d.after → standing_at k b ≡ Some r.row → Result d → NamesAfter b z r
-        at_node up found (Rests none_row none_live is) = still up (ap (λ (x : Deed). standing_at x.after b) is ∙ found)
-        at_node up found (Dropped l live is) = still up (ap (λ (x : Deed). standing_at x.after b) is ∙ found)
+        at_node : node_at g b.node ≡ Some d.after → kept_row_at k b ≡ Some r.row → Result d → NamesAfter b z r
+        at_node up found (Rests none_row none_live is) = still up (ap (λ (x : TurnDraft). kept_row_at x.after b) is ∙ found)
+        at_node up found (Dropped l live is) = still up (ap (λ (x : TurnDraft). kept_row_at x.after b) is ∙ found)
         at_node up found (Learnt s c row toward why is) = by (same s.me b) refl
           where
             me : s.me ≡ m.to
-            me = item_is standing_id ks m.to s row
+            me = item_is kept_row_id ks m.to s row
 
             by : (q : Bool) → same s.me b ≡ q → NamesAfter b z r
             by true that =
                 let is_to : b ≡ m.to = sym (equal_from_same s.me b that) ∙ me in
-                Has_learnt s c row toward why is is_to (let both_rows : Some r.row ≡ Some s = sym found ∙ (ap (standing_at k) is_to ∙ row) in cc)
-            by false other = still up (ap (λ (x : Deed). standing_at x.after b) is ∙ (learnt_row s c why b other ∙ found))
+                Has_learnt s c row toward why is is_to (let both_rows : Some r.row ≡ Some s = sym found ∙ (ap (kept_row_at k) is_to ∙ row) in cc)
+            by false other = still up (ap (λ (x : TurnDraft). kept_row_at x.after b) is ∙ (learnt_row s c why b other ∙ found))
 
     -- a branch that is live is live after, or was dropped
     lives_on : (b : BranchId) → LivesAt f b → LivesAt g b ⊎ ((l : Live) × (live_at k m.to ≡ Some l) × (b ≡ m.to) × (d ≡ drops k0 l []))
@@ -327,8 +287,8 @@ module _ (t : History) (s_lawful : IsLawfulRun t) (u : Turn) (k : NodeState) whe
     ]
       where
         at_node : node_at g b.node ≡ Some d.after → live_at k b ≡ Some x.live → Result d → LivesAt g b ⊎ ((l : Live) × (live_at k m.to ≡ Some l) × (b ≡ m.to) × (d ≡ drops k0 l []))
-        at_node up found (Rests none_row none_live is) = inl (record { node = d.after; up = up; live = x.live; found = ap (λ (z : Deed). live_at z.after b) is ∙ found })
-        at_node up found (Learnt s c row toward why is) = inl (record { node = d.after; up = up; live = x.live; found = ap (λ (z : Deed). live_at z.after b) is ∙ found })
+        at_node up found (Rests none_row none_live is) = inl (record { node = d.after; up = up; live = x.live; found = ap (λ (z : TurnDraft). live_at z.after b) is ∙ found })
+        at_node up found (Learnt s c row toward why is) = inl (record { node = d.after; up = up; live = x.live; found = ap (λ (z : TurnDraft). live_at z.after b) is ∙ found })
         at_node up found (Dropped l at is) = by (same m.to b) refl
           where
             me : l.me ≡ m.to
@@ -340,13 +300,10 @@ module _ (t : History) (s_lawful : IsLawfulRun t) (u : Turn) (k : NodeState) whe
               node = d.after;
               up = up;
               live = x.live;
-              found = ap (λ (z : Deed). live_at z.after b) is ∙ (drop_leaves live_id k.lives l.me b (ap (λ c. same c b) me ∙ other) ∙ found);
+              found = ap (λ (z : TurnDraft). live_at z.after b) is ∙ (drop_leaves live_id k.lives l.me b (ap (λ c. same c b) me ∙ other) ∙ found);
             })
 
     -- ---- messages
-
-    flown : (test : Kind → Bool) (a b : BranchId) → Flies test f a b → Flies test g a b ⊎ ((m.from ≡ a) × (m.to ≡ b) × (test m.kind ≡ true))
-    flown = flies_or_taken t.places t.commands f u none k m y took comes
 
     tests_so : (test : Kind → Bool) → test kinds.Rollback ≡ false → test kinds.RolledBack ≡ false → test m.kind ≡ false
     tests_so test one other = by told_turn
@@ -369,25 +326,25 @@ module _ (t : History) (s_lawful : IsLawfulRun t) (u : Turn) (k : NodeState) whe
         let found : live_at k l.me ≡ Some l = subst (λ b. live_at k b ≡ Some l) (sym me) at in
         let child : IsIn c (children_of l) = asked_child t s_lawful u.node k may.up l found c (subst (λ b. was_asked (said_in f) b c ≡ true) (sym me) asked) in
         let said : IsIn (post_one l.me kinds.Rollback c) d.says
-        = subst (λ (z : Deed). IsIn (post_one l.me kinds.Rollback c) z.says) (sym is) (in_map (post_one l.me kinds.Rollback) c (children_of l) child) in
+        = subst (λ (z : TurnDraft). IsIn (post_one l.me kinds.Rollback c) z.says) (sym is) (in_map (post_one l.me kinds.Rollback) c (children_of l) child) in
         subst (λ b. Flies test g b c) me (post_flies test (post_one l.me kinds.Rollback c) said rolls)
 
     -- a neighbour off toward hears the rollback that its row learned
-    beyond_told : (test : Kind → Bool) → test kinds.Rollback ≡ true → test kinds.RolledBack ≡ true → (s : Standing) (c : RedoRecord) → standing_at k m.to ≡ Some s → d ≡ learns k0 s decisions.Rollback c → (z : BranchId)
+    beyond_told : (test : Kind → Bool) → test kinds.Rollback ≡ true → test kinds.RolledBack ≡ true → (s : KeptRow) (c : RedoRecord) → kept_row_at k m.to ≡ Some s → d ≡ learns k0 s decisions.Rollback c → (z : BranchId)
         → is_neighbor s z ≡ true → is_branch z s.toward ≡ false → Flies test g m.to z
     beyond_told test rolls rolled s c row is z near off =
         let among : (x : Neighbor) × IsIn x (beyond s) × (x.branch ≡ z)
         = neighbor_off (λ b. (x : Neighbor) × IsIn x (beyond s) × (x.branch ≡ b)) z s off near (all_in (λ (x : Neighbor). (w : Neighbor) × IsIn w (beyond s) × (w.branch ≡ x.branch)) (beyond s) (λ x at. (x, at, refl))) in
-        let said : IsIn (rollback_to s.me among.0) d.says = subst (λ (x : Deed). IsIn (rollback_to s.me among.0) x.says) (sym is) (in_map (rollback_to s.me) among.0 (beyond s) among.1) in
-        subst (λ b. Flies test g b z) (item_is standing_id ks m.to s row) (subst (Flies test g s.me) among.2 (post_flies test (rollback_to s.me among.0) said
+        let said : IsIn (rollback_to s.me among.0) d.says = subst (λ (x : TurnDraft). IsIn (rollback_to s.me among.0) x.says) (sym is) (in_map (rollback_to s.me) among.0 (beyond s) among.1) in
+        subst (λ b. Flies test g b z) (item_is kept_row_id ks m.to s row) (subst (Flies test g s.me) among.2 (post_flies test (rollback_to s.me among.0) said
         (cond_both among.0.is_parent kinds.RolledBack kinds.Rollback (λ x. test x ≡ true) (λ up. rolled) (λ down. rolls))))
 
-    no_prepare : (x : Deed) → Result x → AllByRecursion (λ (z : Post). is_prepare z.kind ≡ false) x.says
-    no_prepare x (Rests none_row none_live is) = subst (λ (z : Deed). AllByRecursion (λ (a : Post). is_prepare a.kind ≡ false) z.says) (sym is) tt
+    no_prepare : (x : TurnDraft) → Result x → AllByRecursion (λ (z : Post). is_prepare z.kind ≡ false) x.says
+    no_prepare x (Rests none_row none_live is) = subst (λ (z : TurnDraft). AllByRecursion (λ (a : Post). is_prepare a.kind ≡ false) z.says) (sym is) tt
     no_prepare x (Dropped l at is) =
-        subst (λ (z : Deed). AllByRecursion (λ (a : Post). is_prepare a.kind ≡ false) z.says) (sym is) (all_each (λ (a : Post). is_prepare a.kind ≡ false) (post_one l.me kinds.Rollback) (children_of l) (λ b. refl))
+        subst (λ (z : TurnDraft). AllByRecursion (λ (a : Post). is_prepare a.kind ≡ false) z.says) (sym is) (all_each (λ (a : Post). is_prepare a.kind ≡ false) (post_one l.me kinds.Rollback) (children_of l) (λ b. refl))
     no_prepare x (Learnt s c row toward why is) =
-        subst (λ (z : Deed). AllByRecursion (λ (a : Post). is_prepare a.kind ≡ false) z.says) (sym is)
+        subst (λ (z : TurnDraft). AllByRecursion (λ (a : Post). is_prepare a.kind ≡ false) z.says) (sym is)
         (all_each (λ (a : Post). is_prepare a.kind ≡ false) (rollback_to s.me) (beyond s) (λ b. cond_both b.is_parent kinds.RolledBack kinds.Rollback (λ w. is_prepare w ≡ false) (λ up. refl) (λ down. refl)))
 
     unasked_still : (q z : BranchId) → was_asked (said_in f) q z ≡ false → was_asked (said_in g) q z ≡ false
@@ -423,7 +380,7 @@ module _ (t : History) (s_lawful : IsLawfulRun t) (u : Turn) (k : NodeState) whe
         by (Still_names w same_row) = Up_names w
         by (Has_learnt s c row toward why is to same_row) =
             -- what names a live branch has it as toward, and toward has left
-            let names : NamesSo (events_of t) s = names_so (events_of t) s (all_found (RowHolds (events_of t)) standing_id ks m.to s (rows_hold t s_lawful u.node k may.up) row).sealed in
+            let names : NamesSo (events_of t) s = names_so (events_of t) s (all_found (RowHolds (events_of t)) kept_row_id ks m.to s (rows_hold t s_lawful u.node k may.up) row).sealed in
             elim (names z (ap (λ x. is_neighbor x z) (sym same_row) ∙ r.names)) [
               | inl sealed ↦ (let left = sealed.1 in absurd (cc (left, live)))
               | inr on ↦ (let both : Some m.from ≡ Some z = sym toward ∙ on in let it_is : m.from ≡ z = cc in absurd (teller_left (ap (exit (events_of t)) it_is ∙ live)))
@@ -438,7 +395,7 @@ module _ (t : History) (s_lawful : IsLawfulRun t) (u : Turn) (k : NodeState) whe
     same_born : (x z : Born) → B x → B z → x.me ≡ z.me → x ≡ z
     same_born x z one other me = (let both : Some x ≡ Some z = sym one ∙ (ap (born_at (births_of t)) me ∙ other) in cc)
 
-    asked_above : (s : Standing) → KeptIs B s → (n : ℕ) → exit (events_of t) s.me ≡ Some (Sealed n) → (q : BranchId) → s.parent ≡ Some q → was_asked (said_in f) q s.me ≡ true
+    asked_above : (s : KeptRow) → KeptIs B s → (n : ℕ) → exit (events_of t) s.me ≡ Some (Sealed n) → (q : BranchId) → s.parent ≡ Some q → was_asked (said_in f) q s.me ≡ true
     asked_above s born n sealed q parent =
         let heard = left_were_asked t s_lawful s.me (Sealed n) sealed (λ no_drop. absurd cc) in
         let at : heard.0 ≡ born.born = same_born heard.0 born.born heard.1 born.began (heard.2 ∙ sym born.is_me) in
@@ -450,36 +407,25 @@ module _ (t : History) (s_lawful : IsLawfulRun t) (u : Turn) (k : NodeState) whe
     part : Part t s_lawful t.trace
     part = record { rest = []; is = append-nil t.trace }
 
-    -- two rows are not toward each other
-    not_each_other : (a b : BranchId) (o q : Option BranchId) → WayIs forest a o → WayIs forest b q → o ≡ Some b → q ≡ Some a → ⊥
-    not_each_other a b o q (inr site) way is that = (let none_at = site.0 in absurd (cc (none_at, is)))
-    not_each_other a b o q (inl on) (inr site) is that = (let none_at = site.0 in absurd (cc (none_at, that)))
-    not_each_other a b o q (inl on) (inl off) is that =
-        let up : Some (forest.toward a) ≡ Some b = sym on.0 ∙ is in let up_is : forest.toward a ≡ b = cc in
-        let down : Some (forest.toward b) ≡ Some a = sym off.0 ∙ that in let down_is : forest.toward b ≡ a = cc in
-        let near : forest.far b < forest.far a = subst (λ c. forest.far c < forest.far a) up_is ((runs_have_forests t s_lawful).nearer a on.1 on.2) in
-        let far : forest.far a < forest.far b = subst (λ c. forest.far c < forest.far b) down_is ((runs_have_forests t s_lawful).nearer b off.1 off.2) in
-        absurd (omega (arith, near, far))
-
-    pub sought_on : (s : Standing) → KeptIs B s → WayIs forest s.me s.toward → (n : ℕ) → exit (events_of t) s.me ≡ Some (Sealed n) → (e : BranchId) → s.toward ≡ Some e → (m.to ≡ s.me → m.from ≡ e → ⊥) → Sought f s e → Sought g s e
+    pub sought_on : (s : KeptRow) → KeptIs B s → RowFits forest s.me s.toward → (n : ℕ) → exit (events_of t) s.me ≡ Some (Sealed n) → (e : BranchId) → s.toward ≡ Some e → (m.to ≡ s.me → m.from ≡ e → ⊥) → Sought f s e → Sought g s e
     sought_on s born way n sealed e toward not_told (Asks fly) = Asks (flies_on is_ask s.me e refl refl fly)
     sought_on s born way n sealed e toward not_told (Points fly) = Points (flies_on is_point s.me e refl refl fly)
     sought_on s born way n sealed e toward not_told (Is_told fly) = elim (flown is_decision e s.me fly) [ inl on ↦ Is_told on | inr that ↦ absurd (not_told that.1 that.0) ]
     sought_on s born way n sealed e toward not_told (In_doubt r undecided) = by (names_after e s.me r)
       where
         by : NamesAfter e s.me r → Sought g s e
-        by (Still_names w same_row) = In_doubt w (ap (λ (x : Standing). x.decision) same_row ∙ undecided)
+        by (Still_names w same_row) = In_doubt w (ap (λ (x : KeptRow). x.decision) same_row ∙ undecided)
         by (Has_learnt x c row on why is to same_row) = tells (is_branch s.me x.toward) refl
           where
             near : is_neighbor x s.me ≡ true
-            near = ap (λ (z : Standing). is_neighbor z s.me) (sym same_row) ∙ r.names
+            near = ap (λ (z : KeptRow). is_neighbor z s.me) (sym same_row) ∙ r.names
 
-            its_way : WayIs forest x.me x.toward
-            its_way = all_found (λ (z : Standing). WayIs forest z.me z.toward) standing_id ks m.to x (rows_way t s_lawful t.trace part u.node k may.up) row
+            its_way : RowFits forest x.me x.toward
+            its_way = all_found (λ (z : KeptRow). RowFits forest z.me z.toward) kept_row_id ks m.to x (rows_fit t s_lawful t.trace part u.node k may.up) row
 
             tells : (q : Bool) → is_branch s.me x.toward ≡ q → Sought g s e
             tells false off = Is_told (subst (λ b. Flies is_decision g b s.me) (sym to) (beyond_told is_decision refl refl x c row is s.me near off))
-            tells true back = absurd (not_each_other s.me x.me s.toward x.toward way its_way (toward ∙ ap Some (to ∙ sym (item_is standing_id ks m.to x row))) (branch_found s.me x.toward back))
+            tells true back = absurd (not_each_other t s_lawful s.me x.me s.toward x.toward way its_way (toward ∙ ap Some (to ∙ sym (item_is kept_row_id ks m.to x row))) (branch_found s.me x.toward back))
     sought_on s born way n sealed e toward not_told (Under_live l parent) = elim (lives_on e l) [
       | inl on ↦ Under_live on parent
       | inr gone ↦ Is_told (subst (λ b. Flies is_decision g b s.me) (sym gone.2)
@@ -488,23 +434,23 @@ module _ (t : History) (s_lawful : IsLawfulRun t) (u : Turn) (k : NodeState) whe
 
     -- ---- all of them
 
-    abbrev RowSo : Facts → Standing → Type 0
+    abbrev RowSo : Facts → KeptRow → Type 0
     RowSo x s = s.decision ≡ None → (e : BranchId) → s.toward ≡ Some e → Sought x s e
 
     abbrev LiveSo : Facts → Live → Type 0
     LiveSo x l = (q : BranchId) → l.parent ≡ Some q → Watched x l.me q
 
-    abbrev RowHere : Standing → Type 0
-    RowHere s = ((RowIs (events_of t) s × KeptIs B s) × WayIs forest s.me s.toward) × RowSo f s
+    abbrev RowHere : KeptRow → Type 0
+    RowHere s = ((RowIs (events_of t) s × KeptIs B s) × RowFits forest s.me s.toward) × RowSo f s
 
-    row_on : (s : Standing) → RowHere s → NotTold s → RowSo g s
+    row_on : (s : KeptRow) → RowHere s → NotTold s → RowSo g s
     row_on s so not_told undecided e toward =
         sought_on s so.0.0.1 so.0.1 s.scn (subst (IsKnown (events_of t) s) undecided so.0.0.0.known).0 e toward (λ at from. not_told e undecided toward at from) (so.1 undecided e toward)
 
     rows_now : (n : ℕ) (i : NodeState) → node_at f n ≡ Some i → AllByRecursion (RowSo f) i.stored.durable.kept → AllByRecursion RowHere i.stored.durable.kept
     rows_now n i up all =
         all_both _ _ i.stored.durable.kept
-        (all_both _ _ i.stored.durable.kept (all_both _ _ i.stored.durable.kept (nodes_are_as_events t s_lawful n i up).1 (nodes_name_the_born t s_lawful n i up).1) (rows_way t s_lawful t.trace part n i up)) all
+        (all_both _ _ i.stored.durable.kept (all_both _ _ i.stored.durable.kept (nodes_are_as_events t s_lawful n i up).1 (nodes_name_the_born t s_lawful n i up).1) (rows_fit t s_lawful t.trace part n i up)) all
 
     abbrev LiveHere : Live → Type 0
     LiveHere l = ((exit (events_of t) l.me ≡ None) × (item_at live_id k.lives l.me ≡ Some l)) × LiveSo f l
@@ -515,14 +461,14 @@ module _ (t : History) (s_lawful : IsLawfulRun t) (u : Turn) (k : NodeState) whe
     at_here : (l : Live) → item_at live_id k.lives l.me ≡ Some l → m.to ≡ l.me → live_at k m.to ≡ Some l
     at_here l found at = subst (λ b. live_at k b ≡ Some l) (sym at) found
 
-    lives_after : (x : Deed) → Result x → AllByRecursion LiveHere k.lives → AllByRecursion (LiveSo g) x.after.lives
+    lives_after : (x : TurnDraft) → Result x → AllByRecursion LiveHere k.lives → AllByRecursion (LiveSo g) x.after.lives
     lives_after x (Rests none_row none_live is) all =
-        subst (λ (z : Deed). AllByRecursion (LiveSo g) z.after.lives) (sym is)
+        subst (λ (z : TurnDraft). AllByRecursion (LiveSo g) z.after.lives) (sym is)
         (all_weaker LiveHere (LiveSo g) (λ l so. live_on l so (λ at q parent from. none_live l (at_here l so.0.1 at) (parent ∙ ap Some (sym from)))) k.lives all)
     lives_after x (Learnt s c row toward why is) all =
-        subst (λ (z : Deed). AllByRecursion (LiveSo g) z.after.lives) (sym is) (all_weaker LiveHere (LiveSo g) (λ l so. live_on l so (λ at q parent from. not_both s l row (at_here l so.0.1 at))) k.lives all)
+        subst (λ (z : TurnDraft). AllByRecursion (LiveSo g) z.after.lives) (sym is) (all_weaker LiveHere (LiveSo g) (λ l so. live_on l so (λ at q parent from. not_both s l row (at_here l so.0.1 at))) k.lives all)
     lives_after x (Dropped c live is) all =
-        subst (λ (z : Deed). AllByRecursion (LiveSo g) z.after.lives) (sym is)
+        subst (λ (z : TurnDraft). AllByRecursion (LiveSo g) z.after.lives) (sym is)
         (all_filter LiveHere (LiveSo g) (λ l. not (same l.me c.me)) (λ l stays so. live_on l so (λ at q parent from.
         (let that : same l.me c.me ≡ true = same_from_equal l.me c.me (sym at ∙ sym (item_is live_id k.lives m.to c live)) in let no_that : same l.me c.me ≡ false = not-true (same l.me c.me) stays in absurd (cc (that, no_that))))) k.lives all)
 

@@ -1,5 +1,5 @@
 -- What each row of a node tells, in every lawful run.
-use Rattle.std.proofs.Common.{◌≡◌, ℕ, ◌⊎◌, ◌||◌, not, Bool, true, false, if◌then◌else◌, List, [], ◌∷◌, ◌++◌, map, filter, Option, Some, None, inl, inr, refl, sym, ap, subst, ◌∙◌}
+use Rattle.std.proofs.Common.{◌≡◌, ℕ, ◌⊎◌, ◌||◌, not, Bool, true, false, if◌then◌else◌, List, [], ◌∷◌, ◌++◌, map, filter, Option, Some, None, inl, inr, refl, ap, subst, ◌∙◌}
 use Rattle.std.specs.List.{AllByRecursion, list_any}
 use Rattle.tran_ids.proofs.BranchLemmas.{equal_from_same}
 use Rattle.commit_forget.specs.declared.next.Beyond.{Beyond}
@@ -7,7 +7,7 @@ use Rattle.commit_forget.specs.Beyond.{beyond, parent_beyond, kid_beyond, all_ac
 use Rattle.commit_forget.specs.Next.{knows_commit}
 use Rattle.session_tree.specs.Live.{is_branch}
 use Rattle.agreement.specs.Events.{Event, exit}
-use Rattle.node_rules.specs.Data.{BranchId, Kid, Live, Standing}
+use Rattle.node_rules.specs.Data.{BranchId, Kid, Live, KeptRow}
 use Rattle.node_rules.specs.Words.{same}
 use Rattle.node_rules.specs.NodeState.{NodeState, live_at, live_id}
 use Rattle.node_rules.proofs.StepLemmas.{branch_found}
@@ -25,7 +25,7 @@ use Rattle.settle_laws.specs.RowLaws.{RowHolds, RowsHold, NamesSo, NamedOffAreSe
 use Rattle.settle_laws.proofs.HoldLemmas.{Holds}
 use Rattle.settle_laws.proofs.HoldRunLemmas.{run_holds}
 
-one_holds : (t : List Event) (s : Standing) → Holds t s → RowIs t s → RowHolds t s
+one_holds : (t : List Event) (s : KeptRow) → Holds t s → RowIs t s → RowHolds t s
 one_holds t s so row = record {
   unheard = so.0.unheard;
   plain = so.0.whole;
@@ -59,7 +59,7 @@ module _ (P : BranchId → Type 0) (z : BranchId) where
   second_part [] ys all = all
   second_part (x ∷ xs) ys all = second_part xs ys all.1
 
-  parent_off : (s : Standing) (o : Option BranchId) → is_branch z s.toward ≡ false → is_branch z o ≡ true → AllByRecursion Of (parent_beyond s o) → P z
+  parent_off : (s : KeptRow) (o : Option BranchId) → is_branch z s.toward ≡ false → is_branch z o ≡ true → AllByRecursion Of (parent_beyond s o) → P z
   parent_off s None off is all = absurd cc
   parent_off s (Some b) off is all =
       let it : b ≡ z = equal_from_same b z is in
@@ -78,7 +78,7 @@ module _ (P : BranchId → Type 0) (z : BranchId) where
       by false other any false far each rest = rest any each.1
       by false other any true on each rest = rest any each
 
-  pub neighbor_off : (s : Standing) → is_branch z s.toward ≡ false → is_neighbor s z ≡ true → AllByRecursion Of (beyond s) → P z
+  pub neighbor_off : (s : KeptRow) → is_branch z s.toward ≡ false → is_neighbor s z ≡ true → AllByRecursion Of (beyond s) → P z
   unfolding beyond
   neighbor_off s off is all = by (is_branch z s.parent) refl is
     where
@@ -86,7 +86,7 @@ module _ (P : BranchId → Type 0) (z : BranchId) where
       by true up any = parent_off s s.parent off up (first_part (parent_beyond s s.parent) _ all)
       by false down any = kid_off s.toward s.children off any (second_part (parent_beyond s s.parent) _ all)
 
-pub names_so : (t : List Event) (s : Standing) → AllByRecursion (λ y. IsSealed t y.branch) (beyond s) → NamesSo t s
+pub names_so : (t : List Event) (s : KeptRow) → AllByRecursion (λ y. IsSealed t y.branch) (beyond s) → NamesSo t s
 names_so t s all z is = by (is_branch z s.toward) refl
   where
     by : (q : Bool) → is_branch z s.toward ≡ q → IsSealed t z ⊎ (s.toward ≡ Some z)
@@ -104,7 +104,7 @@ live_unleft t whole m j up z l is =
 pub named_live_are_toward : NamedLiveAreToward
 named_live_are_toward t whole n k up m j there z l is = all_weaker _ _ (λ x so. by x so) k.stored.durable.kept (named_off_are_sealed t whole n k up)
   where
-    by : (x : Standing) → NamesSo (events_of t) x → is_neighbor x z ≡ true → x.toward ≡ Some z
+    by : (x : KeptRow) → NamesSo (events_of t) x → is_neighbor x z ≡ true → x.toward ≡ Some z
     by x so named = elim (so z named) [
       | inl sealed ↦ (let none = live_unleft t whole m j there z l is in let left = sealed.1 in absurd (cc (none, left)))
       | inr on ↦ on

@@ -1,5 +1,5 @@
 -- Through a calm stretch: where each delivery keeps what is so, it is so at its end of all nodes that recovered in it.
-use Rattle.std.proofs.Common.{◌≡◌, ℕ, ◌⊎◌, List, [], ◌∷◌, ◌++◌, inl, inr, refl, sym, ap, subst, ◌∙◌, append-nil}
+use Rattle.std.proofs.Common.{◌≡◌, ℕ, ◌⊎◌, List, [], ◌∷◌, ◌++◌, inl, inr, refl, sym, subst, ◌∙◌, append-nil}
 use Rattle.std.proofs.lemmas.List.{append_assoc}
 use Rattle.node_rules.specs.Data.{Msg}
 use Rattle.node_rules.specs.Data.inputs
@@ -11,7 +11,7 @@ use Rattle.run_rules.specs.Lawful.{MayTurn, MayHappen, History, IsLawfulRun, fac
 use Rattle.run_base_laws.specs.NodeLaws.{EachFactFrom}
 use Rattle.run_base_laws.proofs.EventsStandLemmas.{run_stands}
 use Rattle.tree_laws.proofs.PrefixLemmas.{so_far, f_at, one_on}
-use Rattle.tree_site_laws.proofs.TimeLemmas.{Part, part_of, part_lawful, may_of}
+use Rattle.tree_laws.proofs.TimeLemmas.{part_of, part_lawful, may_of}
 use Rattle.settle_laws.specs.Interval.{IsCalm, By_reco, By_message, CalmHere, CalmStretch, Recovered, Obliged}
 use Rattle.settle_laws.proofs.RecoTurnLemmas.{first_obliged, reco_obliged}
 

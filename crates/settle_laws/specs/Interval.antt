@@ -5,10 +5,10 @@ use Rattle.std.specs.Prelude.{◌≡◌, ◌≢◌, ℕ, ◌⊎◌, Bool, true, 
 use Rattle.std.specs.List.{AllByRecursion}
 use Rattle.commit_forget.specs.Beyond.{is_neighbor}
 use Rattle.net_bag.specs.Net.{lost_at_once}
-use Rattle.node_rules.specs.Data.{BranchId, Kind, Live, Msg, Place, Standing}
+use Rattle.node_rules.specs.Data.{BranchId, Kind, Live, Msg, Place, KeptRow}
 use Rattle.node_rules.specs.Data.inputs
 use Rattle.node_rules.specs.Data.kinds
-use Rattle.node_rules.specs.NodeState.{NodeState, live_at, standing_at}
+use Rattle.node_rules.specs.NodeState.{NodeState, live_at, kept_row_at}
 use Rattle.run_rules.specs.Data.{Command, Happening, Packet, Took, Turn}
 use Rattle.run_rules.specs.Data.happenings
 use Rattle.run_rules.specs.Facts.{Facts, first_facts, facts_of, node_at, taken}
@@ -76,13 +76,13 @@ pub record LivesAt (f : Facts) (b : BranchId) : Type 0 where
 pub record RowNames (f : Facts) (b z : BranchId) : Type 0 where
   pub node : NodeState
   pub up : node_at f b.node ≡ Some node
-  pub row : Standing
-  pub found : standing_at node b ≡ Some row
+  pub row : KeptRow
+  pub found : kept_row_at node b ≡ Some row
   pub names : is_neighbor row z ≡ true
 
 -- An undecided row y, with e toward: its question or its CommitPoint flies there, or a decision flies back; or e is undecided
 -- too, and names y; or e is live, and the parent of y.
-pub data Sought (f : Facts) (y : Standing) (e : BranchId) : Type 0 where
+pub data Sought (f : Facts) (y : KeptRow) (e : BranchId) : Type 0 where
   Asks : Flies is_ask f y.me e → Sought f y e
   Points : Flies is_point f y.me e → Sought f y e
   Is_told : Flies is_decision f e y.me → Sought f y e

@@ -7,7 +7,7 @@ ghost use Rattle.sql_eval.specs.Rows.{get as get_of};
 ghost use Rattle.sql_eval.specs.Meaning.{inserting as inserting_of, insertion as insertion_of};
 
 use crate::rows::get;
-use crate::{KeyedRef, Meant, Outcome};
+use crate::{KeyedRef, Meant, StmtMeaning};
 use dtx_values::{Cells, Change, Done, Duplicate, Listing, Row, Table, Value};
 use sql_check::{copy_or_null, key_of_row, of_name};
 use std::alloc::{AllocError, Global};
@@ -53,13 +53,13 @@ pub fn inserted(
     table: &Table,
     cells: Cells,
     rows: &[KeyedRef],
-) -> Result<Outcome, AllocError>
+) -> Result<StmtMeaning, AllocError>
     ensures keys { IfOk result (λ outcome. outcome.keys ≡ one (key_of_row_in table.now cells)) }
     ensures meant { IfOk result (λ outcome. outcome.meant ≡ inserting_of table.now cells (get_of rows.now (key_of_row_in table.now cells))) }
 {
     let key = copy_or_null(alloc, key_of_row(table, cells.as_slice()))?;
     let meant = inserting(alloc, table, &key, cells, get(rows, &key))?;
-    Ok(Outcome {
+    Ok(StmtMeaning {
         keys: Listing::of(vec![in alloc; key]?),
         meant,
     })

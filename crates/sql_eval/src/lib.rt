@@ -23,4 +23,4 @@ mod update;
 pub use keyed::{Keyed, KeyedRef};
 pub use keys::{examined, fixed_key};
 pub use meaning::outcome_over;
-pub use meant::{Meant, Outcome};
+pub use meant::{Meant, StmtMeaning};

@@ -12,7 +12,7 @@ use crate::query::picked;
 use crate::rows::keys_of;
 use crate::sql_err::SqlErr;
 use crate::update::{deleted, updated};
-use crate::{KeyedRef, Meant, Outcome};
+use crate::{KeyedRef, Meant, StmtMeaning};
 use dtx_values::{Cells, Changes, Done, INVALID_SQL, Listing, Table, Value};
 use sql_check::plain;
 use sql_statement::{Set, Stmt};
@@ -71,16 +71,16 @@ fn over_found(
     statement: &Stmt,
     table: &Table,
     found: &[KeyedRef],
-) -> Result<Outcome, AllocError>
+) -> Result<StmtMeaning, AllocError>
     ensures keys { IfOk result (λ outcome. outcome.keys ≡ written_found_of statement.now found.now) }
     ensures meant { IfOk result (λ outcome. outcome.meant ≡ meant_found_of statement.now table.now found.now) }
 {
     match statement {
-        Stmt::Update { sets, .. } => Ok(Outcome {
+        Stmt::Update { sets, .. } => Ok(StmtMeaning {
             keys: written_keys(alloc, true, found)?,
             meant: update_over(alloc, table, sets.as_slice(), found)?,
         }),
-        Stmt::Delete { .. } => Ok(Outcome {
+        Stmt::Delete { .. } => Ok(StmtMeaning {
             keys: written_keys(alloc, true, found)?,
             meant: delete_over(alloc, table, found)?,
         }),
@@ -88,11 +88,11 @@ fn over_found(
             list,
             for_update,
             ..
-        } => Ok(Outcome {
+        } => Ok(StmtMeaning {
             keys: written_keys(alloc, *for_update, found)?,
             meant: picked(alloc, list, table, found)?,
         }),
-        _ => Ok(Outcome {
+        _ => Ok(StmtMeaning {
             keys: Listing::new(alloc),
             meant: Meant::Refused(plain(alloc, INVALID_SQL)),
         }),
@@ -110,7 +110,7 @@ pub fn outcome_over(
     table: &Table,
     cells: Cells,
     rows: Vec<KeyedRef>,
-) -> Result<Outcome, AllocError>
+) -> Result<StmtMeaning, AllocError>
     requires { cells ≡ new_cells statement.now table.now }
     ensures keys { IfOk result (λ outcome. outcome.keys ≡ written_of statement.now table.now rows.entry.items) }
     ensures meant { IfOk result (λ outcome. outcome.meant ≡ meant_over_of statement.now table.now rows.entry.items) }

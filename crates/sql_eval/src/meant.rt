@@ -22,7 +22,7 @@ pub enum Meant {
 
 /// What a statement comes to over the rows of its table.
 #[derive(Drop)]
-pub struct Outcome {
+pub struct StmtMeaning {
     /// The keys that it writes.
     pub keys: Listing<Value>,
     /// What it means.

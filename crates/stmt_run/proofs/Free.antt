@@ -19,8 +19,8 @@ use Rattle.sql_eval.specs.Meaning.{examined, written, meant_over}
 use Rattle.sql_eval.specs.Laws.{HasOneKey, AreKeyed}
 use Rattle.row_locks.specs.Locks.{Lock, another, holder_of, taken, keys_held}
 use Rattle.row_locks.specs.Held.{in_doubt_one, live_one, doubt_on, hold_on}
-use Rattle.stmt_run.specs.declared.ran.Ran.{Ran}
-use Rattle.stmt_run.specs.Run.{Ground, held_refusal, in_doubt_refusal, locked_refusal, space_refusal, ran_within, ran_meant, ran_locked, ran_checked, ran_over}
+use Rattle.stmt_run.specs.declared.ran.StmtOutcome.{StmtOutcome}
+use Rattle.stmt_run.specs.Run.{StmtContext, held_refusal, in_doubt_refusal, locked_refusal, space_refusal, ran_within, ran_meant, ran_locked, ran_checked, ran_over}
 use Rattle.stmt_run.specs.Keys.{IsFree, LocksFreeKeys}
 use Rattle.stmt_run.proofs.Examined.{written_examined}
 
@@ -62,18 +62,18 @@ module _ (ls : List Lock) (me : BranchId) (table : List ℕ) where
 
 -- ---- a run locks free keys
 
-module _ (g : Ground) (t : Table) where
+module _ (g : StmtContext) (t : Table) where
   abbrev AreFree : List Value → Type 0
   AreFree keys = All (IsFree g.locks g.me t.name) keys
 
-  abbrev IsSafe : Ran → Type 0
+  abbrev IsSafe : StmtOutcome → Type 0
   IsSafe r = LocksFreeKeys g.locks g.me t r
 
-  within_free : (o : Option Refusal) (d : Done) (cs : List Change) (keys : List Value) (r : Ran) → AreFree keys → ran_within g o d cs keys ≡ r → IsSafe r
+  within_free : (o : Option Refusal) (d : Done) (cs : List Change) (keys : List Value) (r : StmtOutcome) → AreFree keys → ran_within g o d cs keys ≡ r → IsSafe r
   within_free (Some x) d cs keys r free e = subst IsSafe e tt
   within_free None d cs keys r free e = subst IsSafe e free
 
-  meant_free : (keys : List Value) (m : Meant) (r : Ran) → AreFree keys → ran_meant g keys m ≡ r → IsSafe r
+  meant_free : (keys : List Value) (m : Meant) (r : StmtOutcome) → AreFree keys → ran_meant g keys m ≡ r → IsSafe r
   meant_free keys (meants.Refused x) r free e = subst IsSafe e tt
   meant_free keys (meants.Gives rows) r free e = subst IsSafe e free
   meant_free keys (meants.Changes d n cs) r free e = within_free (space_refusal g cs) d cs keys r free e
@@ -89,17 +89,17 @@ module _ (g : Ground) (t : Table) where
         free_each g.locks g.me t.name (written s t g.view)
         (written_examined (λ (key : Value). doubt_on g.locks t.name key ≡ None) s t g.view (keys_held g.locks t.name) one keyed doubt) live
 
-    locked_free : (o : Option Refusal) (r : Ran)
+    locked_free : (o : Option Refusal) (r : StmtOutcome)
         → else_refuse (in_doubt_refusal g t (examined s t g.view (keys_held g.locks t.name))) (locked_refusal g t (written s t g.view)) ≡ o
         → ran_locked g s t o ≡ r → IsSafe r
     locked_free (Some x) r is e = subst IsSafe e tt
     locked_free None r is e =
         meant_free (written s t g.view) (meant_over s t g.view) r (All-from_recursion (IsFree g.locks g.me t.name) (written s t g.view) (written_free is)) e
 
-    checked_free : (o : Option Refusal) (r : Ran) → ran_checked g s t o ≡ r → IsSafe r
+    checked_free : (o : Option Refusal) (r : StmtOutcome) → ran_checked g s t o ≡ r → IsSafe r
     checked_free (Some x) r e = subst IsSafe e tt
     checked_free None r e = locked_free _ r refl e
 
-    pub run_locks_free : (r : Ran) → ran_over g s t ≡ r → IsSafe r
+    pub run_locks_free : (r : StmtOutcome) → ran_over g s t ≡ r → IsSafe r
     unfolding ran_over
     run_locks_free r e = checked_free (checked s t) r e

@@ -16,12 +16,12 @@ use Rattle.row_store.specs.declared.store_err.StoreErr.TheVariants.{Full, TooLar
 use Rattle.row_store.specs.Own.{changes_length}
 use Rattle.row_store.specs.Pending.{undo_of, set_over}
 use Rattle.row_store.specs.Store.{Contents, sets_at, with_set, with_pending, own_changes, seen_by, extents_free, refusal_of}
-use Rattle.stmt_run.specs.declared.ran.Ran.{Ran}
-use Rattle.stmt_run.specs.declared.ran.Ran.TheVariants.{Writes}
-use Rattle.stmt_run.specs.Run.{Ground, space_refusal}
+use Rattle.stmt_run.specs.declared.ran.StmtOutcome.{StmtOutcome}
+use Rattle.stmt_run.specs.declared.ran.StmtOutcome.TheVariants.{Writes}
+use Rattle.stmt_run.specs.Run.{StmtContext, space_refusal}
 
 -- what a statement of a branch meets at a table of a store
-abbrev pub ground_in : Contents → List Lock → BranchId → Table → Ground
+abbrev pub ground_in : Contents → List Lock → BranchId → Table → StmtContext
 ground_in s locks b t = record {
   me = b;
   view = seen_by s b t.name;
@@ -32,12 +32,12 @@ ground_in s locks b t = record {
 }
 
 -- what live branches have changed after a run: an accepted change of rows is one more set
-abbrev pub owns_after : List Owned → BranchId → List Keyed → Ran → List Owned
+abbrev pub owns_after : List Owned → BranchId → List Keyed → StmtOutcome → List Owned
 owns_after owns b view (Writes d cs keys undo) = with_set owns b (set_over view cs)
 owns_after owns b view _ = owns
 
 -- the store after a run
-abbrev pub store_after_run : Contents → BranchId → Table → Ran → Contents
+abbrev pub store_after_run : Contents → BranchId → Table → StmtOutcome → Contents
 store_after_run s b t r = record s { owns = owns_after s.owns b (seen_by s b t.name) r }
 
 -- what is answered where a store refuses changes

@@ -13,4 +13,4 @@ pub mod laws;
 mod ran;
 pub mod refusal;
 
-pub use ran::Ran;
+pub use ran::StmtOutcome;

@@ -5,7 +5,7 @@ use row_locks::Keys;
 
 /// What a statement does at the node of its table.
 #[derive(Drop)]
-pub enum Ran {
+pub enum StmtOutcome {
     /// It is refused: nothing is changed and nothing is locked.
     Refuses(Refusal),
     /// It gives rows, and locks keys where it is FOR UPDATE.

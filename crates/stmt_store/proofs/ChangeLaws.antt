@@ -25,7 +25,7 @@ use Rattle.row_store.specs.declared.store_err.StoreErr.TheVariants.{Full, TooLar
 use Rattle.row_store.specs.Own.{changes_length}
 use Rattle.row_store.specs.Store.{Contents, AreOfTables, bytes_with, extents_needed, extents_free, has_table, own_changes, refusal_of, seen_by}
 use Rattle.row_store.specs.Tables.{TableRows}
-use Rattle.stmt_run.specs.declared.ran.Ran.{Ran}
+use Rattle.stmt_run.specs.declared.ran.StmtOutcome.{StmtOutcome}
 use Rattle.stmt_run.specs.Run.{ran_over, ran_within}
 use Rattle.stmt_run.specs.Keys.{LocksFreeKeys}
 use Rattle.stmt_run.specs.Stored.{AreOfOneTable, ground_in, refusal_told, store_after_run}

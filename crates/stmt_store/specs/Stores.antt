@@ -11,13 +11,13 @@ use Rattle.sql_eval.specs.declared.meant.Meant.{Meant}
 use Rattle.sql_eval.specs.declared.meant.Meant.TheVariants as meants
 use Rattle.sql_eval.specs.Laws.{AreChangesOf}
 use Rattle.row_store.specs.Store.{Contents, seen_by, with_pending}
-use Rattle.stmt_run.specs.declared.ran.Ran.{Ran}
-use Rattle.stmt_run.specs.Run.{Ground, ran_within, space_refusal}
+use Rattle.stmt_run.specs.declared.ran.StmtOutcome.{StmtOutcome}
+use Rattle.stmt_run.specs.Run.{StmtContext, ran_within, space_refusal}
 use Rattle.stmt_run.specs.Stored.{ground_in}
 use Rattle.stmt_store.specs.declared.site.StoreSite.{StoreSite}
 
 -- what a statement meets at a table of a store
-abbrev pub ground_of : StoreSite → Ground
+abbrev pub ground_of : StoreSite → StmtContext
 ground_of site = ground_in site.store.now site.locks.now site.me.now site.table.now
 
 -- the rows that it sees there
@@ -35,5 +35,5 @@ kept_unless None s b cs = with_pending s b cs
 kept_unless (Some r) s b cs = s
 
 -- what changes come to: they are kept, or refused for want of space
-abbrev pub ran_changing : Ground → Done → List Change → List Value → Ran
+abbrev pub ran_changing : StmtContext → Done → List Change → List Value → StmtOutcome
 ran_changing g d cs keys = ran_within g (space_refusal g cs) d cs keys

@@ -18,7 +18,7 @@ use crate::sight::Sight;
 use crate::site::StoreSite;
 use dtx_values::{Cells, Listing, Refusal, Value};
 use sql_check::{Checked, checked};
-use sql_eval::{Meant, Outcome, fixed_key, outcome_over};
+use sql_eval::{Meant, StmtMeaning, fixed_key, outcome_over};
 use sql_statement::Stmt;
 use std::alloc::{AllocError, Global};
 use stmt_run::holders::first_holder;
@@ -32,7 +32,7 @@ pub(crate) fn outcome_at(
     alloc: Global,
     statement: &Stmt,
     site: &StoreSite,
-) -> Result<Outcome, AllocError>
+) -> Result<StmtMeaning, AllocError>
     requires one_key { has_one_key site.now.table.now ≡ true }
     requires rows { AreRowsOf site.now.table.now (view_of site.now) }
     ensures ran { IfOk result (λ outcome.
@@ -59,10 +59,10 @@ pub(crate) fn outcome_at(
 }
 
 // A refusal: nothing is written.
-fn refused(alloc: Global, refusal: Refusal) -> Outcome
+fn refused(alloc: Global, refusal: Refusal) -> StmtMeaning
     ensures { result ≡ record { keys = []; meant = meants.Refused refusal } }
 {
-    Outcome {
+    StmtMeaning {
         keys: Listing::new(alloc),
         meant: Meant::Refused(refusal),
     }
@@ -75,7 +75,7 @@ fn outcome_seeing(
     site: &StoreSite,
     cells: Cells,
     sight: Sight,
-) -> Result<Outcome, AllocError>
+) -> Result<StmtMeaning, AllocError>
     requires one_key { has_one_key site.now.table.now ≡ true }
     requires rows { AreRowsOf site.now.table.now (view_of site.now) }
     requires passed { checked_of statement.now site.now.table.now ≡ None }

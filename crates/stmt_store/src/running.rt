@@ -14,7 +14,7 @@ use crate::site::StoreSite;
 use dtx_values::{Answer, Table};
 use row_locks::Locks;
 use row_store::Store;
-use sql_eval::{Meant, Outcome};
+use sql_eval::{Meant, StmtMeaning};
 use sql_statement::Stmt;
 use std::alloc::{AllocError, Global};
 use stmt_run::holders::take_all;
@@ -48,7 +48,7 @@ pub fn run(
     ensures err_store { OnErr result (store.new ≡ store.old) }
     ensures err_locks { OnErr result (locks.new ≡ locks.old) }
 {
-    let Outcome { keys, meant } = outcome_in(alloc, statement, table, store, locks, branch)?;
+    let StmtMeaning { keys, meant } = outcome_in(alloc, statement, table, store, locks, branch)?;
     match meant {
         Meant::Refused(refusal) => Ok(Answer::Refused(refusal)),
         Meant::Gives(rows) => {
@@ -71,7 +71,7 @@ fn outcome_in<'a>(
     store: &'a Store,
     locks: &'a Locks,
     me: &'a BranchId,
-) -> Result<Outcome, AllocError>
+) -> Result<StmtMeaning, AllocError>
     requires one_key { has_one_key table.now ≡ true }
     requires rows { AreRowsOf table.now (seen_by store.now me.now table.now.name) }
     ensures ran { IfOk result (λ outcome.

@@ -23,9 +23,9 @@ use Rattle.sql_eval.specs.Meaning.{examined, written, meant, meant_over, unless}
 use Rattle.sql_eval.proofs.MadeLemmas.{count_is_length}
 use Rattle.row_locks.specs.Locks.{Lock, is_lock_on, keys_held, named}
 use Rattle.row_locks.specs.Held.{in_doubt_one, doubt_on}
-use Rattle.stmt_run.specs.declared.ran.Ran.{Ran}
-use Rattle.stmt_run.specs.declared.ran.Ran.TheVariants.{Refuses, Reads, Writes}
-use Rattle.stmt_run.specs.Run.{Ground, held_refusal, in_doubt_refusal, locked_refusal, space_refusal, ran_within, ran_meant, ran_locked, ran_checked, ran_over}
+use Rattle.stmt_run.specs.declared.ran.StmtOutcome.{StmtOutcome}
+use Rattle.stmt_run.specs.declared.ran.StmtOutcome.TheVariants.{Refuses, Reads, Writes}
+use Rattle.stmt_run.specs.Run.{StmtContext, held_refusal, in_doubt_refusal, locked_refusal, space_refusal, ran_within, ran_meant, ran_locked, ran_checked, ran_over}
 use Rattle.stmt_view_laws.specs.Views.{AreCertain, AreLocked, SeesAlike}
 use Rattle.stmt_view_laws.specs.RunLaws.{ExaminesNoDoubt, IsRunOf, RunDoesAsMeant, RunsDoAsMeant, IsViewBeside, IsMeantOver, RunIsMeantOver, RunsMeanAlike}
 use Rattle.stmt_view_laws.proofs.MeantLemmas.{meant_alike, writes_alike, avoids_alike}
@@ -50,8 +50,8 @@ first_none None b none = refl
 
 -- ---- what a run does
 
-module _ (g : Ground) (s : Stmt) (t : Table) where
-  abbrev Says : Ran → Type 0
+module _ (g : StmtContext) (s : Stmt) (t : Table) where
+  abbrev Says : StmtOutcome → Type 0
   Says r = RunDoesAsMeant g s t r
 
   within_says : (o : Option Refusal) (d : Done) (n : ℕ) (cs : List Change) → checked s t ≡ None → ExaminesNoDoubt g s t → meant_over s t g.view ≡ Changes d n cs
@@ -133,7 +133,7 @@ module _ (ls : List Lock) (table : List ℕ) where
 
 -- ---- over the other view
 
-module _ (g : Ground) (s : Stmt) (t : Table) (doubtful : List Value) (more : List Keyed) (beside : IsViewBeside g t doubtful more) where
+module _ (g : StmtContext) (s : Stmt) (t : Table) (doubtful : List Value) (more : List Keyed) (beside : IsViewBeside g t doubtful more) where
   sees : ExaminesNoDoubt g s t → SeesAlike s t doubtful (keys_held g.locks t.name) g.view more
   sees certain = record {
     one_key = beside.one_key;
@@ -153,7 +153,7 @@ module _ (g : Ground) (s : Stmt) (t : Table) (doubtful : List Value) (more : Lis
         certain = λ locked. avoids_alike s t doubtful (keys_held g.locks t.name) locked g.view more alike;
       }
 
-  run_beside : (r : Ran) → RunDoesAsMeant g s t r → RunIsMeantOver s t doubtful more r
+  run_beside : (r : StmtOutcome) → RunDoesAsMeant g s t r → RunIsMeantOver s t doubtful more r
   run_beside (Refuses x) run = tt
   run_beside (Reads rows ks) run = meant_beside (Gives rows) ks run
   run_beside (Writes d cs ks undo) run = meant_beside (Changes d (length cs) cs) ks run

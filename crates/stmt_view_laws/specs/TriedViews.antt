@@ -21,8 +21,8 @@ use Rattle.sql_eval.specs.declared.meant.Meant.TheVariants.{Gives}
 use Rattle.sql_eval.specs.Rows.{apply}
 use Rattle.sql_eval.specs.Meaning.{examined, meant, row_set}
 use Rattle.row_locks.specs.Locks.{Lock, keys_held}
-use Rattle.stmt_run.specs.declared.ran.Ran.TheVariants.{Refuses, Reads}
-use Rattle.stmt_run.specs.Run.{Ground, ran_over}
+use Rattle.stmt_run.specs.declared.ran.StmtOutcome.TheVariants.{Refuses, Reads}
+use Rattle.stmt_run.specs.Run.{StmtContext, ran_over}
 use Rattle.stmt_view_laws.specs.Views.{SeesAlike}
 use Rattle.stmt_view_laws.specs.RunLaws.{IsViewBeside}
 
@@ -70,7 +70,7 @@ abbrev lock : Value → Lock
 lock key = record { table = codes "T"; key = key; branch = branch; writes = true; in_doubt = true }
 
 -- what a statement of another branch meets
-abbrev pub ground : Ground
+abbrev pub ground : StmtContext
 ground = record { me = record branch { session = 2 }; view = held_back; locks = lock (number 2) ∷ lock (number 3) ∷ []; bytes = 0; undo = 0; free = 0 }
 
 -- SELECT * FROM T WHERE K = n

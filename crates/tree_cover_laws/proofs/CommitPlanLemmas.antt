@@ -17,28 +17,21 @@ use Rattle.run_rules.specs.Tree.{plan}
 use Rattle.run_base_laws.proofs.LawfulLemmas.{turn_of_node}
 use Rattle.run_base_laws.proofs.RootLemmas.{roots_are_of_sessions}
 use Rattle.tree_laws.proofs.PrefixLemmas.{so_far, f_at}
-use Rattle.tree_site_laws.proofs.FindLemmas.{CommitAt, WasFound}
-use Rattle.tree_site_laws.proofs.TimeLemmas.{part_lawful, may_of}
+use Rattle.tree_laws.proofs.FindLemmas.{WasFound}
+use Rattle.tree_laws.proofs.TimeLemmas.{part_lawful, may_of}
 use Rattle.tree_trail_laws.proofs.CallLemmas.{call_free, seen_root}
 use Rattle.tree_trail_laws.proofs.FullLemmas.{Sees, SeesAll}
 use Rattle.tree_trail_laws.proofs.MomentLemmas.{tr_at, trail_join, trail_keeps, at_moment}
 use Rattle.tree_trail_laws.proofs.PlanLemmas.{plan_stays, plan_here}
 
 module _ (t : History) (whole : IsLawfulRun t) (sees : SeesAll t) (r : BranchId) (found : WasFound t whole r t.trace) where
-  abbrev hs0 : List Happening
-  hs0 = found.before
+  open found use {before as hs0, turn as v, commit as at}
 
   abbrev f0 : Facts
   f0 = f_at t hs0
 
   abbrev tr0 : Trail
   tr0 = tr_at t hs0
-
-  abbrev v : Turn
-  v = found.turn
-
-  abbrev at : CommitAt t whole r hs0 v
-  at = found.commit
 
   abbrev k : NodeState
   k = at.kept

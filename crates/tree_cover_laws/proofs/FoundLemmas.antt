@@ -21,10 +21,10 @@ use Rattle.run_branch_laws.proofs.FreezeRunLemmas.{asked_stand_still}
 use Rattle.tree_laws.proofs.ForestLemmas as trees
 use Rattle.tree_laws.proofs.PrefixLemmas.{so_far, f_at}
 use Rattle.tree_laws.proofs.SettleRunLemmas.{known}
-use Rattle.tree_site_laws.proofs.DecideLemmas.{IsTop}
-use Rattle.tree_site_laws.proofs.FateLemmas.{among_found}
-use Rattle.tree_site_laws.proofs.FindLemmas.{WasFound, commit_came}
-use Rattle.tree_site_laws.proofs.TimeLemmas.{Part, part_lawful, born_end}
+use Rattle.tree_laws.proofs.DecideLemmas.{IsTop}
+use Rattle.tree_laws.proofs.FateLemmas.{among_found}
+use Rattle.tree_laws.proofs.FindLemmas.{WasFound, commit_came}
+use Rattle.tree_laws.proofs.TimeLemmas.{Part, part_lawful, born_end}
 use Rattle.tree_cover_laws.proofs.RootPathLemmas.{same_commit}
 use Rattle.tree_cover_laws.proofs.SentLemmas.{SentThen, sent_then}
 

@@ -18,7 +18,7 @@ use Rattle.run_rules.specs.Branches as told
 use Rattle.run_rules.specs.Branches.{Seen, seen_at, own_of, children_at, is_among}
 use Rattle.run_rules.specs.Data.{Packet, Turn, Happening}
 use Rattle.run_rules.specs.Data.happenings
-use Rattle.run_rules.specs.Facts.{Facts, node_at}
+use Rattle.run_rules.specs.Facts.{node_at}
 use Rattle.run_base_laws.specs.InTurnLaws.{packet_post, said_in, exec_number, newest_exec, call_at, GoesOn, TakesInTurn}
 use Rattle.run_rules.specs.Lawful.{History, IsLawfulRun}
 use Rattle.run_base_laws.specs.RunEvents.{lives_at}
@@ -44,14 +44,14 @@ use Rattle.tree_laws.proofs.WeightRunLemmas.{replies_tell_weights}
 use Rattle.tree_cover_laws.specs.GoneLaws.{TellsWell, ToldWell, HasGone}
 use Rattle.tree_cover_laws.proofs.WellLemmas.{well_split, well_more, well_weight, well_low}
 use Rattle.tree_cover_laws.proofs.WellRunLemmas.{tells_live, run_well, branches_hold_well}
-use Rattle.tree_site_laws.specs.DecideLaws.{live_of, live_in, Is_root, SeesTree}
-use Rattle.tree_site_laws.proofs.CalledLemmas.{edges_were_called}
-use Rattle.tree_site_laws.proofs.FateLemmas.{among_found}
-use Rattle.tree_site_laws.proofs.MemberLemmas.{BornBelow, born_below}
-use Rattle.tree_site_laws.proofs.ShallowLemmas.{parents_are_shallow}
-use Rattle.tree_site_laws.proofs.StrengthLemmas.{lives_have_strength}
-use Rattle.tree_site_laws.proofs.TimeLemmas.{Part, part_lawful, part_on, part_of, may_of, born_end, keep_on}
-use Rattle.tree_site_laws.proofs.WeighLemmas.{placed_of}
+use Rattle.tree_laws.specs.DecideLaws.{live_of, live_in, Is_root, SeesTree}
+use Rattle.tree_laws.proofs.CalledLemmas.{edges_were_called}
+use Rattle.tree_laws.proofs.FateLemmas.{among_found}
+use Rattle.tree_laws.proofs.MemberLemmas.{BornBelow, born_below}
+use Rattle.tree_laws.proofs.ShallowLemmas.{parents_are_shallow}
+use Rattle.tree_laws.proofs.StrengthLemmas.{lives_have_strength}
+use Rattle.tree_laws.proofs.TimeLemmas.{Part, part_lawful, part_on, part_of, may_of, born_end, keep_on}
+use Rattle.tree_laws.proofs.WeighLemmas.{placed_of}
 use Rattle.tree_trail_laws.proofs.FullLemmas.{SeesAll, full}
 use Rattle.tree_trail_laws.proofs.MomentLemmas.{tr_at}
 use Rattle.tree_trail_laws.proofs.SeenRunLemmas.{all_is_seen}
@@ -60,6 +60,7 @@ use Rattle.answer_origin_laws.specs.ReplyLaws.{CallsAreTold}
 use Rattle.answer_origin_laws.proofs.ReplyRunLemmas.{lower_calls_are_told}
 use Rattle.tree_cover_laws.specs.ToldLaws.{ToldLast, AnswersTellWeights}
 use Rattle.tree_cover_laws.proofs.LeftTrailLemmas.{calls_none, ToldStill, told_still}
+use Rattle.tree_laws.proofs.AtTurn.{at_happening}
 
 pub map_all : (f : BranchId → Option ℕ) (es : List Edge) → AllByRecursion (λ e. f e.peer ≡ e.weight) es → map f (map (λ (e : Edge). e.peer) es) ≡ map (λ (e : Edge). e.weight) es
 map_all f [] all = refl
@@ -129,17 +130,10 @@ module _ (t : History) (whole : IsLawfulRun t) where
 
     module _ (hs : List Happening) (h : Happening) (rest : List Happening) (is : hs ++ h ∷ rest ≡ t.trace) (x : Branch) (k : NodeState) (up : node_at (f_at t hs) x.live.me.node ≡ Some k) (found : branch_at k x.live.me ≡ Some x) (p : BranchId)
         (below : BornBelow (births_of (so_far t hs)) x.live.me p) (v : Option ℕ) (it : ToldLast (said_in (f_at t hs)) p x.live.me v) where
-      abbrev s1 : History
-      s1 = so_far t hs
+      open at_happening t whole hs h rest is use {s as s1, part as part1, lawful as lawful1}
 
       abbrev me : BranchId
       me = x.live.me
-
-      part1 : Part t whole hs
-      part1 = part_of t whole hs h rest is
-
-      lawful1 : IsLawfulRun s1
-      lawful1 = part_lawful t whole hs part1
 
       placed1 : LiveIs (Began (births_of s1)) x.live
       placed1 = placed_of s1 lawful1 me.node k up x found
@@ -200,17 +194,7 @@ module _ (t : History) (whole : IsLawfulRun t) where
 
     module _ (hs : List Happening) (h : Happening) (rest : List Happening) (is : hs ++ h ∷ rest ≡ t.trace) (before : AllWere hs) (p c : BranchId) (below : BornBelow (births_of (so_far t (hs ++ h ∷ []))) c p) (v : Option ℕ)
         (it : ToldLast (said_in (f_at t (hs ++ h ∷ []))) p c v) (left : exit (e_at t (hs ++ h ∷ [])) c ≢ None) where
-      abbrev s0 : History
-      s0 = so_far t hs
-
-      abbrev f0 : Facts
-      f0 = f_at t hs
-
-      lawful0 : IsLawfulRun s0
-      lawful0 = part_lawful t whole hs (part_of t whole hs h rest is)
-
-      lawful_on : IsLawfulRun (so_far t (hs ++ h ∷ []))
-      lawful_on = part_lawful t whole (hs ++ h ∷ []) (part_on t whole hs h rest is)
+      open at_happening t whole hs h rest is use {s as s0, f as f0, lawful as lawful0, lawful_after as lawful_on}
 
       more : said_in (f_at t (hs ++ h ∷ [])) ≡ said_in f0 ++ posts_of h
       more = ap said_in (one_on t hs h) ∙ said_after t.places t.commands f0 h

@@ -10,8 +10,8 @@ use Rattle.node_rules.specs.Data.{Advice, Answer, BranchId, Kind, Live, Msg, Stm
 use Rattle.node_rules.specs.Data.inputs
 use Rattle.node_rules.specs.Data.kinds
 use Rattle.node_rules.specs.Inputs.{Came}
-use Rattle.node_rules.specs.NodeState.{Deed, live_id}
-use Rattle.node_rules.specs.Turn.{turn_of, deed_of, stamped}
+use Rattle.node_rules.specs.NodeState.{TurnDraft, live_id}
+use Rattle.node_rules.specs.Turn.{turn_of, draft_of, stamped}
 use Rattle.node_rules.specs.Words.{same, is_item_of, item_at}
 use Rattle.run_rules.specs.Branches.{Dropped, Run, Seen, Trail, seen_id, seen_at, root_at, is_root_of, is_live, is_live_at, is_among, with_once}
 use Rattle.run_rules.specs.Data.{Turn, Happening}
@@ -27,7 +27,7 @@ use Rattle.run_base_laws.proofs.OwnLemmas.{all_found}
 use Rattle.run_base_laws.proofs.SaidPostLemmas.{posts_of}
 use Rattle.run_base_laws.proofs.TurnEventLemmas.{cases_nat}
 use Rattle.tree_laws.proofs.PrefixLemmas.{so_far, f_at, e_at, one_on}
-use Rattle.tree_site_laws.proofs.TimeLemmas.{Part, part_lawful, part_on, part_of}
+use Rattle.tree_laws.proofs.TimeLemmas.{part_lawful, part_on, part_of}
 use Rattle.tree_trail_laws.proofs.CallLemmas.{call_free}
 use Rattle.tree_trail_laws.proofs.ChildRunLemmas.{tells_at}
 use Rattle.tree_trail_laws.proofs.ChildStepLemmas.{stamped_calls}
@@ -36,6 +36,7 @@ use Rattle.tree_trail_laws.proofs.MomentLemmas.{tr_at, trail_one_on}
 use Rattle.tree_trail_laws.proofs.OwnKnowLemmas.{own_other}
 use Rattle.tree_trail_laws.proofs.PlanLemmas.{find_more, find_passes}
 use Rattle.tree_trail_laws.proofs.SeenLemmas.{begun, brings, turned, seen_turned, item_mapped}
+use Rattle.tree_laws.proofs.AtTurn.{at_turn}
 
 -- ---- Execs
 
@@ -183,14 +184,10 @@ module _ (t : History) (whole : IsLawfulRun t) (hs : List Happening) (c : Branch
       by false = (refl, refl, refl, refl)
 
   module _ (u : Turn) (rest : List Happening) (is : hs ++ happenings.Turn u ∷ rest ≡ t.trace) (left : exit (e_at t (hs ++ happenings.Turn u ∷ [])) c ≢ None) where
-    abbrev h : Happening
-    h = happenings.Turn u
+    open at_turn t whole hs u rest is use {h, part}
 
-    abbrev part : Part t whole hs
-    part = part_of t whole hs h rest is
-
-    abbrev d : Deed
-    d = deed_of (place_at t.places u.node) (kids.may t whole hs u rest is (tells_at t whole hs part)).0 u.input
+    abbrev d : TurnDraft
+    d = draft_of (place_at t.places u.node) (kids.may t whole hs u rest is (tells_at t whole hs part)).0 u.input
 
     -- it is not live afterwards
     none_after : u.cut ≡ false → c.node ≡ u.node → (o : Option Live) → item_at live_id d.after.lives c ≡ o → o ≡ None

@@ -1,5 +1,5 @@
 pub mod WellLemmas
-pub mod WellDeedLemmas
+pub mod WellDraftLemmas
 pub mod WellStepLemmas
 pub mod WellRunLemmas
 pub mod LeftTrailLemmas

@@ -15,7 +15,7 @@ use Rattle.node_rules.specs.NodeState.{NodeState, Branch, live_id, live_at, work
 use Rattle.node_rules.proofs.StandLemmas.{live_so}
 use Rattle.run_rules.specs.Births.{Born, births_of}
 use Rattle.run_base_laws.specs.BirthLaws.{Began, KeptIs, LiveIs, RecordNames}
-use Rattle.run_rules.specs.Branches.{Trail, Planned, seen_at, plan_at}
+use Rattle.run_rules.specs.Branches.{Trail, PlannedBranch, seen_at, plan_at}
 use Rattle.run_rules.specs.Data.{Turn, Happening}
 use Rattle.run_rules.specs.Data.happenings
 use Rattle.run_rules.specs.Each.{AtEach}
@@ -42,10 +42,10 @@ use Rattle.tree_laws.proofs.ForestLemmas.{Known}
 use Rattle.tree_laws.proofs.PrefixLemmas.{so_far, f_at, e_at, one_on}
 use Rattle.tree_laws.proofs.RecordRunLemmas.{records_are_as_told}
 use Rattle.tree_laws.proofs.SettleRunLemmas.{known}
-use Rattle.tree_site_laws.specs.DecideLaws.{SeesTree}
-use Rattle.tree_site_laws.proofs.FindLemmas.{WasFound}
-use Rattle.tree_site_laws.proofs.TimeLemmas.{Part, part_lawful, part_on, may_of, fact_at, each_at, exit_end, born_end}
-use Rattle.tree_site_laws.proofs.WeighLemmas.{placed_of}
+use Rattle.tree_laws.specs.DecideLaws.{SeesTree}
+use Rattle.tree_laws.proofs.FindLemmas.{WasFound}
+use Rattle.tree_laws.proofs.TimeLemmas.{Part, part_lawful, part_on, may_of, fact_at, each_at, exit_end, born_end}
+use Rattle.tree_laws.proofs.WeighLemmas.{placed_of}
 use Rattle.tree_trail_laws.proofs.FullLemmas.{Sees, SeesAll, full}
 use Rattle.tree_trail_laws.proofs.MomentLemmas.{tr_at, trail_one_on, at_moment, by_moment}
 use Rattle.tree_trail_laws.proofs.RootLemmas.{last_so}
@@ -60,17 +60,14 @@ use Rattle.tree_cover_laws.proofs.OnWalkLemmas.{InPlan, in_plan, as_born, not_de
 use Rattle.tree_cover_laws.proofs.RootPathLemmas.{same_commit, root_path}
 use Rattle.tree_cover_laws.proofs.StepLemmas.{HasNext}
 use Rattle.tree_cover_laws.proofs.StayLemmas.{OnPath}
+use Rattle.tree_laws.proofs.AtTurn.{at_turn}
+use Rattle.tree_trail_laws.proofs.AtTrail.{at_trail}
 
 module _ (t : History) (whole : IsLawfulRun t) (sees : SeesAll t) (hs : List Happening) (u : Turn) (rest : List Happening) (is : hs ++ happenings.Turn u ∷ rest ≡ t.trace) (r : SealedRecord) (wrote : u.wrote ≡ Some (records.Sealed r)) where
-  abbrev h : Happening
-  h = happenings.Turn u
+  open at_turn t whole hs u rest is use {h, s, part_after as part1, bs}
 
   abbrev hs1 : List Happening
   hs1 = hs ++ h ∷ []
-
-  -- the run before the seal, and with it
-  abbrev s : History
-  s = so_far t hs
 
   abbrev part : Part t whole hs
   part = record { rest = h ∷ rest; is = is }
@@ -78,17 +75,11 @@ module _ (t : History) (whole : IsLawfulRun t) (sees : SeesAll t) (hs : List Hap
   lawful : IsLawfulRun s
   lawful = part_lawful t whole hs part
 
-  abbrev part1 : Part t whole hs1
-  part1 = part_on t whole hs h rest is
-
   abbrev s1 : History
   s1 = so_far t hs1
 
   lawful1 : IsLawfulRun s1
   lawful1 = part_lawful t whole hs1 part1
-
-  abbrev bs : List Born
-  bs = births_of s
 
   knows : Known bs (said_in (f_at t hs))
   knows = known s lawful
@@ -191,8 +182,8 @@ module _ (t : History) (whole : IsLawfulRun t) (sees : SeesAll t) (hs : List Hap
   -- ---- by the tree at the COMMIT
 
   module _ (found : WasFound s lawful r.root hs) where
-    abbrev hs0 : List Happening
-    hs0 = found.before
+    open found use {before as hs0}
+    open at_trail t hs u use {tr_on as tr1}
 
     abbrev v : Happening
     v = happenings.Turn found.turn
@@ -269,7 +260,7 @@ module _ (t : History) (whole : IsLawfulRun t) (sees : SeesAll t) (hs : List Hap
         let told = saw.lives b.live.me.node its.kept its.up b.live (live_so its.kept b.live.me b its.found) in
         subst (λ c. parent_of (seen_at tr0 c) ≡ z.parent) there.path.is_me (ap parent_of told.1 ∙ (told.2.told.parent ∙ (as_born s lawful hs0 part0 r.root next root top sees0 z it.began there.path).0))
 
-    abbrev x : Planned
+    abbrev x : PlannedBranch
     x = planned t.places tr0 (seen.walk t.places tr0 r.root) z.me
 
     listed : IsListed (plan t.places tr0 r.root).tree x
@@ -285,9 +276,6 @@ module _ (t : History) (whole : IsLawfulRun t) (sees : SeesAll t) (hs : List Hap
         let so : LeadsTo (said_in (f_at t hs)) z.me z.parent (Some q)
         = subst (λ c. LeadsTo (said_in (f_at t hs)) c z.parent (Some q)) (sym it.is_me) (subst (λ o. LeadsTo (said_in (f_at t hs)) r.me o (Some q)) (sym it.is_parent) leads.2) in
         ap (toward_by (seen.walk t.places tr0 r.root) z.me) parent_told ∙ toward_told s lawful hs0 part0 r.root next root top sees0 z it.began it.is_root it.asked kept_in q so
-
-    abbrev tr1 : Trail
-    tr1 = trail_after t.places (f_at t hs) (tr_at t hs) h
 
     planned_so : plan_at tr1 r.root ≡ Some (plan t.places tr0 r.root)
     planned_so =

@@ -8,7 +8,7 @@ use Rattle.session_tree.specs.Tree.{step}
 use Rattle.session_tree.specs.declared.act.Walk.{Walk}
 use Rattle.session_tree.specs.declared.act.Walk.TheVariants as walks
 use Rattle.agreement.specs.Events.{Dropped, exit}
-use Rattle.node_rules.specs.Data.{BranchId, Post}
+use Rattle.node_rules.specs.Data.{BranchId}
 use Rattle.node_rules.specs.Words.{same, numbered}
 use Rattle.run_rules.specs.Births.{Born, births_of}
 use Rattle.run_base_laws.specs.BirthLaws.{Began, LiveIs}
@@ -16,7 +16,7 @@ use Rattle.run_rules.specs.Branches.{Trail, is_among, children_at}
 use Rattle.run_rules.specs.Data.{Happening}
 use Rattle.run_base_laws.specs.FreezeLaws.{was_asked}
 use Rattle.run_base_laws.specs.InTurnLaws.{said_in}
-use Rattle.run_rules.specs.Lawful.{History, IsLawfulRun, facts_at}
+use Rattle.run_rules.specs.Lawful.{History, IsLawfulRun}
 use Rattle.run_rules.specs.Trail.{is_prepare}
 use Rattle.run_rules.specs.Tree as seen
 use Rattle.run_rules.specs.Tree.{walk_in}
@@ -28,11 +28,11 @@ use Rattle.tree_laws.proofs.ForestLemmas as trees
 use Rattle.tree_laws.proofs.ForestLemmas.{Known, told_sent}
 use Rattle.tree_laws.proofs.PrefixLemmas.{so_far, f_at, e_at}
 use Rattle.tree_laws.proofs.SettleRunLemmas.{known}
-use Rattle.tree_site_laws.specs.DecideLaws.{SeesTree}
-use Rattle.tree_site_laws.proofs.DecideLemmas.{IsTop}
-use Rattle.tree_site_laws.proofs.FrozenLemmas.{PointsTo}
-use Rattle.tree_site_laws.proofs.MemberLemmas.{BornBelow, IsIn}
-use Rattle.tree_site_laws.proofs.TimeLemmas.{Part, part_lawful, exit_end, born_end}
+use Rattle.tree_laws.specs.DecideLaws.{SeesTree}
+use Rattle.tree_laws.proofs.DecideLemmas.{IsTop}
+use Rattle.tree_laws.proofs.FrozenLemmas.{PointsTo}
+use Rattle.tree_laws.proofs.MemberLemmas.{BornBelow, IsIn}
+use Rattle.tree_laws.proofs.TimeLemmas.{Part, part_lawful, exit_end, born_end}
 use Rattle.tree_trail_laws.proofs.MomentLemmas.{tr_at}
 use Rattle.tree_cover_laws.proofs.AboveLemmas.{above_of, root_asked}
 use Rattle.tree_cover_laws.proofs.ChainLemmas.{Steps, Arrives, Goes, comes_steps, steps_deeper, sent_told}
@@ -40,18 +40,15 @@ use Rattle.tree_cover_laws.proofs.ListedLemmas.{Reach, Itself, reach_kid}
 use Rattle.tree_cover_laws.proofs.SentLemmas.{sent_then}
 use Rattle.tree_cover_laws.proofs.StandLemmas.{placed, unasked}
 use Rattle.tree_cover_laws.proofs.StayLemmas.{OnPath, asked_kid, told_kid, tells_on, kid_path, kid_deeper}
-use Rattle.tree_cover_laws.proofs.StepLemmas.{HasNext, KidsTold, told_standing, told_below_it, kids_seen, step_seen, next_goes}
+use Rattle.tree_cover_laws.proofs.StepLemmas.{HasNext, KidsTold, told_kept_row, told_below_it, kids_seen, step_seen, next_goes}
+use Rattle.tree_laws.proofs.AtPart.{at_end}
 
 module _ (t : History) (whole : IsLawfulRun t) (hs0 : List Happening) (part0 : Part t whole hs0) (r : BranchId) (next : HasNext t hs0) (root : OnPath t whole hs0 part0 r r) (top : IsTop t whole r)
     (sees : SeesTree (f_at t hs0) (tr_at t hs0) r) where
   abbrev tr : Trail
   tr = tr_at t hs0
 
-  abbrev said : List Post
-  said = said_in (facts_at t)
-
-  abbrev bs : List Born
-  bs = births_of t
+  open at_end t use {said, bs}
 
   abbrev s0 : History
   s0 = so_far t hs0
@@ -296,7 +293,7 @@ module _ (t : History) (whole : IsLawfulRun t) (hs0 : List Happening) (part0 : P
       by : (o : Option BranchId) → z.parent ≡ o → asked_by said z.me o ≡ true
           → ((y : Born) → Began bs y → y.depth ≤ m → y.root ≡ r → asked_by said y.me y.parent ≡ true → is_among y.me (Walked depth_limit r) ≡ true → comes_to said y.me y.parent ≡ true) → comes_to said z.me o ≡ true
       by None no_parent so above = refl
-      by (Some q) is sent above = elim (led depth_limit r z.me (told_standing t whole hs0 part0 r next sees root.branch root.stands r root.is_me) among) [
+      by (Some q) is sent above = elim (led depth_limit r z.me (told_kept_row t whole hs0 part0 r next sees root.branch root.stands r root.is_me) among) [
         | inl here ↦ (let one : z ≡ top.0 = trees.same_born bs said knows z top.0 began top.1 (here ∙ sym top.2) in
             let no : z.parent ≡ None = ap (λ (y : Born). y.parent) one ∙ top.3 in
             absurd (cc (no, is)))

@@ -26,18 +26,15 @@ use Rattle.tree_laws.proofs.AskRunLemmas.{edges_asked}
 use Rattle.tree_laws.proofs.ForestLemmas as trees
 use Rattle.tree_laws.proofs.PrefixLemmas.{so_far, f_at, e_at}
 use Rattle.tree_laws.proofs.SettleRunLemmas.{known}
-use Rattle.tree_site_laws.specs.DecideLaws.{InTree, Is_root}
-use Rattle.tree_site_laws.proofs.DecideLemmas.{IsTop, root_member}
-use Rattle.tree_site_laws.proofs.FindLemmas.{CommitAt, WasFound}
-use Rattle.tree_site_laws.proofs.FrozenLemmas.{State, Here, Left, Since}
-use Rattle.tree_site_laws.proofs.TimeLemmas.{Part, part_lawful, born_end}
-use Rattle.tree_site_laws.proofs.WeighLemmas.{placed_of}
+use Rattle.tree_laws.specs.DecideLaws.{InTree, Is_root}
+use Rattle.tree_laws.proofs.DecideLemmas.{IsTop, root_member}
+use Rattle.tree_laws.proofs.FindLemmas.{CommitAt, WasFound}
+use Rattle.tree_laws.proofs.FrozenLemmas.{State, Here, Left, Since}
+use Rattle.tree_laws.proofs.TimeLemmas.{Part, part_lawful, born_end}
+use Rattle.tree_laws.proofs.WeighLemmas.{placed_of}
 use Rattle.tree_cover_laws.proofs.StandLemmas.{Stands}
 use Rattle.tree_cover_laws.proofs.StayLemmas.{StillThere, OnPath}
-
-cancel : {A : Type 0} (xs ys zs : List A) → xs ++ ys ≡ xs ++ zs → ys ≡ zs
-cancel [] ys zs is = is
-cancel (x ∷ xs) ys zs is = cancel xs ys zs (let it : x ∷ (xs ++ ys) ≡ x ∷ (xs ++ zs) = is in cc)
+use Rattle.tree_laws.proofs.DecideLemmas.{cancel}
 
 first_is : {A : Type 0} (x y : A) (xs ys : List A) → x ∷ xs ≡ y ∷ ys → x ≡ y
 first_is x y xs ys is = cc

@@ -18,8 +18,8 @@ use Rattle.tree_laws.proofs.AskLemmas.{sent_split}
 use Rattle.tree_laws.proofs.AskRunLemmas.{run_asks}
 use Rattle.tree_laws.proofs.LeftLemmas.{asks_live}
 use Rattle.tree_laws.proofs.PrefixLemmas.{so_far, f_at, e_at, one_on, more_on}
-use Rattle.tree_site_laws.proofs.FrozenLemmas.{Since}
-use Rattle.tree_site_laws.proofs.TimeLemmas.{Part, part_lawful, part_on, part_of, may_of, keep_on}
+use Rattle.tree_laws.proofs.FrozenLemmas.{Since}
+use Rattle.tree_laws.proofs.TimeLemmas.{Part, part_lawful, part_on, part_of, may_of, keep_on}
 
 module _ (t : History) (whole : IsLawfulRun t) (hs0 : List Happening) (part0 : Part t whole hs0) where
   -- one happening later

@@ -15,7 +15,7 @@ use Rattle.run_rules.specs.Births.{Born, births_of, born_at}
 use Rattle.run_base_laws.specs.BirthLaws.{Began, LiveIs}
 use Rattle.run_rules.specs.Branches.{is_among}
 use Rattle.run_rules.specs.Data.{Happening}
-use Rattle.run_rules.specs.Facts.{Facts, node_at}
+use Rattle.run_rules.specs.Facts.{node_at}
 use Rattle.run_base_laws.specs.FreezeLaws.{was_asked}
 use Rattle.run_base_laws.specs.InTurnLaws.{said_in, call_at, GoesOn}
 use Rattle.run_rules.specs.Lawful.{History, IsLawfulRun}
@@ -29,25 +29,22 @@ use Rattle.run_base_laws.proofs.InTurnRunLemmas.{branches_call_in_turn}
 use Rattle.run_base_laws.proofs.KidLemmas.{child_of}
 use Rattle.run_base_laws.proofs.NodesStandLemmas.{some_or_none}
 use Rattle.tree_laws.proofs.ForestLemmas as trees
-use Rattle.tree_laws.proofs.PrefixLemmas.{so_far, f_at, e_at}
+use Rattle.tree_laws.proofs.PrefixLemmas.{e_at}
 use Rattle.tree_laws.proofs.SettleRunLemmas.{known}
 use Rattle.tree_cover_laws.specs.GoneLaws.{ToldWell, HasGone}
 use Rattle.tree_cover_laws.proofs.WellRunLemmas.{branches_hold_well}
-use Rattle.tree_site_laws.specs.DecideLaws.{live_of, live_in, InTree, Is_child}
-use Rattle.tree_site_laws.proofs.FateLemmas.{among_found}
-use Rattle.tree_site_laws.proofs.FrozenLemmas.{Found, edge_to}
-use Rattle.tree_site_laws.proofs.HeardLemmas.{left_were_asked}
-use Rattle.tree_site_laws.proofs.MemberLemmas.{BornBelow, born_below}
-use Rattle.tree_site_laws.proofs.ShallowLemmas.{parents_are_shallow}
-use Rattle.tree_site_laws.proofs.TimeLemmas.{Part, part_lawful}
-use Rattle.tree_site_laws.proofs.WeighLemmas.{children_weigh, child_parent, placed_of}
+use Rattle.tree_laws.specs.DecideLaws.{live_of, live_in, InTree, Is_child}
+use Rattle.tree_laws.proofs.FateLemmas.{among_found}
+use Rattle.tree_laws.proofs.FrozenLemmas.{Found, edge_to}
+use Rattle.tree_laws.proofs.HeardLemmas.{left_were_asked}
+use Rattle.tree_laws.proofs.MemberLemmas.{BornBelow, born_below}
+use Rattle.tree_laws.proofs.ShallowLemmas.{parents_are_shallow}
+use Rattle.tree_laws.proofs.TimeLemmas.{Part, part_lawful}
+use Rattle.tree_laws.proofs.WeighLemmas.{children_weigh, child_parent, placed_of}
+use Rattle.tree_laws.proofs.AtPart.{at_part}
 
 module _ (t : History) (whole : IsLawfulRun t) (hs0 : List Happening) (part0 : Part t whole hs0) (r : BranchId) where
-  abbrev f0 : Facts
-  f0 = f_at t hs0
-
-  abbrev s0 : History
-  s0 = so_far t hs0
+  open at_part t hs0 use {f as f0, s as s0}
 
   pub lawful0 : IsLawfulRun s0
   lawful0 = part_lawful t whole hs0 part0

@@ -32,11 +32,11 @@ use Rattle.tree_laws.proofs.ForestLemmas as trees
 use Rattle.tree_laws.proofs.LeftLemmas.{left_have_told_all}
 use Rattle.tree_laws.proofs.PrefixLemmas.{so_far, f_at, e_at}
 use Rattle.tree_laws.proofs.SettleRunLemmas.{known}
-use Rattle.tree_site_laws.specs.RestLaws.{Rests, SameTree}
-use Rattle.tree_site_laws.proofs.FateLemmas.{Fate, Stays, Leaves, fate_of}
-use Rattle.tree_site_laws.proofs.FrozenLemmas.{Found, Since, PointsTo, edge_to, path_down, same_step, strength_at}
-use Rattle.tree_site_laws.proofs.TimeLemmas.{Part, part_lawful, part_on, part_of, each_at, exit_end, sent_end, born_end, keep_on}
-use Rattle.tree_site_laws.proofs.WeighLemmas.{children_weigh, child_parent, placed_of}
+use Rattle.tree_laws.specs.RestLaws.{Rests, SameTree}
+use Rattle.tree_laws.proofs.FateLemmas.{Fate, Stays, Leaves, fate_of}
+use Rattle.tree_laws.proofs.FrozenLemmas.{Found, Since, PointsTo, edge_to, path_down, same_step, strength_at}
+use Rattle.tree_laws.proofs.TimeLemmas.{Part, part_lawful, part_on, part_of, each_at, exit_end, sent_end, born_end, keep_on}
+use Rattle.tree_laws.proofs.WeighLemmas.{children_weigh, child_parent, placed_of}
 use Rattle.tree_cover_laws.proofs.SentLemmas.{since_on, SentThen, sent_then}
 use Rattle.tree_cover_laws.proofs.StandLemmas.{Stands, Kid, kid_of, shallow, unasked}
 

@@ -1,76 +1,37 @@
 -- Where the happenings tell of such a tree what its nodes keep, they tell the steps of the walk that live branches make by the weights that they hold,
 -- though some of their children were dropped.
-use Rattle.std.proofs.Common.{◌≡◌, ◌≢◌, ℕ, suc, ◌+◌, ◌≤◌, Bool, true, false, if◌then◌else◌, List, ◌∷◌, ◌++◌, map, Option, Some, None, inl, inr, refl, sym, ap, subst, ◌∙◌, arith}
-use Rattle.std.specs.Prelude.{nat_lt}
+use Rattle.std.proofs.Common.{◌≡◌, ◌≢◌, ℕ, suc, ◌+◌, ◌≤◌, List, ◌∷◌, ◌++◌, map, Option, Some, None, refl, sym, ap, subst, ◌∙◌, arith}
 use Rattle.dtx_values.specs.Limits.{depth_limit}
 use Rattle.session_tree.specs.Live.{children_of}
-use Rattle.session_tree.specs.Tree.{place_of_greatest, best_child, weight_by, walk_by, step}
+use Rattle.session_tree.specs.Tree.{place_of_greatest, walk_by, step}
 use Rattle.session_tree.specs.declared.act.Walk.TheVariants as walks
-use Rattle.session_tree.proofs.Greatest.{greatest_is}
-use Rattle.node_rules.specs.Data.{BranchId, Edge, Live, Post}
+use Rattle.node_rules.specs.Data.{BranchId, Edge, Live}
 use Rattle.node_rules.specs.Words.{numbered}
 use Rattle.node_rules.specs.NodeState.{Branch}
 use Rattle.run_rules.specs.Branches.{Trail, children_at}
 use Rattle.run_rules.specs.Data.{Happening}
 use Rattle.run_rules.specs.Births.{Born, births_of}
-use Rattle.run_base_laws.specs.InTurnLaws.{said_in}
 use Rattle.run_rules.specs.Lawful.{History, IsLawfulRun}
 use Rattle.run_rules.specs.Tree as seen
 use Rattle.run_rules.specs.Tree.{has_changes, strength_of, weight_in}
 use Rattle.tree_laws.proofs.ForestLemmas as trees
-use Rattle.tree_laws.proofs.PrefixLemmas.{so_far, f_at}
+use Rattle.tree_laws.proofs.PrefixLemmas.{f_at}
 use Rattle.tree_laws.proofs.SettleRunLemmas.{known}
 use Rattle.tree_laws.proofs.VoterLemmas.{mapped_at, all_numbered}
-use Rattle.tree_site_laws.specs.DecideLaws.{SeesTree}
-use Rattle.tree_site_laws.proofs.FrozenLemmas.{PointsTo, edge_to, strength_at}
-use Rattle.tree_site_laws.proofs.MemberLemmas.{BornBelow}
-use Rattle.tree_site_laws.proofs.TimeLemmas.{Part, part_lawful}
+use Rattle.tree_laws.specs.DecideLaws.{SeesTree}
+use Rattle.tree_laws.proofs.FrozenLemmas.{PointsTo, edge_to, strength_at}
+use Rattle.tree_laws.proofs.MemberLemmas.{BornBelow}
+use Rattle.tree_laws.proofs.TimeLemmas.{Part, part_lawful}
 use Rattle.tree_trail_laws.proofs.FullLemmas.{SeesAll, full}
 use Rattle.tree_trail_laws.proofs.MomentLemmas.{tr_at}
 use Rattle.tree_trail_laws.proofs.SeenRunLemmas.{all_is_seen}
 use Rattle.tree_cover_laws.specs.ToldLaws.{ToldLast}
 use Rattle.tree_cover_laws.proofs.HeldLemmas.{map_all, edges_told, holds_at, weighs_told}
 use Rattle.tree_cover_laws.proofs.StandLemmas.{Stands, stands_live, placed, shallow}
+use Rattle.tree_laws.proofs.AtPart.{at_part}
+use Rattle.tree_laws.proofs.StepWeightLemmas.{down_weighs, nowhere_by as nowhere_weighs}
 
 -- ---- steps and weights
-
--- a step down goes to the first child of the greatest weight
-best_down : (q : Bool) (n : ℕ) (o : Option (ℕ × ℕ)) (i : ℕ) → walk_by q n o ≡ walks.Down i → (w : ℕ) × (o ≡ Some (w, i))
-best_down true n None i is = absurd cc
-best_down true n (Some b) i is = by (nat_lt n b.0) is
-  where
-    by : (q : Bool) → (if q then walks.Down b.1 else walks.Here) ≡ walks.Down i → (w : ℕ) × (Some b ≡ Some (w, i))
-    by true it = (let same : b.1 ≡ i = cc in (b.0, ap (λ j. Some (b.0, j)) same))
-    by false it = absurd cc
-best_down false n None i is = absurd cc
-best_down false n (Some b) i is = (let same : b.1 ≡ i = cc in (b.0, ap (λ j. Some (b.0, j)) same))
-
--- to which it has a weight
-down_weighs : (l : Live) (i : ℕ) (e : Edge) → step l ≡ walks.Down i → numbered l.edges i ≡ Some e → e.weight ≢ None
-unfolding step
-down_weighs l i e is at =
-    let best = best_down l.changed l.strength (best_child l) i is in
-    elim (greatest_is best.0 i 1 (map (λ (y : Edge). y.weight) l.edges) None (λ b same. absurd cc) best.1).found [
-      | inl never ↦ absurd cc
-      | inr found ↦ (λ none. (let number : i ≡ suc found.0 = omega (arith, found.1) in
-          let there : numbered (map (λ (y : Edge). y.weight) l.edges) i ≡ Some e.weight = mapped_at (λ (y : Edge). y.weight) l.edges i e at in
-          let it : numbered (map (λ (y : Edge). y.weight) l.edges) i ≡ Some (Some best.0) = ap (numbered (map (λ (y : Edge). y.weight) l.edges)) number ∙ found.2 in
-          absurd (cc (there, it, none))))
-    ]
-
--- a branch from which the walk goes nowhere has no weight
-nowhere_weighs : (q : Bool) (n : ℕ) (o : Option (ℕ × ℕ)) → walk_by q n o ≡ walks.Nowhere → weight_by q n o ≡ None
-nowhere_weighs q n o is = by q o is
-  where
-    shut : (q : Bool) (i : ℕ) → (if q then walks.Down i else walks.Here) ≡ walks.Nowhere → ⊥
-    shut true i it = cc
-    shut false i it = cc
-
-    by : (q : Bool) (o : Option (ℕ × ℕ)) → walk_by q n o ≡ walks.Nowhere → weight_by q n o ≡ None
-    by true None it = absurd cc
-    by true (Some b) it = absurd (shut (nat_lt n b.0) b.1 it)
-    by false None it = refl
-    by false (Some b) it = absurd cc
 
 -- A happening comes after this moment.
 abbrev pub HasNext : History → List Happening → Type 0
@@ -80,11 +41,7 @@ module _ (t : History) (whole : IsLawfulRun t) (hs0 : List Happening) (part0 : P
   abbrev tr : Trail
   tr = tr_at t hs0
 
-  abbrev s0 : History
-  s0 = so_far t hs0
-
-  abbrev said0 : List Post
-  said0 = said_in (f_at t hs0)
+  open at_part t hs0 use {s as s0, said as said0}
 
   sees_all : SeesAll t
   sees_all = full t whole (all_is_seen t whole)
@@ -116,8 +73,8 @@ module _ (t : History) (whole : IsLawfulRun t) (hs0 : List Happening) (part0 : P
   edges_so : (x : Branch) (it : Stands t whole hs0 part0 r x) (i : ℕ) (e : Edge) → numbered x.live.edges i ≡ Some e → ToldLast said0 x.live.me e.peer e.weight × BornBelow (births_of s0) e.peer x.live.me
   edges_so x it i e at = edges_told t whole hs0 part0 x it.here.kept it.here.up it.here.found it.goes it.waits it.fine i e at
 
-  pub told_standing : (x : Branch) → Stands t whole hs0 part0 r x → (b : BranchId) → x.live.me ≡ b → KidsTold b
-  told_standing x it b me = subst KidsTold me (of_edges x.live.me x.live (kids_seen x it) (edges_so x it))
+  pub told_kept_row : (x : Branch) → Stands t whole hs0 part0 r x → (b : BranchId) → x.live.me ≡ b → KidsTold b
+  told_kept_row x it b me = subst KidsTold me (of_edges x.live.me x.live (kids_seen x it) (edges_so x it))
 
   pub told_below_it : (p b : BranchId) → KidTold p b → KidsTold b
   told_below_it p b it =

@@ -3,16 +3,15 @@ use Rattle.std.proofs.Common.{◌≡◌, ◌≢◌, ℕ, ◌≤◌, Bool, true, 
 use Rattle.std.specs.Prelude.{IfSome}
 use Rattle.std.specs.List.{AllByRecursion}
 use Rattle.tran_ids.proofs.ListedLemmas.{item_is}
-use Rattle.node_rules.specs.Data.{Answer, BranchId, Kind, Live, Msg, Post, Place, Input, RedoRecord}
-use Rattle.node_rules.specs.Data.inputs
+use Rattle.node_rules.specs.Data.{Answer, BranchId, Kind, Live, Msg, Post, Place, RedoRecord}
 use Rattle.node_rules.specs.Data.kinds
 use Rattle.node_rules.specs.declared.work.Work.{Work}
 use Rattle.node_rules.specs.Words.{numbered, item_at}
 use Rattle.node_rules.specs.Inputs.{Came}
-use Rattle.node_rules.specs.NodeState.{NodeState, Deed, live_id, live_at}
+use Rattle.node_rules.specs.NodeState.{NodeState, TurnDraft, live_id, live_at}
 use Rattle.node_rules.specs.Calls.{is_gone}
 use Rattle.node_rules.specs.Sessions.{session_at}
-use Rattle.node_rules.specs.Turn.{turn_of, start_of, heard, deed_of}
+use Rattle.node_rules.specs.Turn.{turn_of, start_of, heard, draft_of}
 use Rattle.node_rules.specs.LiveBranches.{EachLive}
 use Rattle.node_rules.proofs.LiveLemmas.{each_same, none_live, branch_parts}
 use Rattle.agreement.specs.Events.{Event, exit}
@@ -38,6 +37,7 @@ use Rattle.tree_laws.proofs.GoOnLemmas.{goes_before}
 use Rattle.tree_cover_laws.specs.GoneLaws.{ToldWell, HoldsWell, CallsWell, BranchesHoldWell, CallsFollowAnswers}
 use Rattle.tree_cover_laws.proofs.WellLemmas.{QuietOf, well_low, well_split, held_more}
 use Rattle.tree_cover_laws.proofs.WellStepLemmas.{wells_on}
+use Rattle.tree_laws.proofs.AnswerRunLemmas.{lives_heard as heard_lives}
 
 -- ---- messages that came
 
@@ -88,12 +88,6 @@ silent_well said says G l w none is = record {
   first = is.first;
 }
 
-heard_lives : (k : NodeState) (input : Input) → (heard k input).lives ≡ k.lives
-heard_lives k (inputs.Message m) = refl
-heard_lives k (inputs.Call n s) = refl
-heard_lives k (inputs.GiveUp n) = refl
-heard_lives k inputs.Reco = refl
-
 start_well : (ms : List Post) (zs : List RedoRecord) → NodeWell ms (start_of zs)
 unfolding start_of
 start_well ms zs = none_live _
@@ -107,8 +101,8 @@ module _ (places : List Place) (asked : List Command) (each : (n : ℕ) (p : Pla
       abbrev p : Place
       p = place_at places u.node
 
-      abbrev d : Deed
-      d = deed_of p k u.input
+      abbrev d : TurnDraft
+      d = draft_of p k u.input
 
       abbrev said : List Post
       said = said_in f

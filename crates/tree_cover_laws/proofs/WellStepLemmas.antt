@@ -1,5 +1,5 @@
 -- Each step of a node passes refusals of gone branches on, and calls a child only after an answer that is none.
-use Rattle.std.proofs.Common.{◌≡◌, ◌≢◌, ℕ, zero, suc, ◌+◌, ◌-◌, ◌<◌, ◌≤◌, ◌&&◌, Bool, true, false, if◌then◌else◌, List, [], map, length, is_none, unwrap_or, option_map, Option, Some, None, inl, inr, refl, sym, ap, subst, ◌∙◌, arith}
+use Rattle.std.proofs.Common.{◌≡◌, ◌≢◌, ℕ, zero, suc, ◌+◌, ◌-◌, ◌<◌, ◌≤◌, ◌&&◌, Bool, true, false, if◌then◌else◌, List, [], map, length, is_none, Option, Some, None, inl, inr, refl, sym, ap, subst, ◌∙◌, arith}
 use Rattle.std.proofs.lemmas.Bool.{cond_both}
 use Rattle.tran_ids.proofs.ListedLemmas.{item_is, put_found}
 use Rattle.link_session.proofs.OnceLemmas.{run_is_new}
@@ -17,8 +17,8 @@ use Rattle.node_rules.specs.declared.work.Work.{Work}
 use Rattle.node_rules.specs.Words.{one, numbered, put_item}
 use Rattle.node_rules.specs.Refusals.{dtx}
 use Rattle.node_rules.specs.Inputs.{Came, IsCall}
-use Rattle.node_rules.specs.NodeState.{NodeState, Branch, Deed, live_id, work_id, live_at, branch_at, post, to_one, to_each, no_work}
-use Rattle.node_rules.specs.Sessions.{fresh_session, session_at, with_call, needs_rollback}
+use Rattle.node_rules.specs.NodeState.{NodeState, Branch, TurnDraft, live_id, work_id, live_at, branch_at, post, to_one, to_each, no_work}
+use Rattle.node_rules.specs.Sessions.{session_at, with_call, needs_rollback}
 use Rattle.node_rules.specs.Names.{passed_on}
 use Rattle.node_rules.specs.Statement.{ran, after_run}
 use Rattle.node_rules.specs.Calls.{reply_fields, kept_reply, with_answer, answer_says, next_child, strength_of, with_edge, waits_for_opened, hears_reply, nobody_at, is_gone, heard_answer, heard_sessions, answered_sessions, call_pends}
@@ -26,8 +26,8 @@ use Rattle.node_rules.specs.Client.{new_root, fresh_root, begun_by, gives_up}
 use Rattle.node_rules.specs.Prepare.{path_of, with_prepare_sent, has_voted, answers_first, site_neighbors, ready, act_turn}
 use Rattle.node_rules.specs.Commit.{beyond}
 use Rattle.node_rules.proofs.Steps as steps
-use Rattle.node_rules.proofs.Steps.{Step, Asked, Acting, Says}
-use Rattle.node_rules.proofs.StandLemmas.{live_so, session_set, call_set}
+use Rattle.node_rules.proofs.Steps.{Step, Asked, Acting}
+use Rattle.node_rules.proofs.StandLemmas.{live_so, call_set}
 use Rattle.node_rules.proofs.StepLemmas.{acting_so}
 use Rattle.node_rules.specs.LiveBranches.{works_of}
 use Rattle.node_rules.proofs.LiveLemmas.{each_changed, each_begun, branch_parts, work_is}
@@ -38,20 +38,18 @@ use Rattle.run_base_laws.proofs.NeighborLemmas.{News, reply_is}
 use Rattle.run_base_laws.proofs.NeighborStepLemmas.{begun_news, pends_news, lets_news, acked_news}
 use Rattle.run_base_laws.proofs.KindSayLemmas.{AllSay, one_says, each_says, prepares_say, passes_say}
 use Rattle.run_base_laws.proofs.InTurnLemmas as turns
-use Rattle.run_base_laws.proofs.InTurnLemmas.{length_peers, numbered_map, reply_for, none_waits}
+use Rattle.run_base_laws.proofs.InTurnLemmas.{length_peers, reply_for, none_waits}
 use Rattle.run_base_laws.proofs.InTurnEdgeLemmas.{opened_free, heard_free}
-use Rattle.run_base_laws.proofs.InTurnStepLemmas as deeds
+use Rattle.run_base_laws.proofs.InTurnStepLemmas as drafts
 use Rattle.run_base_laws.proofs.TurnEventLemmas.{cases_nat}
 use Rattle.tree_laws.proofs.HoldLemmas.{given_code}
 use Rattle.tree_cover_laws.specs.GoneLaws.{ToldWell, HasGone, CallsWell}
 use Rattle.tree_cover_laws.proofs.WellLemmas.{well_more, IsIdle, idle_decisions, idle_quiet, idle_execs, calls_stay, Well, opened_well, heard_well, no_call}
-use Rattle.tree_cover_laws.proofs.WellDeedLemmas as deed
+use Rattle.tree_cover_laws.proofs.WellDraftLemmas as draft
+use Rattle.tree_laws.proofs.HoldLemmas.{code_at}
+use Rattle.tree_laws.proofs.FrozenLemmas.{edge_to as edge_there}
 
 -- ---- the code of a root that hears such a refusal
-
-code_at : (ss : List Session) (n code : ℕ) (b : BranchId) (o : Option Session) → numbered ss n ≡ o → (unwrap_or o fresh_session).root ≡ Some b → session_at (needs_rollback ss n code) n ≡ record (session_at ss n) { code = Some code }
-code_at ss n code b None is has = absurd cc
-code_at ss n code b (Some s) is has = session_set ss n s (record (session_at ss n) { code = Some code }) is
 
 refused_code : (ss : List Session) (n code : ℕ) (b : BranchId) → (session_at ss n).root ≡ Some b → (session_at (with_call (needs_rollback ss n code) n pending.NoCall) n).code ≡ None → ⊥
 refused_code ss n code b has none =
@@ -76,40 +74,33 @@ passed_answer l link a q above gone =
 
 -- ---- edges
 
-edge_there : (es : List Edge) (i : ℕ) (c : BranchId) → numbered (map (λ (e : Edge). e.peer) es) i ≡ Some c → (e : Edge) × (numbered es i ≡ Some e) × (e.peer ≡ c)
-edge_there es i c at = by (numbered es i) refl (sym (numbered_map es i) ∙ at)
-  where
-    by : (o : Option Edge) → numbered es i ≡ o → option_map (λ (e : Edge). e.peer) o ≡ Some c → (e : Edge) × (numbered es i ≡ Some e) × (e.peer ≡ c)
-    by None is some = absurd cc
-    by (Some e) is some = (e, is, (let it : Some e.peer ≡ Some c = some in cc))
-
 module _ (E : BranchId → Option ℕ) (A : BranchId → Option BranchId) (G Here : BranchId → Type 0) (input : Input) (said : List Post) (received : turns.Received E A G Here input said) where
   abbrev Begun : Live → Work → Type 0
-  Begun = deed.Begun E A G Here input said received
+  Begun = draft.Begun E A G Here input said received
 
   abbrev Nodes : NodeState → Type 0
-  Nodes = deed.Nodes E A G Here input said received
+  Nodes = draft.Nodes E A G Here input said received
 
   abbrev FreeOf : Branch → Type 0
-  FreeOf = deed.FreeOf E A G Here input said received
+  FreeOf = draft.FreeOf E A G Here input said received
 
   abbrev Goes : Live → Type 0
-  Goes = deed.Goes E A G Here input said received
+  Goes = draft.Goes E A G Here input said received
 
   abbrev Old : Live → Work → Type 0
-  Old = deed.Old E A G Here input said received
+  Old = draft.Old E A G Here input said received
 
   abbrev Olds : NodeState → Type 0
-  Olds = deed.Olds E A G Here input said received
+  Olds = draft.Olds E A G Here input said received
 
   abbrev Then : List Post → Live → Work → Type 0
-  Then = deed.Then E A G Here input said received
+  Then = draft.Then E A G Here input said received
 
   abbrev All : List Post → List Live → List Work → Type 0
-  All = deed.All E A G Here input said received
+  All = draft.All E A G Here input said received
 
-  abbrev pub Leaves : Deed → Type 0
-  Leaves = deed.Leaves E A G Here input said received
+  abbrev pub Leaves : TurnDraft → Type 0
+  Leaves = draft.Leaves E A G Here input said received
 
   module _ (k : NodeState) (calls : CallsWell said) (now : Olds k) where
     -- ---- what is known of a branch
@@ -180,25 +171,25 @@ module _ (E : BranchId → Option ℕ) (A : BranchId → Option BranchId) (G Her
 
       acting_old : {l : Live} {b : Bool} {a : Act} → Acting k input l b a → Old l (works_of k.works l.me)
       acting_old why =
-          acting_so (λ l. Old l (works_of k.works l.me)) (λ l comment b is. deed.mapped E A G Here input said received with_prepare_sent (λ e. (refl, refl)) l (works_of k.works l.me) is)
-          (λ l from v is. deed.mapped E A G Here input said received (has_voted from v) (λ e. cond_both (answers_first from e) (record e { vote = v }) e (λ y. (y.peer ≡ e.peer) × (y.weight ≡ e.weight)) (λ here. (refl, refl)) (λ other. (refl, refl))) l (works_of k.works l.me) is)
+          acting_so (λ l. Old l (works_of k.works l.me)) (λ l comment b is. draft.mapped E A G Here input said received with_prepare_sent (λ e. (refl, refl)) l (works_of k.works l.me) is)
+          (λ l from v is. draft.mapped E A G Here input said received (has_voted from v) (λ e. cond_both (answers_first from e) (record e { vote = v }) e (λ y. (y.peer ≡ e.peer) × (y.weight ≡ e.weight)) (λ here. (refl, refl)) (λ other. (refl, refl))) l (works_of k.works l.me) is)
           (λ b l found. subst (λ m. Old l (works_of k.works m)) (sym (item_is live_id k.lives b l found)) (now.each b l found)) why
 
       stays : (l : Live) (says : List Post) → AllSay IsIdle says → Old l (works_of k.works l.me) → All says (put_item live_id k.lives l) k.works
       stays l says idle is =
-          (each_changed Old (Then says) k.lives k.works now l (deed.stay E A G Here input said received k calls now says l (works_of k.works l.me) (idle_quiet says l.me idle) is) (λ y v live other so. deed.stay E A G Here input said received k calls now says y v (idle_quiet says y.me idle) so), calls_stay said says (idle_execs says idle) calls, (λ b none. idle_quiet says b idle))
+          (each_changed Old (Then says) k.lives k.works now l (draft.stay E A G Here input said received k calls now says l (works_of k.works l.me) (idle_quiet says l.me idle) is) (λ y v live other so. draft.stay E A G Here input said received k calls now says y v (idle_quiet says y.me idle) so), calls_stay said says (idle_execs says idle) calls, (λ b none. idle_quiet says b idle))
 
       acts_well : {l : Live} {b : Bool} (a : Act) → Acting k input l b a → Leaves (act_turn k l b a)
       acts_well {l = l} acts.Rest why = stays l [] tt (acting_old why)
       acts_well {l = l} {b = b} acts.AskDown why = stays l _ (prepares_say IsIdle (λ q c. ((λ n v is. is), refl)) l.me l.comment (path_of b (step_from l)) 1 l.edges) (acting_old why)
       acts_well {l = l} acts.SayReady why = stays (ready l) _ (one_says IsIdle l.me kinds.Ready l.parent ((λ n v is. is), refl)) (acting_old why)
-      acts_well {l = l} acts.SayReadOnly why = deed.left E A G Here input said received k calls now l.me _ (one_says IsIdle l.me kinds.ReadOnly l.parent ((λ n v is. is), refl))
-      acts_well {l = l} acts.Seal why = deed.left E A G Here input said received k calls now l.me _ (one_says IsIdle l.me kinds.Prepared l.parent ((λ n v is. is), refl))
-      acts_well {l = l} (acts.SealAndPass i) why = deed.left E A G Here input said received k calls now l.me _ (one_says IsIdle l.me kinds.CommitPoint (peer_of l i) ((λ n v is. is), refl))
-      acts_well {l = l} acts.Decide why = deed.left E A G Here input said received k calls now l.me _ (each_says IsIdle l.me (kinds.Committed (k.clock + 1)) (site_neighbors l) ((λ n v is. is), refl))
-      acts_well {l = l} acts.Finish why = deed.left E A G Here input said received k calls now l.me [] tt
+      acts_well {l = l} acts.SayReadOnly why = draft.left E A G Here input said received k calls now l.me _ (one_says IsIdle l.me kinds.ReadOnly l.parent ((λ n v is. is), refl))
+      acts_well {l = l} acts.Seal why = draft.left E A G Here input said received k calls now l.me _ (one_says IsIdle l.me kinds.Prepared l.parent ((λ n v is. is), refl))
+      acts_well {l = l} (acts.SealAndPass i) why = draft.left E A G Here input said received k calls now l.me _ (one_says IsIdle l.me kinds.CommitPoint (peer_of l i) ((λ n v is. is), refl))
+      acts_well {l = l} acts.Decide why = draft.left E A G Here input said received k calls now l.me _ (each_says IsIdle l.me (kinds.Committed (k.clock + 1)) (site_neighbors l) ((λ n v is. is), refl))
+      acts_well {l = l} acts.Finish why = draft.left E A G Here input said received k calls now l.me [] tt
       acts_well {l = l} acts.Abandon why =
-          deed.left E A G Here input said received k calls now l.me _ (all_append (λ x. IsIdle x.kind) (to_one l.me kinds.Abort l.parent) _ (one_says IsIdle l.me kinds.Abort l.parent ((λ n v is. is), refl)) (each_says IsIdle l.me kinds.Rollback (children_of l) ((λ n v is. is), refl)))
+          draft.left E A G Here input said received k calls now l.me _ (all_append (λ x. IsIdle x.kind) (to_one l.me kinds.Abort l.parent) _ (one_says IsIdle l.me kinds.Abort l.parent ((λ n v is. is), refl)) (each_says IsIdle l.me kinds.Rollback (children_of l) ((λ n v is. is), refl)))
 
   -- ---- every step
 
@@ -248,40 +239,40 @@ module _ (E : BranchId → Option ℕ) (A : BranchId → Option BranchId) (G Her
     reply_well = by (is_gone a) refl
       where
         by : (q : Bool) → is_gone a ≡ q → All (answer_says y told_answer y.live.parent) (put_item live_id k.lives y.live) (put_item work_id k.works (with_answer y told_answer).work)
-        by false well = deed.answers_well E A G Here input said received k calls now y told_answer (work_is k x.live.me x answered.live) free (fine well)
-        by true gone = deed.answers_by E A G Here input said received k calls now y told_answer (work_is k x.live.me x answered.live) free (λ goes j z at. inr (passed gone goes))
+        by false well = draft.answers_well E A G Here input said received k calls now y told_answer (work_is k x.live.me x answered.live) free (fine well)
+        by true gone = draft.answers_by E A G Here input said received k calls now y told_answer (work_is k x.live.me x answered.live) free (λ goes j z at. inr (passed gone goes))
 
   module _ (welled : Welled) (p : Place) (place : (b : BranchId) → b.node ≡ p.number → Here b) where
-    pub wells_on : {k : NodeState} {d : Deed} → Step p input k d → deeds.Granted E A G Here input said received d → SessionsFit k → News (deeds.NewBorn E A G Here input said received) p input k → Rooted k → Nodes k → CallsWell said → Olds k → Leaves d
+    pub wells_on : {k : NodeState} {d : TurnDraft} → Step p input k d → drafts.Granted E A G Here input said received d → SessionsFit k → News (drafts.NewBorn E A G Here input said received) p input k → Rooted k → Nodes k → CallsWell said → Olds k → Leaves d
     wells_on (steps.Begins {k = k} n s call rows range none step) granted ss news rooted nodes calls now =
         let root = news.root n s call rows none in
-        wells_on step granted (begun_so k ss p n) (begun_news (deeds.NewBorn E A G Here input said received) p input k n news) (no_call_came (begun_by p k n None) n s call)
-        (deeds.begins_so E A G Here input said received k nodes (fresh_root p k (new_root p k n)) refl (place (new_root p k n) refl) root) calls
-        (each_begun Old Old k.lives k.works now (fresh_root p k (new_root p k n)) (deed.fresh_well E A G Here input said received said (fresh_root p k (new_root p k n)) (no_work (new_root p k n)) refl refl) (λ y v live any is. is))
+        wells_on step granted (begun_so k ss p n) (begun_news (drafts.NewBorn E A G Here input said received) p input k n news) (no_call_came (begun_by p k n None) n s call)
+        (drafts.begins_so E A G Here input said received k nodes (fresh_root p k (new_root p k n)) refl (place (new_root p k n) refl) root) calls
+        (each_begun Old Old k.lives k.works now (fresh_root p k (new_root p k n)) (draft.fresh_well E A G Here input said received said (fresh_root p k (new_root p k n)) (no_work (new_root p k n)) refl refl) (λ y v live any is. is))
     wells_on (steps.Pends {k = k} n l given call has live code step) granted ss news rooted nodes calls now =
-        wells_on step granted (pends_so k ss n pending.Commit) (pends_news (deeds.NewBorn E A G Here input said received) p input k n given call news) (no_call_came (record k { sessions = with_call k.sessions n pending.Commit }) n (stmts.Commit given) call) nodes calls now
+        wells_on step granted (pends_so k ss n pending.Commit) (pends_news (drafts.NewBorn E A G Here input said received) p input k n given call news) (no_call_came (record k { sessions = with_call k.sessions n pending.Commit }) n (stmts.Commit given) call) nodes calls now
     wells_on (steps.Lets_reads_go {k = k} l comment b live begins step) granted ss news rooted nodes calls now =
-        wells_on step granted (record { roots = ss.roots; above = ss.above }) (lets_news (deeds.NewBorn E A G Here input said received) p input k l.me news) rooted nodes calls now
+        wells_on step granted (record { roots = ss.roots; above = ss.above }) (lets_news (drafts.NewBorn E A G Here input said received) p input k l.me news) rooted nodes calls now
     wells_on (steps.Counts_ack {k = k} s from kept came counts step) granted ss news rooted nodes calls now =
-        wells_on step granted (record { roots = ss.roots; above = ss.above }) (acked_news (deeds.NewBorn E A G Here input said received) p input k _ news) rooted nodes calls now
-    wells_on (steps.Sends {k = k} posts why) granted ss news rooted nodes calls now = deed.says_well E A G Here input said received k calls now why
+        wells_on step granted (record { roots = ss.roots; above = ss.above }) (acked_news (drafts.NewBorn E A G Here input said received) p input k _ news) rooted nodes calls now
+    wells_on (steps.Sends {k = k} posts why) granted ss news rooted nodes calls now = draft.says_well E A G Here input said received k calls now why
     wells_on (steps.Runs {k = k} x s given t asked way) granted ss news rooted nodes calls now =
         let free : FreeOf x = turns.asked_free E A G Here input said received k ss nodes asked in
-        deed.answers_well E A G Here input said received k calls now (record x { live = after_run x.live (ran p k x.live.me s t) }) _ (deeds.asked_mine E A G Here input said received k asked)
+        draft.answers_well E A G Here input said received k calls now (record x { live = after_run x.live (ran p k x.live.me s t) }) _ (drafts.asked_mine E A G Here input said received k asked)
         (record { kids = free.kids; taken = free.taken; told = free.told; owes = free.owes; unanswered = free.unanswered; numbers = free.numbers; made = free.made; no_other = free.no_other; heard = free.heard })
         (asked_well k calls now ss nodes asked)
     wells_on (steps.Goes_nowhere {k = k} x s given r asked way) granted ss news rooted nodes calls now =
-        deed.answers_well E A G Here input said received k calls now x _ (deeds.asked_mine E A G Here input said received k asked) (turns.asked_free E A G Here input said received k ss nodes asked) (asked_well k calls now ss nodes asked)
+        draft.answers_well E A G Here input said received k calls now x _ (drafts.asked_mine E A G Here input said received k asked) (turns.asked_free E A G Here input said received k ss nodes asked) (asked_well k calls now ss nodes asked)
     wells_on (steps.Calls {k = k} x s given i table asked way) granted ss news rooted nodes calls now =
         let told = asked_well k calls now ss nodes asked in
         let goes = asked_goes k calls now ss nodes asked (λ none code. granted.grants x.live.me x.live (put_found live_id k.lives x.live) none code) in
-        deed.calls_over E A G Here input said received k calls now k.sessions x i (passed_on s table) given (deeds.asked_mine E A G Here input said received k asked) (turns.asked_free E A G Here input said received k ss nodes asked) (λ g j e other at. told g j e at)
+        draft.calls_over E A G Here input said received k calls now k.sessions x i (passed_on s table) given (drafts.asked_mine E A G Here input said received k asked) (turns.asked_free E A G Here input said received k ss nodes asked) (λ g j e other at. told g j e at)
         (told_at k calls now ss nodes x i goes told)
     wells_on (steps.Opens {k = k} x s given node link table asked way) granted ss news rooted nodes calls now =
         let free : FreeOf x = turns.asked_free E A G Here input said received k ss nodes asked in
         let told = asked_well k calls now ss nodes asked in
         let says : List Post = post x.live.me (nobody_at node) (kinds.Open (next_edge x.live) x.live.root (x.live.depth + 1)) in (
-          deed.put E A G Here input said received k calls now says x.live (waits_for_opened x link (passed_on s table) given).work (deeds.asked_mine E A G Here input said received k asked) (λ b other. idle_quiet says b (((λ n v is. is), refl), tt)) (record {
+          draft.put E A G Here input said received k calls now says x.live (waits_for_opened x link (passed_on s table) given).work (drafts.asked_mine E A G Here input said received k asked) (λ b other. idle_quiet says b (((λ n v is. is), refl), tt)) (record {
             held = λ goes j e at. inr (inl (well_more said says e.peer (call_at x.work j) e.weight (told goes j e at)));
             kept = λ gone v tells. (let some = gone.1 in let unanswered = free.unanswered in absurd (cc (some, unanswered)));
             first = λ last. free.unanswered;
@@ -293,44 +284,44 @@ module _ (E : BranchId → Option ℕ) (A : BranchId → Option BranchId) (G Her
         let was : Begun x.live x.work = turns.branch_begun E A G Here input said received k nodes x opened.live in
         let even = was.turn.makes.numbers ∙ length_peers x.live.edges in
         let unanswered : x.work.came.reply ≡ None = was.turn.answered (λ none. (let some = opened.going in absurd (cc (none, some)))) in
-        deed.calls_over E A G Here input said received k calls now k.sessions (with_edge x (new_edge from link strength)) (length x.live.edges + 1) g.statement (g.room - 1) (work_is k x.live.me x opened.live) (opened_free E A G Here input said received k nodes x from strength g link opened)
+        draft.calls_over E A G Here input said received k calls now k.sessions (with_edge x (new_edge from link strength)) (length x.live.edges + 1) g.statement (g.room - 1) (work_is k x.live.me x opened.live) (opened_free E A G Here input said received k nodes x from strength g link opened)
         (opened_well said (Goes x.live) x (found_old k calls now ss nodes x opened.live).held unanswered (new_edge from link strength) g link opened.going opened.waits even)
         (λ c at some. (let none : call_at (with_edge x (new_edge from link strength)).work (length x.live.edges + 1) ≡ 0 = no_call x.work.calls x.live.edges even in absurd (omega (arith, some, none))))
     wells_on (steps.Hears_reply {k = k} x weight count a i e answered) granted ss news rooted nodes calls now =
         reply_well welled k calls now ss nodes rooted x weight count a i e answered (λ none goes. granted.sees x.live.me goes)
     wells_on (steps.Opens_branch {k = k} to parent edge root depth came new) granted ss news rooted nodes calls now =
-        deed.begun E A G Here input said received k calls now (post (next_child p k) parent (kinds.Opened edge (strength_of p k))) (((λ n v is. is), refl), tt) (fresh_live (next_child p k) root (Some parent) depth (strength_of p k)) refl
+        draft.begun E A G Here input said received k calls now (post (next_child p k) parent (kinds.Opened edge (strength_of p k))) (((λ n v is. is), refl), tt) (fresh_live (next_child p k) root (Some parent) depth (strength_of p k)) refl
     wells_on (steps.Acts {k = k} l b a why) granted ss news rooted nodes calls now = acts_well k calls now ss nodes a why
-    wells_on (steps.Drops_told {k = k} l live drops) granted ss news rooted nodes calls now = deed.left E A G Here input said received k calls now l.me _ (rolled l)
-    wells_on (steps.Drops_asked {k = k} l from live came parent) granted ss news rooted nodes calls now = deed.left E A G Here input said received k calls now l.me _ (((λ n v is. is), refl), rolled l)
-    wells_on (steps.Does {k = k} s from (nexts.End d) kept why) granted ss news rooted nodes calls now = deed.quiet E A G Here input said received k calls now _ (passes_say IsIdle idle_decisions s d)
-    wells_on (steps.Does {k = k} s from (nexts.Meet d mixed) kept why) granted ss news rooted nodes calls now = deed.quiet E A G Here input said received k calls now _ (passes_say IsIdle idle_decisions s d)
-    wells_on (steps.Does {k = k} s from nexts.AckToward kept why) granted ss news rooted nodes calls now = deed.quiet E A G Here input said received k calls now _ (one_says IsIdle s.me kinds.Ack s.toward ((λ n v is. is), refl))
-    wells_on (steps.Does {k = k} s from nexts.Forget kept why) granted ss news rooted nodes calls now = deed.quiet E A G Here input said received k calls now _ (each_says IsIdle s.me kinds.Forgotten (map (λ b. b.branch) (beyond s)) ((λ n v is. is), refl))
-    wells_on (steps.Does {k = k} s from nexts.SayForgotten kept why) granted ss news rooted nodes calls now = deed.quiet E A G Here input said received k calls now _ (((λ n v is. is), refl), tt)
-    wells_on (steps.Does {k = k} s from nexts.SayAck kept why) granted ss news rooted nodes calls now = deed.quiet E A G Here input said received k calls now _ (((λ n v is. is), refl), tt)
-    wells_on (steps.Does {k = k} s from nexts.Rest kept why) granted ss news rooted nodes calls now = deed.quiet E A G Here input said received k calls now [] tt
-    wells_on (steps.Rolls_back {k = k} n x call has live) granted ss news rooted nodes calls now = deed.left E A G Here input said received k calls now x.live.me _ (rolled x.live)
+    wells_on (steps.Drops_told {k = k} l live drops) granted ss news rooted nodes calls now = draft.left E A G Here input said received k calls now l.me _ (rolled l)
+    wells_on (steps.Drops_asked {k = k} l from live came parent) granted ss news rooted nodes calls now = draft.left E A G Here input said received k calls now l.me _ (((λ n v is. is), refl), rolled l)
+    wells_on (steps.Does {k = k} s from (nexts.End d) kept why) granted ss news rooted nodes calls now = draft.quiet E A G Here input said received k calls now _ (passes_say IsIdle idle_decisions s d)
+    wells_on (steps.Does {k = k} s from (nexts.Meet d mixed) kept why) granted ss news rooted nodes calls now = draft.quiet E A G Here input said received k calls now _ (passes_say IsIdle idle_decisions s d)
+    wells_on (steps.Does {k = k} s from nexts.AckToward kept why) granted ss news rooted nodes calls now = draft.quiet E A G Here input said received k calls now _ (one_says IsIdle s.me kinds.Ack s.toward ((λ n v is. is), refl))
+    wells_on (steps.Does {k = k} s from nexts.Forget kept why) granted ss news rooted nodes calls now = draft.quiet E A G Here input said received k calls now _ (each_says IsIdle s.me kinds.Forgotten (map (λ b. b.branch) (beyond s)) ((λ n v is. is), refl))
+    wells_on (steps.Does {k = k} s from nexts.SayForgotten kept why) granted ss news rooted nodes calls now = draft.quiet E A G Here input said received k calls now _ (((λ n v is. is), refl), tt)
+    wells_on (steps.Does {k = k} s from nexts.SayAck kept why) granted ss news rooted nodes calls now = draft.quiet E A G Here input said received k calls now _ (((λ n v is. is), refl), tt)
+    wells_on (steps.Does {k = k} s from nexts.Rest kept why) granted ss news rooted nodes calls now = draft.quiet E A G Here input said received k calls now [] tt
+    wells_on (steps.Rolls_back {k = k} n x call has live) granted ss news rooted nodes calls now = draft.left E A G Here input said received k calls now x.live.me _ (rolled x.live)
     wells_on (steps.Gives_up {k = k} n x gives has pends live) granted ss news rooted nodes calls now =
         let was : Old x.live x.work = found_old k calls now ss nodes x live in
         let none : x.live.parent ≡ None = root_alone k ss n x.live.me has x.live (live_so k x.live.me x live) in
         let refused : G x.live.me → ⊥ = λ goes. given_code k.sessions n _ x.live.me has (subst (λ m. (session_at (needs_rollback (with_call k.sessions n pending.NoCall) n (dtx 3 []).code) m).code ≡ None) (ss.roots.each n x.live.me has) (granted.sees x.live.me goes)) in (
-          deed.put E A G Here input said received k calls now [] x.live (gives_up x).work (work_is k x.live.me x live) (λ b other n v is. is) (record {
+          draft.put E A G Here input said received k calls now [] x.live (gives_up x).work (work_is k x.live.me x live) (λ b other n v is. is) (record {
             held = λ goes i e at. absurd (refused (goes none));
-            kept = (deed.stay E A G Here input said received k calls now [] x.live x.work (λ n v is. is) was).kept;
+            kept = (draft.stay E A G Here input said received k calls now [] x.live x.work (λ n v is. is) was).kept;
             first = was.first;
           }),
           calls_stay said [] (λ a b. refl) calls,
           (λ b none n v is. is),
         )
-    wells_on (steps.Gives_up_commit {k = k} n b (Some l) gives has pends live) granted ss news rooted nodes calls now = deed.left E A G Here input said received k calls now l.me _ (rolled l)
-    wells_on (steps.Gives_up_commit {k = k} n b None gives has pends live) granted ss news rooted nodes calls now = deed.quiet E A G Here input said received k calls now [] tt
-    wells_on (steps.Rests {k = k}) granted ss news rooted nodes calls now = deed.quiet E A G Here input said received k calls now [] tt
-    wells_on (steps.Refuses {k = k} n s r is) granted ss news rooted nodes calls now = deed.quiet E A G Here input said received k calls now [] tt
-    wells_on (steps.Completes_at_once {k = k} n s d call completes none) granted ss news rooted nodes calls now = deed.quiet E A G Here input said received k calls now [] tt
-    wells_on (steps.Makes_record {k = k} n s r d call makes) granted ss news rooted nodes calls now = deed.quiet E A G Here input said received k calls now [] tt
-    wells_on (steps.Forces_given {k = k} n id m b call named) granted ss news rooted nodes calls now = deed.quiet E A G Here input said received k calls now [] tt
-    wells_on (steps.Forces_commit {k = k} n id b call named) granted ss news rooted nodes calls now = deed.quiet E A G Here input said received k calls now [] tt
-    wells_on (steps.Forces_rollback {k = k} n id b call named) granted ss news rooted nodes calls now = deed.quiet E A G Here input said received k calls now [] tt
-    wells_on (steps.Hides {k = k} n mixed id s call found) granted ss news rooted nodes calls now = deed.quiet E A G Here input said received k calls now [] tt
-    wells_on (steps.Advises {k = k} n a call) granted ss news rooted nodes calls now = deed.quiet E A G Here input said received k calls now [] tt
+    wells_on (steps.Gives_up_commit {k = k} n b (Some l) gives has pends live) granted ss news rooted nodes calls now = draft.left E A G Here input said received k calls now l.me _ (rolled l)
+    wells_on (steps.Gives_up_commit {k = k} n b None gives has pends live) granted ss news rooted nodes calls now = draft.quiet E A G Here input said received k calls now [] tt
+    wells_on (steps.Rests {k = k}) granted ss news rooted nodes calls now = draft.quiet E A G Here input said received k calls now [] tt
+    wells_on (steps.Refuses {k = k} n s r is) granted ss news rooted nodes calls now = draft.quiet E A G Here input said received k calls now [] tt
+    wells_on (steps.Completes_at_once {k = k} n s d call completes none) granted ss news rooted nodes calls now = draft.quiet E A G Here input said received k calls now [] tt
+    wells_on (steps.Makes_record {k = k} n s r d call makes) granted ss news rooted nodes calls now = draft.quiet E A G Here input said received k calls now [] tt
+    wells_on (steps.Forces_given {k = k} n id m b call named) granted ss news rooted nodes calls now = draft.quiet E A G Here input said received k calls now [] tt
+    wells_on (steps.Forces_commit {k = k} n id b call named) granted ss news rooted nodes calls now = draft.quiet E A G Here input said received k calls now [] tt
+    wells_on (steps.Forces_rollback {k = k} n id b call named) granted ss news rooted nodes calls now = draft.quiet E A G Here input said received k calls now [] tt
+    wells_on (steps.Hides {k = k} n mixed id s call found) granted ss news rooted nodes calls now = draft.quiet E A G Here input said received k calls now [] tt
+    wells_on (steps.Advises {k = k} n a call) granted ss news rooted nodes calls now = draft.quiet E A G Here input said received k calls now [] tt

@@ -4,17 +4,17 @@ use Rattle.std.proofs.Common.{◌≡◌, ℕ, Bool, true, false, List, [], ◌�
 use Rattle.std.specs.Prelude.{IfSome}
 use Rattle.std.specs.List.{AllByRecursion}
 use Rattle.session_tree.specs.Live.{is_branch}
-use Rattle.node_rules.specs.Data.{BranchId, Kind, Msg, RedoRecord, Standing, Input}
+use Rattle.node_rules.specs.Data.{BranchId, Kind, Msg, RedoRecord, KeptRow, Input}
 use Rattle.node_rules.specs.Data.decisions
 use Rattle.node_rules.specs.Data.inputs
 use Rattle.node_rules.specs.Data.kinds
 use Rattle.node_rules.specs.Data.records
-use Rattle.node_rules.specs.NodeState.{NodeState, Deed}
-use Rattle.node_rules.specs.Turn.{Is_gone, stand_of, turn_of, heard, deed_of, stamped}
+use Rattle.node_rules.specs.NodeState.{NodeState, TurnDraft}
+use Rattle.node_rules.specs.Turn.{Is_gone, status_of, turn_of, heard, draft_of, stamped}
 use Rattle.agreement.specs.Events.{Forest, Event, Beyond, Quiet, Dropped, Send_ack, Send_commit, Forget, learned, Cleared, Gone}
 use Rattle.run_rules.specs.Data.{Turn, Happening}
 use Rattle.run_rules.specs.Data.happenings
-use Rattle.run_rules.specs.Facts.{Facts, first_facts, place_at, node_at, records_at, facts_after}
+use Rattle.run_rules.specs.Facts.{Facts, first_facts, place_at, node_at, records_at}
 use Rattle.run_rules.specs.Lawful.{MayTurn, MayHappen, IsOwed, History, IsLawfulRun}
 use Rattle.run_base_laws.specs.RunEvents.{wrote_event, with_event, lives_at, with_record, with_exits}
 use Rattle.run_base_laws.specs.EventRows.{RowsAre, MayStand}
@@ -50,11 +50,12 @@ use Rattle.tree_laws.proofs.RowLemmas.{RowLeads, rows_lead}
 use Rattle.tree_laws.proofs.SettleRunLemmas.{all, ends, wider}
 use Rattle.tree_laws.proofs.SiteLemmas.{sites_decide}
 use Rattle.tree_laws.proofs.TellWhyLemmas.{LearnsCommit, AcksSo, Learns_it, Knows_it, Has_gone, TellsSo, tells_on}
+use Rattle.tree_laws.proofs.AtTurn.{at_turn}
 
 -- ---- a node that hears
 
-pub gone_before : (k : NodeState) (input : Input) (b : BranchId) → stand_of (heard k input) b ≡ Is_gone → stand_of k b ≡ Is_gone
-unfolding stand_of
+pub gone_before : (k : NodeState) (input : Input) (b : BranchId) → status_of (heard k input) b ≡ Is_gone → status_of k b ≡ Is_gone
+unfolding status_of
 gone_before k (inputs.Message m) b gone = gone
 gone_before k (inputs.Call n s) b gone = gone
 gone_before k (inputs.GiveUp n) b gone = gone
@@ -92,23 +93,16 @@ module _ (t : History) (whole : IsLawfulRun t) where
 
   module _ (before : List Happening) (u : Turn) (rest : List Happening) (is : before ++ happenings.Turn u ∷ rest ≡ t.trace) (lawful : IsLawfulRun (so_far t before)) (k : NodeState) (may : MayTurn t.places (f_at t before) u k)
       (law : Told (f_at t before) (e_at t before) (happenings.Turn u)) where
-    abbrev f : Facts
-    f = f_at t before
-
-    abbrev e : List Event
-    e = e_at t before
-
-    abbrev g : Facts
-    g = facts_after t.places t.commands f (happenings.Turn u)
+    open at_turn t whole before u rest is use {f, e, g}
 
     abbrev r : List Event
     r = with_exits f g u e
 
-    abbrev ks : List Standing
+    abbrev ks : List KeptRow
     ks = k.stored.durable.kept
 
-    abbrev d : Deed
-    d = deed_of (place_at t.places u.node) k u.input
+    abbrev d : TurnDraft
+    d = draft_of (place_at t.places u.node) k u.input
 
     added : Added Any e r
     added = exits_added f g u e
@@ -131,7 +125,7 @@ module _ (t : History) (whole : IsLawfulRun t) where
     stands = (tells_so t.places t.commands t.of_a_script.each f e (happenings.Turn u) (run_stands (so_far t before) lawful) (k, may)).0
 
     -- the neighbours beyond a branch are not the one that its row has as toward
-    apart : (b : BranchId) (s : Standing) → IsRowLike ks b s → (x : BranchId) → Beyond p x b → is_branch x s.toward ≡ false
+    apart : (b : BranchId) (s : KeptRow) → IsRowLike ks b s → (x : BranchId) → Beyond p x b → is_branch x s.toward ≡ false
     apart b s like x edge = by s.toward refl
       where
         by : (o : Option BranchId) → s.toward ≡ o → is_branch x o ≡ false
@@ -140,15 +134,15 @@ module _ (t : History) (whole : IsLawfulRun t) where
             let lead : Leads (ends t whole) (all t whole) _ b q = row_toward t whole (births_of (so_far t before)) (wider t whole before u rest is) ks names leads b s like q at in
             not_back p (runs_have_forests t whole) x b q edge lead.member lead.not_site lead.toward
 
-    cleared : (b : BranchId) (s : Standing) → IsRowLike ks b s → AllAcked e s → Cleared p r b
+    cleared : (b : BranchId) (s : KeptRow) → IsRowLike ks b s → AllAcked e s → Cleared p r b
     cleared b s like acked = cleared_later p added b (row_cleared p (runs_have_forests t whole) e ks b s like beyond_named (apart b s like) acked)
 
     -- ---- an Ack
 
-    row_not_gone : (b : BranchId) (s : Standing) → IsRowLike ks b s → stand_of (heard k u.input) b ≡ Is_gone → ⊥
+    row_not_gone : (b : BranchId) (s : KeptRow) → IsRowLike ks b s → status_of (heard k u.input) b ≡ Is_gone → ⊥
     row_not_gone b s like gone = kept_not_gone k b (any_found _ ks like.row like.stands) (gone_before k u.input b gone)
 
-    learned_now_or : (b : BranchId) (x : BranchId) → Beyond p b x → (s : Standing) → IsRowLike ks b s → u.wrote ≡ d.wrote → AcksSo e (heard k u.input) d b → (n : ℕ) × (learned r b ≡ Some (decisions.Commit n))
+    learned_now_or : (b : BranchId) (x : BranchId) → Beyond p b x → (s : KeptRow) → IsRowLike ks b s → u.wrote ≡ d.wrote → AcksSo e (heard k u.input) d b → (n : ℕ) × (learned r b ≡ Some (decisions.Commit n))
     learned_now_or b x edge s like wrote (Learns_it now) =
         let it = learned_by_record u.node e u.wrote b stands (subst (λ w. LearnsCommit w b) (sym wrote) now) in
         (it.0, learned_later b (decisions.Commit it.0) (leavers_added (lives_at (node_at f u.node)) (lives_at (node_at g u.node)) u.sent (lives_at (node_at f u.node)) (with_record u e) (λ c at. at)) it.1)

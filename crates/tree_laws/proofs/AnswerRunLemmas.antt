@@ -8,8 +8,8 @@ use Rattle.node_rules.specs.Data.kinds
 use Rattle.node_rules.specs.Data.phases
 use Rattle.node_rules.specs.declared.work.Going.{Going}
 use Rattle.node_rules.specs.Inputs.{Came}
-use Rattle.node_rules.specs.NodeState.{NodeState, Branch, Deed, live_at, branch_at}
-use Rattle.node_rules.specs.Turn.{turn_of, start_of, heard, deed_of, stamped}
+use Rattle.node_rules.specs.NodeState.{NodeState, Branch, TurnDraft, live_at, branch_at}
+use Rattle.node_rules.specs.Turn.{turn_of, start_of, heard, draft_of, stamped}
 use Rattle.run_rules.specs.Data.{Turn, Happening}
 use Rattle.run_rules.specs.Data.happenings
 use Rattle.run_rules.specs.Facts.{Facts, first_facts, place_at, node_at, kept_after, facts_after, facts_of}
@@ -33,6 +33,7 @@ use Rattle.tree_laws.proofs.EachNodeLemmas.{EachNode, turn_nodes, quiet_says, no
 use Rattle.tree_laws.proofs.PrefixLemmas.{so_far, f_at, facts_on, lawful_on, keep_prefix}
 use Rattle.tree_laws.proofs.WhyLemmas.{SaidWhy, why_on}
 use Rattle.tree_laws.proofs.AnswerStepLemmas.{answers_on}
+use Rattle.tree_laws.proofs.AtPart.{at_part}
 
 -- ---- a node that hears
 
@@ -75,17 +76,13 @@ unfolding start_of
 start_answers ms zs = tt
 
 module _ (t : History) (before : List Happening) (lawful : IsLawfulRun (so_far t before)) (now : AnswerStand (f_at t before)) where
-  abbrev f : Facts
-  f = f_at t before
-
-  abbrev said : List Post
-  said = said_in f
+  open at_part t before use {f, said}
 
   -- ---- a turn
 
   module _ (u : Turn) (k : NodeState) (may : MayTurn t.places f u k) where
-    abbrev d : Deed
-    d = deed_of (place_at t.places u.node) k u.input
+    abbrev d : TurnDraft
+    d = draft_of (place_at t.places u.node) k u.input
 
     abbrev g : Facts
     g = facts_after t.places t.commands f (happenings.Turn u)

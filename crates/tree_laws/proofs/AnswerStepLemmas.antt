@@ -14,7 +14,7 @@ use Rattle.node_rules.specs.Data.votes
 use Rattle.node_rules.specs.declared.work.Going.{Going}
 use Rattle.node_rules.specs.Words.{same, numbered, set_numbered, put_item, drop_item}
 use Rattle.node_rules.specs.Inputs.{Came}
-use Rattle.node_rules.specs.NodeState.{NodeState, Branch, Deed, live_id, live_at, branch_at}
+use Rattle.node_rules.specs.NodeState.{NodeState, Branch, TurnDraft, live_id, live_at, branch_at}
 use Rattle.node_rules.specs.Statement.{ran, after_run}
 use Rattle.node_rules.specs.Calls.{with_edge, hears_reply}
 use Rattle.node_rules.specs.Prepare.{with_prepare_sent, ready, voted, has_voted, is_awaited, answers_first}
@@ -95,7 +95,7 @@ module _ (said : List Post) (p : Place) (input : Input) (came_ready : (from to :
     gone : (b : BranchId) → AllByRecursion Told (drop_item live_id k.lives b)
     gone b = all_without Told live_id k.lives b all
 
-  pub answers_on : {k : NodeState} {d : Deed} → Step p input k d → OpensAtWork k → AllByRecursion Told k.lives → AllByRecursion Told d.after.lives
+  pub answers_on : {k : NodeState} {d : TurnDraft} → Step p input k d → OpensAtWork k → AllByRecursion Told k.lives → AllByRecursion Told d.after.lives
   answers_on (steps.Begins {k = k} n s call rows fit none step) works all = answers_on step (λ from to edge strength came. absurd (came_apart n s came call)) (all_last Told live_id k.lives _ all tt)
   answers_on (steps.Pends n l comment call has live code step) works all = answers_on step works all
   answers_on (steps.Lets_reads_go l comment b live begins step) works all = answers_on step works all

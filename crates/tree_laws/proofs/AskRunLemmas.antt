@@ -10,8 +10,8 @@ use Rattle.node_rules.specs.Data.{BranchId, Kind, Live, Post, Place, RedoRecord}
 use Rattle.node_rules.specs.Data.kinds
 use Rattle.node_rules.specs.Words.{same, numbered}
 use Rattle.node_rules.specs.Inputs.{Came}
-use Rattle.node_rules.specs.NodeState.{NodeState, Deed, live_id, live_at}
-use Rattle.node_rules.specs.Turn.{start_of, heard, deed_of}
+use Rattle.node_rules.specs.NodeState.{NodeState, TurnDraft, live_id, live_at}
+use Rattle.node_rules.specs.Turn.{start_of, heard, draft_of}
 use Rattle.agreement.specs.Events.{Event}
 use Rattle.run_rules.specs.Data.{Packet, Turn, Happening, Command}
 use Rattle.run_rules.specs.Data.happenings
@@ -47,7 +47,7 @@ use Rattle.tree_laws.proofs.EachNodeLemmas.{EachNode, turn_says, turn_nodes, qui
 
 -- ---- messages that came
 
-sent_first : (p q r rest : Bool) → p ≡ true → q ≡ true → r ≡ true → (((p && q) && r) || rest) ≡ true
+pub sent_first : (p q r rest : Bool) → p ≡ true → q ≡ true → r ≡ true → (((p && q) && r) || rest) ≡ true
 sent_first true true true rest one two three = refl
 sent_first true true false rest one two three = absurd cc
 sent_first true false r rest one two three = absurd cc
@@ -94,8 +94,8 @@ module _ (places : List Place) (asked : List Command) (each : (n : ℕ) (p : Pla
       abbrev p : Place
       p = place_at places u.node
 
-      abbrev d : Deed
-      d = deed_of p k u.input
+      abbrev d : TurnDraft
+      d = draft_of p k u.input
 
       abbrev g : Facts
       g = facts_after places asked f (happenings.Turn u)

@@ -19,7 +19,7 @@ use Rattle.node_rules.specs.declared.session.PendingCall.TheVariants as pending
 use Rattle.node_rules.specs.declared.work.Work.{Work}
 use Rattle.node_rules.specs.Words.{same, numbered, item_at, put_item, drop_item}
 use Rattle.node_rules.specs.Inputs.{Came, IsCall}
-use Rattle.node_rules.specs.NodeState.{NodeState, Branch, Deed, live_id, work_id, live_at, post, to_one, to_each}
+use Rattle.node_rules.specs.NodeState.{NodeState, Branch, TurnDraft, live_id, work_id, live_at, post, to_one, to_each}
 use Rattle.node_rules.specs.Names.{passed_on}
 use Rattle.node_rules.specs.Statement.{ran, after_run}
 use Rattle.node_rules.specs.Calls.{with_answer, answer_says, called, exec_to, next_child, strength_of, with_edge, waits_for_opened, hears_reply, nobody_at}
@@ -28,7 +28,7 @@ use Rattle.node_rules.specs.Prepare.{path_of, prepares, site_neighbors, with_pre
 use Rattle.node_rules.specs.Commit.{beyond}
 use Rattle.node_rules.specs.Recovery.{kept_told}
 use Rattle.node_rules.proofs.Steps as steps
-use Rattle.node_rules.proofs.Steps.{Step, Asked, Acting, Collects, Collected, Pointed, Says}
+use Rattle.node_rules.proofs.Steps.{Step, Asked, Acting, Collects, Collected, Says}
 use Rattle.run_rules.specs.Trail.{is_prepare}
 use Rattle.run_base_laws.specs.FreezeLaws.{was_asked}
 use Rattle.run_branch_laws.specs.WalkLaws.{is_below, was_sent}
@@ -41,7 +41,7 @@ use Rattle.run_base_laws.proofs.NeighborLemmas.{News}
 use Rattle.run_base_laws.proofs.NeighborStepLemmas.{begun_news, pends_news, lets_news, acked_news}
 use Rattle.run_base_laws.proofs.KindSayLemmas.{AllSay, one_says, each_says, told_says, passes_say, askings_say}
 use Rattle.run_base_laws.proofs.InTurnLemmas as turns
-use Rattle.run_base_laws.proofs.InTurnStepLemmas as deeds
+use Rattle.run_base_laws.proofs.InTurnStepLemmas as drafts
 use Rattle.run_branch_laws.proofs.FreezeLemmas.{no_ask, IsPlain, plain_decisions, plain_asks, prepares_ask, asked_split}
 use Rattle.run_branch_laws.proofs.WalkLemmas.{unasked_below}
 use Rattle.run_branch_laws.proofs.FreezeStepLemmas as frost
@@ -69,11 +69,11 @@ Askers Here says after = (p c : BranchId) → was_asked says p c ≡ true → As
 plain_askers : (Here : BranchId → Type 0) (says : List Post) (after : NodeState) → AllSay IsPlain says → Askers Here says after
 plain_askers Here says after plain p c is = let none : was_asked says p c ≡ false = plain_asks p c says plain in absurd (cc (is, none))
 
-answer_plain : (x : Branch) (a : Answer) (o : Option BranchId) → AllSay IsPlain (answer_says x a o)
+pub answer_plain : (x : Branch) (a : Answer) (o : Option BranchId) → AllSay IsPlain (answer_says x a o)
 answer_plain x a None = tt
 answer_plain x a (Some parent) = (refl, tt)
 
-exec_plain : (ss : List Session) (x : Branch) (i : ℕ) (s : Stmt) (given : ℕ) (o : Option BranchId) → AllSay IsPlain (exec_to ss x i s given o)
+pub exec_plain : (ss : List Session) (x : Branch) (i : ℕ) (s : Stmt) (given : ℕ) (o : Option BranchId) → AllSay IsPlain (exec_to ss x i s given o)
 exec_plain ss x i s given None = tt
 exec_plain ss x i s given (Some c) = (refl, tt)
 
@@ -117,7 +117,7 @@ module _ (E : BranchId → Option ℕ) (A : BranchId → Option BranchId) (G Her
   Then says l w = AsTold (said ++ says) l
 
   -- what a step leaves
-  abbrev pub Leaves : Deed → Type 0
+  abbrev pub Leaves : TurnDraft → Type 0
   Leaves d = EachLive (Then d.says) d.after.lives d.after.works × Askers Here d.says d.after
 
   -- a Prepare that came was sent
@@ -327,11 +327,11 @@ module _ (E : BranchId → Option ℕ) (A : BranchId → Option BranchId) (G Her
       works_on : {k : NodeState} (ss : SessionsFit k) (nodes : Nodes k) (ice : Ices k) (x : Branch) {s : Stmt} {given : ℕ} → Asked k input x s given → x.live.phase ≡ phases.Working
       works_on {k = k} ss nodes ice x asked = frost.asked_works E A G Here input said received prepared k ss nodes ice asked
 
-      pub told_on : {k : NodeState} {d : Deed} → Step p input k d → SessionsFit k → News (frost.Unasking E A G Here input said received) p input k → Nodes k → Ices k → Olds k → Leaves d
+      pub told_on : {k : NodeState} {d : TurnDraft} → Step p input k d → SessionsFit k → News (frost.Unasking E A G Here input said received) p input k → Nodes k → Ices k → Olds k → Leaves d
       told_on (steps.Begins {k = k} n s call rows range none step) ss news nodes ice now =
           let root = news.root n s call rows none in
           told_on step (begun_so k ss p n) (begun_news (frost.Unasking E A G Here input said received) p input k n news)
-          (deeds.begins_so E A G Here input said received k nodes (fresh_root p k (new_root p k n)) refl (place (new_root p k n) refl) root.0)
+          (drafts.begins_so E A G Here input said received k nodes (fresh_root p k (new_root p k n)) refl (place (new_root p k n) refl) root.0)
           (frost.begins_ice E A G Here input said received prepared k ice (fresh_root p k (new_root p k n)) refl root.1)
           (each_begun Old Old k.lives k.works now (fresh_root p k (new_root p k n)) (working_told said (new_root p k n) None phases.Working [] _ refl) (λ y v live any is. is))
       told_on (steps.Pends {k = k} n l given call has live code step) ss news nodes ice now = told_on step (pends_so k ss n pending.Commit) (pends_news (frost.Unasking E A G Here input said received) p input k n given call news) nodes ice now
@@ -339,12 +339,12 @@ module _ (E : BranchId → Option ℕ) (A : BranchId → Option BranchId) (G Her
       told_on (steps.Counts_ack {k = k} s from kept came counts step) ss news nodes ice now = told_on step (record { roots = ss.roots; above = ss.above }) (acked_news (frost.Unasking E A G Here input said received) p input k _ news) nodes ice now
       told_on (steps.Sends {k = k} posts why) ss news nodes ice now = same_lives k now posts _ (says_told k now why)
       told_on (steps.Runs {k = k} x s given t asked way) ss news nodes ice now =
-          answers k now (record x { live = after_run x.live (ran p k x.live.me s t) }) _ _ (deeds.asked_mine E A G Here input said received k asked) (works_on ss nodes ice x asked)
-      told_on (steps.Goes_nowhere {k = k} x s given r asked way) ss news nodes ice now = answers k now x _ _ (deeds.asked_mine E A G Here input said received k asked) (works_on ss nodes ice x asked)
-      told_on (steps.Calls {k = k} x s given i table asked way) ss news nodes ice now = calls k now x i (passed_on s table) given k.sessions _ (deeds.asked_mine E A G Here input said received k asked) (works_on ss nodes ice x asked)
+          answers k now (record x { live = after_run x.live (ran p k x.live.me s t) }) _ _ (drafts.asked_mine E A G Here input said received k asked) (works_on ss nodes ice x asked)
+      told_on (steps.Goes_nowhere {k = k} x s given r asked way) ss news nodes ice now = answers k now x _ _ (drafts.asked_mine E A G Here input said received k asked) (works_on ss nodes ice x asked)
+      told_on (steps.Calls {k = k} x s given i table asked way) ss news nodes ice now = calls k now x i (passed_on s table) given k.sessions _ (drafts.asked_mine E A G Here input said received k asked) (works_on ss nodes ice x asked)
       told_on (steps.Opens {k = k} x s given node link table asked way) ss news nodes ice now =
           let says : List Post = post x.live.me (nobody_at node) (kinds.Open (next_edge x.live) x.live.root (x.live.depth + 1)) in
-          (works k now says x.live (waits_for_opened x link (passed_on s table) given).work (deeds.asked_mine E A G Here input said received k asked) (refl, tt) (works_on ss nodes ice x asked), plain_askers Here says _ (refl, tt))
+          (works k now says x.live (waits_for_opened x link (passed_on s table) given).work (drafts.asked_mine E A G Here input said received k asked) (refl, tt) (works_on ss nodes ice x asked), plain_askers Here says _ (refl, tt))
       told_on (steps.Goes_on {k = k} x from strength g link opened) ss news nodes ice now =
           calls k now (with_edge x (new_edge from link strength)) (length x.live.edges + 1) g.statement (g.room - 1) k.sessions _ (work_is k x.live.me x opened.live)
           (frost.waits_working E A G Here input said received prepared k ss nodes ice x g opened.live opened.going)

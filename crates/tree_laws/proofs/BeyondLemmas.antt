@@ -53,7 +53,7 @@ module _ (bs : List Born) (said : List Post) (known : trees.Known bs said) where
 
 -- ---- a child whose answer came
 
-or_none : (p q : Bool) → (p || q) ≡ false → (p ≡ false) × (q ≡ false)
+pub or_none : (p q : Bool) → (p || q) ≡ false → (p ≡ false) × (q ≡ false)
 or_none true q is = absurd cc
 or_none false q is = (refl, is)
 

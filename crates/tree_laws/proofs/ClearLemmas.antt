@@ -8,9 +8,9 @@ use Rattle.commit_forget.specs.declared.next.Beyond.{Beyond as Neighbor}
 use Rattle.commit_forget.specs.Beyond.{beyond, parent_beyond, kid_beyond}
 use Rattle.redo_record.specs.declared.durable.Kid.{Kid}
 use Rattle.session_tree.specs.Live.{is_branch}
-use Rattle.node_rules.specs.Data.{BranchId, Standing}
+use Rattle.node_rules.specs.Data.{BranchId, KeptRow}
 use Rattle.node_rules.specs.Words.{same}
-use Rattle.node_rules.specs.NodeState.{standing_id}
+use Rattle.node_rules.specs.NodeState.{kept_row_id}
 use Rattle.agreement.specs.Events.{Forest, IsForest, Event, Beyond, Send_ack, Has, Cleared, site_of}
 use Rattle.run_base_laws.specs.NodeLaws.{unacked_kid}
 use Rattle.run_branch_laws.specs.TowardLaws.{IsRowLike, AllAcked}
@@ -20,11 +20,11 @@ use Rattle.tree_laws.specs.BeyondLaws.{IsNamed}
 use Rattle.tree_laws.specs.NameLaws.{RowNames}
 use Rattle.tree_laws.proofs.RowLemmas.{kid_branch}
 
-all_parts : {A : Type 0} (P : A → Type 0) (xs ys : List A) → AllByRecursion P (xs ++ ys) → AllByRecursion P xs × AllByRecursion P ys
+pub all_parts : {A : Type 0} (P : A → Type 0) (xs ys : List A) → AllByRecursion P (xs ++ ys) → AllByRecursion P xs × AllByRecursion P ys
 all_parts P [] ys all = (tt, all)
 all_parts P (x ∷ xs) ys all = let rest = all_parts P xs ys all.1 in ((all.0, rest.0), rest.1)
 
-module _ (t : List Event) (s : Standing) (x : BranchId) (apart : is_branch x s.toward ≡ false) where
+module _ (t : List Event) (s : KeptRow) (x : BranchId) (apart : is_branch x s.toward ≡ false) where
   abbrev HasAck : Neighbor → Type 0
   HasAck y = Has (Send_ack y.branch s.me) t
 
@@ -56,7 +56,7 @@ module _ (t : List Event) (s : Standing) (x : BranchId) (apart : is_branch x s.t
   named_acked (inr down) all = down_acked s.children down (all_parts HasAck (parent_beyond s s.parent) _ all).1
 
 -- a row that is like another names the same neighbours
-same_kids : (s row : Standing) → map unacked_kid s.children ≡ map unacked_kid row.children → map kid_branch s.children ≡ map kid_branch row.children
+same_kids : (s row : KeptRow) → map unacked_kid s.children ≡ map unacked_kid row.children → map kid_branch s.children ≡ map kid_branch row.children
 same_kids s row like = sym (map_after kid_branch unacked_kid kid_branch (λ c. refl) s.children) ∙ (ap (λ cs. map kid_branch cs) like ∙ map_after kid_branch unacked_kid kid_branch (λ c. refl) row.children)
 
 module _ (p : Forest) (forest : IsForest p) where
@@ -73,15 +73,15 @@ module _ (p : Forest) (forest : IsForest p) where
           absurd (omega (arith, one, two))
 
   -- all beyond acknowledged
-  pub row_cleared : (t : List Event) (ks : List Standing) (b : BranchId) (s : Standing) → IsRowLike ks b s → AllByRecursion (RowNames p t) ks → ((x : BranchId) → Beyond p x b → is_branch x s.toward ≡ false) → AllAcked t s → Cleared p t b
+  pub row_cleared : (t : List Event) (ks : List KeptRow) (b : BranchId) (s : KeptRow) → IsRowLike ks b s → AllByRecursion (RowNames p t) ks → ((x : BranchId) → Beyond p x b → is_branch x s.toward ≡ false) → AllAcked t s → Cleared p t b
   row_cleared t ks b s is names apart acked x edge =
-      let row : Standing = is.row in
-      let me : row.me ≡ b = item_is standing_id ks b row is.stands in
-      let mine : s.me ≡ b = ap (λ (y : Standing). y.me) is.like ∙ me in
-      let named : RowNames p t row = all_found (RowNames p t) standing_id ks b row names is.stands in
+      let row : KeptRow = is.row in
+      let me : row.me ≡ b = item_is kept_row_id ks b row is.stands in
+      let mine : s.me ≡ b = ap (λ (y : KeptRow). y.me) is.like ∙ me in
+      let named : RowNames p t row = all_found (RowNames p t) kept_row_id ks b row names is.stands in
       elim (named x (subst (λ c. Beyond p x c) (sym me) edge)) [
         | inr quiet ↦ inr quiet
         | inl here ↦ inl (subst (λ c. Has (Send_ack x c) t) mine
             (named_acked t s x (apart x edge)
-            (subst (λ cs. IsNamed s.parent cs x) (sym (same_kids s row (ap (λ (y : Standing). y.children) is.like))) (subst (λ o. IsNamed o (map kid_branch row.children) x) (sym (ap (λ (y : Standing). y.parent) is.like)) here)) acked))
+            (subst (λ cs. IsNamed s.parent cs x) (sym (same_kids s row (ap (λ (y : KeptRow). y.children) is.like))) (subst (λ o. IsNamed o (map kid_branch row.children) x) (sym (ap (λ (y : KeptRow). y.parent) is.like)) here)) acked))
       ]

@@ -22,7 +22,7 @@ use Rattle.run_base_laws.specs.RunEvents.{with_record, events_after}
 use Rattle.run_base_laws.specs.EventRows.{MayStand, HasRow, IsDone}
 use Rattle.run_base_laws.specs.EventLaws.{EachEventFrom, AtEachEvent}
 use Rattle.run_rules.proofs.AtNodeLemmas.{turn_elsewhere, turn_here, start_elsewhere, start_here}
-use Rattle.run_base_laws.proofs.EventsStandLemmas.{Stand, node_so, owned_so, stand_on, stand_first}
+use Rattle.run_base_laws.proofs.EventsStandLemmas.{BranchStatus, node_so, owned_so, stand_on, stand_first}
 use Rattle.run_base_laws.proofs.LaterLemmas.{Added, Any, added_on, added_wider, exit_made, learned_later, has_later, wrote_added, turn_added, stop_added}
 use Rattle.run_base_laws.proofs.NodesStandLemmas.{stored_rows}
 use Rattle.run_base_laws.proofs.StoredLemmas.{stored_with}
@@ -42,12 +42,12 @@ IsAlone p t b = (x : BranchId) → Beyond p x b → exit t x ≡ Some Quiet
 abbrev pub DecidedStays : Forest → Facts → List Event → Type 0
 DecidedStays p f t = (b : BranchId) (n : ℕ) → exit t b ≡ Some (Decided n) → HasRow b (stored_rows f b.node) ⊎ (IsDone t b ⊎ IsAlone p t b)
 
-done_later : {Q : Event → Type 0} {t r : List Event} → Added Q t r → (b : BranchId) → IsDone t b → IsDone r b
+pub done_later : {Q : Event → Type 0} {t r : List Event} → Added Q t r → (b : BranchId) → IsDone t b → IsDone r b
 done_later more b (inl learns) = inl (learned_later b _ more learns)
 done_later more b (inr forgot) = inr (has_later (Forget b) more forgot)
 
 -- a site without a parent and without children in its record has nobody that it names
-nobody : (parent : Option BranchId) (ps : List Peer) → (is_some parent || is_some (slice_get (map kid_of ps) 0)) ≡ false → (x : BranchId) → IsNamed parent (map (λ (c : Peer). c.branch) ps) x → ⊥
+pub nobody : (parent : Option BranchId) (ps : List Peer) → (is_some parent || is_some (slice_get (map kid_of ps) 0)) ≡ false → (x : BranchId) → IsNamed parent (map (λ (c : Peer). c.branch) ps) x → ⊥
 nobody (Some q) ps none x named = absurd cc
 nobody None (c ∷ ps) none x named = absurd cc
 nobody None [] none x (inl up) = absurd cc
@@ -72,7 +72,7 @@ module _ (p : Forest) where
           (put_there b (stored_by nothing_stored rs).durable.kept (decided_as r) (same_from_equal r.me b at))))
   decided_there t b rs _ heard at = absurd at
 
-  module _ (places : List Place) (asked : List Command) (each : (n : ℕ) (q : Place) → numbered places n ≡ Some q → IsPlace places n q) (f : Facts) (t : List Event) (stand : Stand places asked each f t) (now : DecidedStays p f t) where
+  module _ (places : List Place) (asked : List Command) (each : (n : ℕ) (q : Place) → numbered places n ≡ Some q → IsPlace places n q) (f : Facts) (t : List Event) (stand : BranchStatus places asked each f t) (now : DecidedStays p f t) where
     alone_later : (h : Happening) (b : BranchId) → IsAlone p t b → IsAlone p (events_after places asked f h t) b
     alone_later h b alone x edge = exit_on p places asked f t h x Quiet (alone x edge)
 
@@ -160,7 +160,7 @@ module _ (p : Forest) where
     stays_on _ may heard = now
 
   module _ (places : List Place) (asked : List Command) (each : (n : ℕ) (q : Place) → numbered places n ≡ Some q → IsPlace places n q) where
-    stays_each : (f : Facts) (t : List Event) (hs : List Happening) → Stand places asked each f t → DecidedStays p f t → IsLawful places asked f hs → EachEventFrom (WritesHeard p) places asked f t hs → EachEventFrom (λ g e h. DecidedStays p g e) places asked f t hs
+    stays_each : (f : Facts) (t : List Event) (hs : List Happening) → BranchStatus places asked each f t → DecidedStays p f t → IsLawful places asked f hs → EachEventFrom (WritesHeard p) places asked f t hs → EachEventFrom (λ g e h. DecidedStays p g e) places asked f t hs
     unfolding IsLawful
     stays_each f t [] stand now lawful heard = tt
     stays_each f t (h ∷ hs) stand now lawful heard = (

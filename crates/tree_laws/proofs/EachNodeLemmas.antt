@@ -4,8 +4,8 @@ use Rattle.std.specs.Prelude.{IfSome}
 use Rattle.tran_ids.proofs.NumberedLemmas.{set_or_before}
 use Rattle.node_rules.specs.Data.{Place, Post, RedoRecord}
 use Rattle.node_rules.specs.Words.{numbered, set_numbered}
-use Rattle.node_rules.specs.NodeState.{NodeState, Deed}
-use Rattle.node_rules.specs.Turn.{turn_of, start_of, deed_of}
+use Rattle.node_rules.specs.NodeState.{NodeState, TurnDraft}
+use Rattle.node_rules.specs.Turn.{turn_of, start_of, draft_of}
 use Rattle.run_rules.specs.Data.{Turn, Happening, Command}
 use Rattle.run_rules.specs.Data.happenings
 use Rattle.run_rules.specs.Facts.{Facts, first_facts, place_at, flat, node_at, kept_after, with_boot, facts_after, facts_of}
@@ -31,8 +31,8 @@ module _ (places : List Place) (asked : List Command) (f : Facts) where
     abbrev p : Place
     p = place_at places u.node
 
-    abbrev d : Deed
-    d = deed_of p k u.input
+    abbrev d : TurnDraft
+    d = draft_of p k u.input
 
     abbrev g : Facts
     g = facts_after places asked f (happenings.Turn u)
@@ -114,7 +114,7 @@ module _ (N : List Post → NodeState → Type 0) (begun : (ms : List Post) (rs 
 
   module _ (t : History) (more : (said says : List Post) (k : NodeState) → N said k → N (said ++ says) k)
       (turn : (before : List Happening) → IsLawfulRun (so_far t before) → EachNode N (f_at t before) → (u : Turn) (k : NodeState) → MayTurn t.places (f_at t before) u k
-      → N (said_in (f_at t before) ++ (deed_of (place_at t.places u.node) k u.input).says) (deed_of (place_at t.places u.node) k u.input).after) where
+      → N (said_in (f_at t before) ++ (draft_of (place_at t.places u.node) k u.input).says) (draft_of (place_at t.places u.node) k u.input).after) where
     goes_on : (before : List Happening) (h : Happening) → IsLawfulRun (so_far t before) → MayHappen t.places t.commands (f_at t before) h → EachNode N (f_at t before) → EachNode N (f_at t (before ++ h ∷ []))
     goes_on before h lawful may now =
         subst (EachNode N) (sym (one_on t before h))

@@ -17,7 +17,7 @@ use Rattle.agreement.specs.Events as exits
 use Rattle.agreement.specs.Events.{Event, Exit, first, only_at, exit}
 use Rattle.run_rules.specs.Data.{Turn, Happening, Command}
 use Rattle.run_rules.specs.Data.happenings
-use Rattle.run_rules.specs.Facts.{Facts, first_facts, flat, node_at, records_at, facts_after, facts_of}
+use Rattle.run_rules.specs.Facts.{Facts, first_facts, node_at, records_at, facts_after, facts_of}
 use Rattle.run_rules.specs.Lawful.{IsPlace, MayTurn, MayHappen, IsLawful, facts_at}
 use Rattle.run_base_laws.specs.RunEvents.{wrote_event, with_event, with_record, with_happening, events_after}
 use Rattle.run_base_laws.specs.NodeLaws.{EachFactFrom}
@@ -41,12 +41,9 @@ use Rattle.tree_laws.proofs.ForestRunLemmas.{run_known}
 use Rattle.tree_laws.proofs.LeadLemmas.{leads_so, ends_so}
 use Rattle.tree_laws.proofs.LeftLemmas.{asks_live, told_before}
 use Rattle.tree_laws.proofs.RecordRunLemmas.{writes}
+use Rattle.run_rules.proofs.AtNodeLemmas.{flat_some}
 
 -- ---- the record of a turn on its disk
-
-flat_some : {A : Type 0} (o : Option (Option A)) (a : A) → flat o ≡ Some a → o ≡ Some (Some a)
-flat_some None a is = absurd cc
-flat_some (Some x) a is = ap Some is
 
 there_too : {A B : Type 0} (xs : List A) (ys : List B) (n : ℕ) (x : A) → length xs ≡ length ys → numbered xs n ≡ Some x → (y : B) × (numbered ys n ≡ Some y)
 there_too xs ys zero x even is = absurd cc

@@ -4,7 +4,7 @@ use Rattle.std.specs.List.{AllByRecursion}
 use Rattle.tran_ids.proofs.BranchLemmas.{same_from_equal}
 use Rattle.node_rules.specs.Data.{BranchId, Live}
 use Rattle.node_rules.specs.Words.{same, item_at}
-use Rattle.node_rules.specs.NodeState.{NodeState, live_id, standing_id}
+use Rattle.node_rules.specs.NodeState.{NodeState, live_id, kept_row_id}
 use Rattle.run_rules.specs.Facts.{node_at}
 use Rattle.run_rules.specs.Lawful.{History, IsLawfulRun, facts_at}
 use Rattle.run_base_laws.specs.NodeLaws.{count_of}
@@ -47,4 +47,4 @@ each_found (x ∷ ls) one = (
 )
 
 pub lives_found : (t : History) → IsLawfulRun t → (n : ℕ) (k : NodeState) → node_at (facts_at t) n ≡ Some k → AllByRecursion (λ l. item_at live_id k.lives l.me ≡ Some l) k.lives
-lives_found t lawful n k up = each_found k.lives (λ b. (let one : count_of standing_id b k.stored.durable.kept + count_of live_id b k.lives ≤ 1 = ids_are_fresh t lawful n k up b in omega (arith, one)))
+lives_found t lawful n k up = each_found k.lives (λ b. (let one : count_of kept_row_id b k.stored.durable.kept + count_of live_id b k.lives ≤ 1 = ids_are_fresh t lawful n k up b in omega (arith, one)))

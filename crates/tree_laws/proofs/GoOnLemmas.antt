@@ -3,9 +3,9 @@ use Rattle.std.proofs.Common.{◌≡◌, ℕ, List, Some, None, subst}
 use Rattle.tran_ids.proofs.ListedLemmas.{item_is}
 use Rattle.node_rules.specs.Data.{BranchId, Live, Place}
 use Rattle.node_rules.specs.Words.{numbered}
-use Rattle.node_rules.specs.NodeState.{NodeState, Deed, live_id, live_at}
+use Rattle.node_rules.specs.NodeState.{NodeState, TurnDraft, live_id, live_at}
 use Rattle.node_rules.specs.Sessions.{session_at}
-use Rattle.node_rules.specs.Turn.{turn_of, deed_of}
+use Rattle.node_rules.specs.Turn.{turn_of, draft_of}
 use Rattle.node_rules.proofs.HeardLemmas.{sessions_heard}
 use Rattle.agreement.specs.Events.{Event}
 use Rattle.run_rules.specs.Births.{Born}
@@ -25,8 +25,8 @@ module _ (places : List Place) (asked : List Command) (each : (n : ℕ) (p : Pla
     abbrev p : Place
     p = place_at places u.node
 
-    abbrev d : Deed
-    d = deed_of p k u.input
+    abbrev d : TurnDraft
+    d = draft_of p k u.input
 
     abbrev May : BranchId → Type 0
     May = calls.May places asked each f t bs stand roots turns u k may

@@ -38,7 +38,7 @@ some_going i (Some g) waits = (g, refl)
 
 -- ---- a root that is given up needs a rollback
 
-code_at : (ss : List Session) (n code : ℕ) (b : BranchId) (o : Option Session) → numbered ss n ≡ o → (unwrap_or o fresh_session).root ≡ Some b → session_at (needs_rollback ss n code) n ≡ record (session_at ss n) { code = Some code }
+pub code_at : (ss : List Session) (n code : ℕ) (b : BranchId) (o : Option Session) → numbered ss n ≡ o → (unwrap_or o fresh_session).root ≡ Some b → session_at (needs_rollback ss n code) n ≡ record (session_at ss n) { code = Some code }
 code_at ss n code b None is has = absurd cc
 code_at ss n code b (Some s) is has = session_set ss n s (record (session_at ss n) { code = Some code }) is
 
@@ -82,7 +82,7 @@ module _ (said says : List Post) (G : Type 0) (me : BranchId) (es : List Edge) (
 
 -- ---- edges with the same children and weights
 
-numbered_back : (f : Edge → Edge) (es : List Edge) (i : ℕ) (y : Edge) → numbered (map f es) i ≡ Some y → (e : Edge) × (numbered es i ≡ Some e) × (f e ≡ y)
+pub numbered_back : (f : Edge → Edge) (es : List Edge) (i : ℕ) (y : Edge) → numbered (map f es) i ≡ Some y → (e : Edge) × (numbered es i ≡ Some e) × (f e ≡ y)
 numbered_back f es zero y at = absurd cc
 numbered_back f [] (suc i) y at = absurd cc
 numbered_back f (e ∷ es) (suc zero) y at = let it : Some (f e) ≡ Some y = at in (e, refl, (let here : f e ≡ y = cc in here))

@@ -16,7 +16,7 @@ use Rattle.node_rules.specs.declared.work.Work.{Work}
 use Rattle.node_rules.specs.Words.{same, numbered, put_item, drop_item}
 use Rattle.node_rules.specs.Refusals.{dtx}
 use Rattle.node_rules.specs.Inputs.{Came, IsCall}
-use Rattle.node_rules.specs.NodeState.{NodeState, Branch, Deed, live_id, work_id, live_at, branch_at, post, to_one, to_each, no_work}
+use Rattle.node_rules.specs.NodeState.{NodeState, Branch, TurnDraft, live_id, work_id, live_at, branch_at, post, to_one, to_each, no_work}
 use Rattle.node_rules.specs.Sessions.{session_at, with_call, needs_rollback}
 use Rattle.node_rules.specs.Names.{passed_on}
 use Rattle.node_rules.specs.Statement.{ran, after_run}
@@ -39,21 +39,14 @@ use Rattle.run_base_laws.proofs.NeighborLemmas.{News, reply_is}
 use Rattle.run_base_laws.proofs.NeighborStepLemmas.{begun_news, pends_news, lets_news, acked_news}
 use Rattle.run_base_laws.proofs.KindSayLemmas.{AllSay, one_says, each_says, told_says, passes_say, askings_say}
 use Rattle.run_base_laws.proofs.InTurnLemmas as turns
-use Rattle.run_base_laws.proofs.InTurnLemmas.{length_peers, numbered_split, calls_before, reply_for, one_waits, opened_none, none_waits, numbered_map}
-use Rattle.run_base_laws.proofs.InTurnStepLemmas as deeds
+use Rattle.run_base_laws.proofs.InTurnLemmas.{length_peers, reply_for, none_waits}
+use Rattle.run_base_laws.proofs.InTurnStepLemmas as drafts
 use Rattle.run_branch_laws.proofs.FreezeLemmas.{no_ask, IsPlain, plain_decisions, plain_asks, prepares_ask}
 use Rattle.run_branch_laws.proofs.FreezeStepLemmas as frost
 use Rattle.tree_laws.specs.WeightLaws.{ToldWeight, HoldsWeights}
 use Rattle.tree_laws.proofs.WeightStepLemmas.{told_more}
 use Rattle.tree_laws.proofs.HoldLemmas.{EdgeTells, none_here, some_going, given_code, holding_more, working_holding, asking_holding, collected_holding, voted_holding, called_holding, opened_told, heard_told}
-
-answer_plain : (x : Branch) (a : Answer) (o : Option BranchId) → AllSay IsPlain (answer_says x a o)
-answer_plain x a None = tt
-answer_plain x a (Some parent) = (refl, tt)
-
-exec_plain : (ss : List Session) (x : Branch) (i : ℕ) (s : Stmt) (given : ℕ) (o : Option BranchId) → AllSay IsPlain (exec_to ss x i s given o)
-exec_plain ss x i s given None = tt
-exec_plain ss x i s given (Some c) = (refl, tt)
+use Rattle.tree_laws.proofs.AskStepLemmas.{answer_plain, exec_plain}
 
 rolled : (l : Live) → AllSay IsPlain (to_each l.me kinds.Rollback (children_of l))
 rolled l = each_says IsPlain l.me kinds.Rollback (children_of l) refl
@@ -82,7 +75,7 @@ module _ (E : BranchId → Option ℕ) (A : BranchId → Option BranchId) (G Her
   Then says l w = HoldsWeights (said ++ says) (Goes l) l.me l.edges w
 
   -- what a step leaves
-  abbrev pub Leaves : Deed → Type 0
+  abbrev pub Leaves : TurnDraft → Type 0
   Leaves d = EachLive (Then d.says) d.after.lives d.after.works
 
   -- a branch that asked nobody, and whose children told their weights, but for the one over this edge
@@ -215,7 +208,7 @@ module _ (E : BranchId → Option ℕ) (A : BranchId → Option BranchId) (G Her
       asks_down (steps.Hears_last l from v b _ live answers other all collected) may = absurd (no_ask collected)
       asks_down (steps.At_point l from _ live came is pointed) may = elim pointed [ ]
 
-      acts_hold : {l : Live} {b : Bool} (a : Act) → Acting k input l b a → deeds.Granted E A G Here input said received (act_turn k l b a) → Leaves (act_turn k l b a)
+      acts_hold : {l : Live} {b : Bool} (a : Act) → Acting k input l b a → drafts.Granted E A G Here input said received (act_turn k l b a) → Leaves (act_turn k l b a)
       acts_hold {l = l} acts.Rest why granted = stays l [] tt (acting_old why)
       acts_hold {l = l} acts.AskDown why granted = asks_down why (λ none code. granted.grants l.me l (put_found live_id k.lives l) none code)
       acts_hold {l = l} acts.SayReady why granted = stays (ready l) _ (one_says IsPlain l.me kinds.Ready l.parent refl) (acting_old why)
@@ -248,11 +241,11 @@ module _ (E : BranchId → Option ℕ) (A : BranchId → Option BranchId) (G Her
   Weighed = (from to : BranchId) (call : ℕ) (weight : Option ℕ) (count : ℕ) (a : Answer) → Came input from to (kinds.Reply call weight count a) → ToldWeight said from call weight
 
   module _ (weighed : Weighed) (p : Place) (place : (b : BranchId) → b.node ≡ p.number → Here b) where
-    pub holds_on : {k : NodeState} {d : Deed} → Step p input k d → deeds.Granted E A G Here input said received d → SessionsFit k → News (frost.Unasking E A G Here input said received) p input k → Nodes k → Ices k → Olds k → Leaves d
+    pub holds_on : {k : NodeState} {d : TurnDraft} → Step p input k d → drafts.Granted E A G Here input said received d → SessionsFit k → News (frost.Unasking E A G Here input said received) p input k → Nodes k → Ices k → Olds k → Leaves d
     holds_on (steps.Begins {k = k} n s call rows range none step) granted ss news nodes ice now =
         let root = news.root n s call rows none in
         holds_on step granted (begun_so k ss p n) (begun_news (frost.Unasking E A G Here input said received) p input k n news)
-        (deeds.begins_so E A G Here input said received k nodes (fresh_root p k (new_root p k n)) refl (place (new_root p k n) refl) root.0)
+        (drafts.begins_so E A G Here input said received k nodes (fresh_root p k (new_root p k n)) refl (place (new_root p k n) refl) root.0)
         (frost.begins_ice E A G Here input said received prepared k ice (fresh_root p k (new_root p k n)) refl root.1)
         (each_begun Old Old k.lives k.works now (fresh_root p k (new_root p k n)) (fresh_holding said (fresh_root p k (new_root p k n)) (no_work (new_root p k n)) refl) (λ y v live any is. is))
     holds_on (steps.Pends {k = k} n l given call has live code step) granted ss news nodes ice now = holds_on step granted (pends_so k ss n pending.Commit) (pends_news (frost.Unasking E A G Here input said received) p input k n given call news) nodes ice now
@@ -261,16 +254,16 @@ module _ (E : BranchId → Option ℕ) (A : BranchId → Option BranchId) (G Her
     holds_on (steps.Sends {k = k} posts why) granted ss news nodes ice now = quiet k now posts (says_plain why)
     holds_on (steps.Runs {k = k} x s given t asked way) granted ss news nodes ice now =
         let free = asked_told k now ss nodes ice asked in
-        answers k now (record x { live = after_run x.live (ran p k x.live.me s t) }) _ (deeds.asked_mine E A G Here input said received k asked) free.0 free.1
+        answers k now (record x { live = after_run x.live (ran p k x.live.me s t) }) _ (drafts.asked_mine E A G Here input said received k asked) free.0 free.1
     holds_on (steps.Goes_nowhere {k = k} x s given r asked way) granted ss news nodes ice now =
-        let free = asked_told k now ss nodes ice asked in answers k now x _ (deeds.asked_mine E A G Here input said received k asked) free.0 free.1
+        let free = asked_told k now ss nodes ice asked in answers k now x _ (drafts.asked_mine E A G Here input said received k asked) free.0 free.1
     holds_on (steps.Calls {k = k} x s given i table asked way) granted ss news nodes ice now =
         let free = asked_told k now ss nodes ice asked in
-        calls k now k.sessions x i (passed_on s table) given (deeds.asked_mine E A G Here input said received k asked) free.0 (λ goes j e other at. free.1 goes j e at)
+        calls k now k.sessions x i (passed_on s table) given (drafts.asked_mine E A G Here input said received k asked) free.0 (λ goes j e other at. free.1 goes j e at)
     holds_on (steps.Opens {k = k} x s given node link table asked way) granted ss news nodes ice now =
         let free = asked_told k now ss nodes ice asked in
         let says : List Post = post x.live.me (nobody_at node) (kinds.Open (next_edge x.live) x.live.root (x.live.depth + 1)) in
-        put k now says x.live (waits_for_opened x link (passed_on s table) given).work (deeds.asked_mine E A G Here input said received k asked) (refl, tt)
+        put k now says x.live (waits_for_opened x link (passed_on s table) given).work (drafts.asked_mine E A G Here input said received k asked) (refl, tt)
         (working_holding said says (Goes x.live) x.live.me x.live.edges (waits_for_opened x link (passed_on s table) given).work free.0 (λ c. plain_asks x.live.me c says (refl, tt))
         (λ goes j e at. inr (told_more said says e.peer (call_at x.work j) e.weight (free.1 goes j e at))))
     holds_on (steps.Goes_on {k = k} x from strength g link opened) granted ss news nodes ice now =

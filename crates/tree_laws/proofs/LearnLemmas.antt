@@ -5,10 +5,10 @@ use Rattle.std.specs.Option.{option_to_list}
 use Rattle.std.specs.List.{AllByRecursion}
 use Rattle.tran_ids.proofs.ListedLemmas.{item_is}
 use Rattle.tran_ids.proofs.NumberedLemmas.{set_or_before}
-use Rattle.node_rules.specs.Data.{BranchId, Decision, Place, Post, RedoRecord, Standing}
+use Rattle.node_rules.specs.Data.{BranchId, Decision, Place, Post, RedoRecord, KeptRow}
 use Rattle.node_rules.specs.Data.records
 use Rattle.node_rules.specs.Words.{numbered, set_numbered}
-use Rattle.node_rules.specs.NodeState.{NodeState, standing_id}
+use Rattle.node_rules.specs.NodeState.{NodeState, kept_row_id}
 use Rattle.agreement.specs.Events.{Event, Forest}
 use Rattle.run_rules.specs.Data.{Happening, Command}
 use Rattle.run_rules.specs.Data.happenings
@@ -72,18 +72,18 @@ module _ (all : List Post) where
   first_leads places n = first_disk (AllByRecursion (RecordLeads all)) tt (tt, tt) places n
 
 -- a branch learns of the neighbour that its row has as toward, which is that of the forest
-module _ (ends bs : List Born) (all : List Post) (known : Known ends all) (wider : (x : Born) → Began bs x → Began ends x) (t : List Event) (ks : List Standing) (lead : AllByRecursion (RowLeads all) ks) (names : AllByRecursion (KeptIs (Began bs)) ks) where
+module _ (ends bs : List Born) (all : List Post) (known : Known ends all) (wider : (x : Born) → Began bs x → Began ends x) (t : List Event) (ks : List KeptRow) (lead : AllByRecursion (RowLeads all) ks) (names : AllByRecursion (KeptIs (Began bs)) ks) where
   abbrev p : Forest
   p = forest_by ends all
 
   learns_so : (b : BranchId) (d : Decision) → LearnsSo t ks b d → WasTold t (p.toward b) b d
   learns_so b d is =
       let like : IsRowLike ks b is.0 = is.1 in
-      let row : Standing = like.row in
-      let me : row.me ≡ b = item_is standing_id ks b row like.stands in
-      let named : KeptIs (Began bs) row = all_found (KeptIs (Began bs)) standing_id ks b row names like.stands in
-      let toward : row.toward ≡ Some is.2.0 = sym (ap (λ (s : Standing). s.toward) like.like) ∙ is.2.1 in
-      let leads : LeadsTo all row.me row.parent row.toward = all_found (RowLeads all) standing_id ks b row lead like.stands in
+      let row : KeptRow = like.row in
+      let me : row.me ≡ b = item_is kept_row_id ks b row like.stands in
+      let named : KeptIs (Began bs) row = all_found (KeptIs (Began bs)) kept_row_id ks b row names like.stands in
+      let toward : row.toward ≡ Some is.2.0 = sym (ap (λ (s : KeptRow). s.toward) like.like) ∙ is.2.1 in
+      let leads : LeadsTo all row.me row.parent row.toward = all_found (RowLeads all) kept_row_id ks b row lead like.stands in
       let told : LeadsTo all row.me named.born.parent (Some is.2.0) = subst (λ o. LeadsTo all row.me o (Some is.2.0)) (sym named.is_parent) (subst (LeadsTo all row.me row.parent) toward leads) in
       let fits = leads_so ends all known named.born row.me is.2.0 (wider named.born named.began) named.is_me told in
       let next : p.toward b ≡ is.2.0 = ap p.toward (sym me) ∙ fits.toward in

@@ -8,8 +8,8 @@ use Rattle.node_rules.specs.Data.{BranchId, Kind, Live, Act, Msg}
 use Rattle.node_rules.specs.Data.acts
 use Rattle.node_rules.specs.Data.kinds
 use Rattle.node_rules.specs.Words.{same, item_at}
-use Rattle.node_rules.specs.NodeState.{NodeState, Deed, live_id, live_at}
-use Rattle.node_rules.specs.Turn.{turn_of, heard, deed_of, stamped}
+use Rattle.node_rules.specs.NodeState.{NodeState, TurnDraft, live_id, live_at}
+use Rattle.node_rules.specs.Turn.{turn_of, heard, draft_of, stamped}
 use Rattle.node_rules.proofs.Steps.{Acting}
 use Rattle.node_rules.proofs.StepLemmas.{IsLive, acting_live, acting_so}
 use Rattle.agreement.specs.Events.{Forest, Event, Beyond, Quiet, first, exit_by, exit, site_of}
@@ -42,6 +42,7 @@ use Rattle.tree_laws.proofs.SettleLemmas.{born_of, live_in, none_below, none_abo
 use Rattle.tree_laws.proofs.SettleRunLemmas.{all, ends, known, more_sent, wider, asked_then, off_before}
 use Rattle.tree_laws.proofs.VoterRunLemmas.{voters_weigh}
 use Rattle.tree_laws.proofs.WhyLemmas.{Near, SaidWhy, why_on}
+use Rattle.tree_laws.proofs.AtTurn.{at_turn}
 
 module _ (t : History) (whole : IsLawfulRun t) where
   abbrev p : Forest
@@ -57,17 +58,10 @@ module _ (t : History) (whole : IsLawfulRun t) where
 
   module _ (before : List Happening) (u : Turn) (rest : List Happening) (is : before ++ happenings.Turn u ∷ rest ≡ t.trace) (lawful : IsLawfulRun (so_far t before)) (k : NodeState) (may : MayTurn t.places (f_at t before) u k)
       (laws : EachEventFrom Law t.places t.commands (f_at t before) (e_at t before) (happenings.Turn u ∷ rest)) where
-    abbrev f : Facts
-    f = f_at t before
+    open at_turn t whole before u rest is use {f, e, g}
 
-    abbrev e : List Event
-    e = e_at t before
-
-    abbrev g : Facts
-    g = facts_after t.places t.commands f (happenings.Turn u)
-
-    abbrev d : Deed
-    d = deed_of (place_at t.places u.node) k u.input
+    abbrev d : TurnDraft
+    d = draft_of (place_at t.places u.node) k u.input
 
     later : EachEventFrom (HasToldAll (all t whole)) t.places t.commands f e (happenings.Turn u ∷ rest)
     later = told_all f e (happenings.Turn u ∷ rest) laws

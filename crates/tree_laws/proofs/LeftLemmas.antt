@@ -4,8 +4,8 @@ use Rattle.std.specs.Prelude.{IfSome}
 use Rattle.std.specs.List.{AllByRecursion}
 use Rattle.node_rules.specs.Data.{BranchId, Kind, Post, Place}
 use Rattle.node_rules.specs.Words.{numbered}
-use Rattle.node_rules.specs.NodeState.{NodeState, Deed, live_id}
-use Rattle.node_rules.specs.Turn.{turn_of, deed_of}
+use Rattle.node_rules.specs.NodeState.{NodeState, TurnDraft, live_id}
+use Rattle.node_rules.specs.Turn.{turn_of, draft_of}
 use Rattle.agreement.specs.Events.{Event, exit}
 use Rattle.run_rules.specs.Data.{Turn, Happening, Command}
 use Rattle.run_rules.specs.Data.happenings
@@ -48,7 +48,7 @@ module _ (places : List Place) (asked : List Command) (each : (n : ℕ) (p : Pla
           → was_sent kind (map post_of u.sent) b c ≡ true → exit (events_after places asked f (happenings.Turn u) t) b ≡ None
       unfolding turn_of
       turn_asks_live u k may false cut owed b c is =
-          let d : Deed = deed_of (place_at places u.node) k u.input in
+          let d : TurnDraft = draft_of (place_at places u.node) k u.input in
           let g : Facts = facts_after places asked f (happenings.Turn u) in
           let says : map post_of u.sent ≡ d.says = ap (λ xs. map post_of xs) owed.1 ∙ posts_back d.after.clock d.says in
           let new : was_sent is_prepare d.says b c ≡ true = sent_wider kind is_prepare asks d.says b c (subst (λ xs. was_sent kind xs b c ≡ true) says is) in

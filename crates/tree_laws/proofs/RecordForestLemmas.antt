@@ -4,10 +4,10 @@ use Rattle.std.specs.Prelude.{IfSome}
 use Rattle.std.specs.List.{AllByRecursion}
 use Rattle.tran_ids.proofs.ListedLemmas.{item_is}
 use Rattle.session_tree.specs.Live.{is_branch}
-use Rattle.node_rules.specs.Data.{BranchId, Decision, RedoRecord, Standing}
+use Rattle.node_rules.specs.Data.{BranchId, Decision, RedoRecord, KeptRow}
 use Rattle.node_rules.specs.Data.decisions
 use Rattle.node_rules.specs.Data.records
-use Rattle.node_rules.specs.NodeState.{NodeState, standing_id}
+use Rattle.node_rules.specs.NodeState.{NodeState, kept_row_id}
 use Rattle.agreement.specs.Events.{Forest, Event, Learn, Send_forgotten, Has, Heard, Cleared, site_of}
 use Rattle.run_rules.specs.Data.{Happening}
 use Rattle.run_rules.specs.Data.happenings
@@ -71,21 +71,21 @@ module _ (p : Forest) (t : List Event) where
 
 module _ (t : History) (whole : IsLawfulRun t) where
   -- the row of a branch has as toward its neighbour by the forest
-  pub row_toward : (bs : List Born) → ((x : Born) → Began bs x → Began (ends t whole) x) → (ks : List Standing) → AllByRecursion (KeptIs (Began bs)) ks → AllByRecursion (RowLeads (all t whole)) ks → (b : BranchId) (s : Standing) → IsRowLike ks b s
+  pub row_toward : (bs : List Born) → ((x : Born) → Began bs x → Began (ends t whole) x) → (ks : List KeptRow) → AllByRecursion (KeptIs (Began bs)) ks → AllByRecursion (RowLeads (all t whole)) ks → (b : BranchId) (s : KeptRow) → IsRowLike ks b s
       → (q : BranchId) → s.toward ≡ Some q → Leads (ends t whole) (all t whole) (known t whole) b q
   row_toward bs wide ks names leads b s is q at =
-      let row : Standing = is.row in
-      let me : row.me ≡ b = item_is standing_id ks b row is.stands in
-      let named : KeptIs (Began bs) row = all_found (KeptIs (Began bs)) standing_id ks b row names is.stands in
-      let toward : row.toward ≡ Some q = sym (ap (λ (y : Standing). y.toward) is.like) ∙ at in
-      let lead : LeadsTo (all t whole) row.me row.parent row.toward = all_found (RowLeads (all t whole)) standing_id ks b row leads is.stands in
+      let row : KeptRow = is.row in
+      let me : row.me ≡ b = item_is kept_row_id ks b row is.stands in
+      let named : KeptIs (Began bs) row = all_found (KeptIs (Began bs)) kept_row_id ks b row names is.stands in
+      let toward : row.toward ≡ Some q = sym (ap (λ (y : KeptRow). y.toward) is.like) ∙ at in
+      let lead : LeadsTo (all t whole) row.me row.parent row.toward = all_found (RowLeads (all t whole)) kept_row_id ks b row leads is.stands in
       let told : LeadsTo (all t whole) row.me named.born.parent (Some q) = subst (λ o. LeadsTo (all t whole) row.me o (Some q)) (sym named.is_parent) (subst (LeadsTo (all t whole) row.me row.parent) toward lead) in
       subst (λ c. Leads (ends t whole) (all t whole) (known t whole) c q) me (leads_so (ends t whole) (all t whole) (known t whole) named.born row.me q (wide named.born named.began) named.is_me told)
 
   abbrev p : Forest
   p = forest_of t
 
-  forgets_so : (e : List Event) (bs : List Born) → ((x : Born) → Began bs x → Began (ends t whole) x) → (ks : List Standing) → AllByRecursion (KeptIs (Began bs)) ks → AllByRecursion (RowLeads (all t whole)) ks → AllByRecursion (RowNames p e) ks → (r : RedoRecord) → GoesByRow e ks r
+  forgets_so : (e : List Event) (bs : List Born) → ((x : Born) → Began bs x → Began (ends t whole) x) → (ks : List KeptRow) → AllByRecursion (KeptIs (Began bs)) ks → AllByRecursion (RowLeads (all t whole)) ks → AllByRecursion (RowNames p e) ks → (r : RedoRecord) → GoesByRow e ks r
       → Forgets p e r
   forgets_so e bs wide ks names leads beyond_named (records.Forgot b) goes = by goes.2
     where
@@ -96,7 +96,7 @@ module _ (t : History) (whole : IsLawfulRun t) where
           inr (lead.not_site, subst (λ q. Has (Send_forgotten q b) e) (sym lead.toward) after.2)
   forgets_so e bs wide ks names leads beyond_named _ goes = tt
 
-  wrote_forgets : (e : List Event) (bs : List Born) → ((x : Born) → Began bs x → Began (ends t whole) x) → (ks : List Standing) → AllByRecursion (KeptIs (Began bs)) ks → AllByRecursion (RowLeads (all t whole)) ks → AllByRecursion (RowNames p e) ks → (w : Option RedoRecord)
+  wrote_forgets : (e : List Event) (bs : List Born) → ((x : Born) → Began bs x → Began (ends t whole) x) → (ks : List KeptRow) → AllByRecursion (KeptIs (Began bs)) ks → AllByRecursion (RowLeads (all t whole)) ks → AllByRecursion (RowNames p e) ks → (w : Option RedoRecord)
       → IfSome w (GoesByRow e ks) → IfSome w (Forgets p e)
   wrote_forgets e bs wide ks names leads beyond_named None goes = tt
   wrote_forgets e bs wide ks names leads beyond_named (Some r) goes = forgets_so e bs wide ks names leads beyond_named r goes

@@ -3,8 +3,8 @@ use Rattle.std.proofs.Common.{◌≡◌, ℕ, Bool, true, false, List, [], ◌�
 use Rattle.std.specs.Prelude.{IfSome}
 use Rattle.node_rules.specs.Data.{Place}
 use Rattle.node_rules.specs.Words.{numbered}
-use Rattle.node_rules.specs.NodeState.{NodeState, Deed}
-use Rattle.node_rules.specs.Turn.{turn_of, deed_of}
+use Rattle.node_rules.specs.NodeState.{NodeState, TurnDraft}
+use Rattle.node_rules.specs.Turn.{turn_of, draft_of}
 use Rattle.agreement.specs.Events.{Event}
 use Rattle.run_rules.specs.Data.{Turn, Happening, Command}
 use Rattle.run_rules.specs.Data.happenings
@@ -29,8 +29,8 @@ use Rattle.tree_laws.proofs.RecordStepLemmas.{leads_on}
 module _ (places : List Place) (asked : List Command) (each : (n : ℕ) (p : Place) → numbered places n ≡ Some p → IsPlace places n p) where
   module _ (f : Facts) (t : List Event) (bs : List Born) (stand : StandBorn places asked each f t bs) (roots : RootsStand places asked each f) (turned : CallsStand f) (ice : FreezeStand f) (now : AskStand f bs) where
     module _ (u : Turn) (k : NodeState) (may : MayTurn places f u k) where
-      abbrev d : Deed
-      d = deed_of (place_at places u.node) k u.input
+      abbrev d : TurnDraft
+      d = draft_of (place_at places u.node) k u.input
 
       leads : IfSome d.wrote (RecordLeads (said_in f))
       leads =

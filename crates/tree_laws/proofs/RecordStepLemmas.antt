@@ -15,7 +15,7 @@ use Rattle.node_rules.specs.Data.acts
 use Rattle.node_rules.specs.Data.phases
 use Rattle.node_rules.specs.declared.session.PendingCall.TheVariants as pending
 use Rattle.node_rules.specs.Words.{numbered}
-use Rattle.node_rules.specs.NodeState.{NodeState, Deed}
+use Rattle.node_rules.specs.NodeState.{NodeState, TurnDraft}
 use Rattle.node_rules.specs.Client.{new_root, fresh_root}
 use Rattle.node_rules.specs.Prepare.{path_of, is_place, is_prepared, act_turn}
 use Rattle.node_rules.proofs.Steps as steps
@@ -27,7 +27,7 @@ use Rattle.run_base_laws.proofs.RootLemmas.{SessionsFit, pends_so, begun_so}
 use Rattle.run_base_laws.proofs.NeighborLemmas.{News}
 use Rattle.run_base_laws.proofs.NeighborStepLemmas.{begun_news, pends_news, lets_news, acked_news}
 use Rattle.run_base_laws.proofs.InTurnLemmas as turns
-use Rattle.run_base_laws.proofs.InTurnStepLemmas as deeds
+use Rattle.run_base_laws.proofs.InTurnStepLemmas as drafts
 use Rattle.run_branch_laws.proofs.FreezeStepLemmas as frost
 use Rattle.tree_laws.specs.AskLaws.{way_of, path_on, AsTold}
 use Rattle.tree_laws.specs.Forests.{comes_to}
@@ -212,12 +212,12 @@ module _ (E : BranchId → Option ℕ) (A : BranchId → Option BranchId) (G Her
   acts_lead k ss nodes ice now acts.Abandon why = tt
 
   module _ (p : Place) (place : (b : BranchId) → b.node ≡ p.number → Here b) where
-    pub leads_on : {k : NodeState} {d : Deed} → Step p input k d → SessionsFit k → News (frost.Unasking E A G Here input said received) p input k → Nodes k → frost.Ices E A G Here input said received k → asks.Olds E A G Here input said received prepared k
+    pub leads_on : {k : NodeState} {d : TurnDraft} → Step p input k d → SessionsFit k → News (frost.Unasking E A G Here input said received) p input k → Nodes k → frost.Ices E A G Here input said received k → asks.Olds E A G Here input said received prepared k
         → IfSome d.wrote (RecordLeads said)
     leads_on (steps.Begins {k = k} n s call rows range none step) ss news nodes ice now =
         let root = news.root n s call rows none in
         leads_on step (begun_so k ss p n) (begun_news (frost.Unasking E A G Here input said received) p input k n news)
-        (deeds.begins_so E A G Here input said received k nodes (fresh_root p k (new_root p k n)) refl (place (new_root p k n) refl) root.0)
+        (drafts.begins_so E A G Here input said received k nodes (fresh_root p k (new_root p k n)) refl (place (new_root p k n) refl) root.0)
         (frost.begins_ice E A G Here input said received prepared k ice (fresh_root p k (new_root p k n)) refl root.1)
         (each_begun (λ l w. AsTold said l) (λ l w. AsTold said l) k.lives k.works now (fresh_root p k (new_root p k n)) (working_told said (new_root p k n) None phases.Working [] _ refl) (λ y v live any is. is))
     leads_on (steps.Pends {k = k} n l given call has live code step) ss news nodes ice now = leads_on step (pends_so k ss n pending.Commit) (pends_news (frost.Unasking E A G Here input said received) p input k n given call news) nodes ice now

@@ -8,18 +8,18 @@ use Rattle.tran_ids.proofs.ListedLemmas.{item_is}
 use Rattle.commit_forget.specs.Beyond.{is_neighbor}
 use Rattle.redo_record.specs.declared.durable.Kid.{Kid}
 use Rattle.session_tree.specs.Live.{is_branch}
-use Rattle.node_rules.specs.Data.{BranchId, Kind, Live, Msg, RedoRecord, Standing}
+use Rattle.node_rules.specs.Data.{BranchId, Kind, Live, Msg, RedoRecord, KeptRow}
 use Rattle.node_rules.specs.Data.decisions
 use Rattle.node_rules.specs.Data.kinds
 use Rattle.node_rules.specs.Data.records
 use Rattle.node_rules.specs.Words.{same, item_at}
-use Rattle.node_rules.specs.NodeState.{NodeState, Deed, live_id, standing_id, live_at, with_work, standing_at}
-use Rattle.node_rules.specs.Turn.{Is_gone, live_or, stand_of, turn_of, heard, deed_of, stamped}
+use Rattle.node_rules.specs.NodeState.{NodeState, TurnDraft, live_id, kept_row_id, live_at, with_work, kept_row_at}
+use Rattle.node_rules.specs.Turn.{Is_gone, live_or, status_of, turn_of, heard, draft_of, stamped}
 use Rattle.node_rules.proofs.StepLemmas.{IsLive, acting_live}
 use Rattle.agreement.specs.Events.{Forest, Event, Beyond, Quiet, Decided, Send_rollback, exit, learned, Gone}
 use Rattle.run_rules.specs.Data.{Turn, Happening}
 use Rattle.run_rules.specs.Data.happenings
-use Rattle.run_rules.specs.Facts.{Facts, first_facts, place_at, node_at, facts_after}
+use Rattle.run_rules.specs.Facts.{Facts, first_facts, place_at, node_at}
 use Rattle.run_rules.specs.Lawful.{MayTurn, MayHappen, IsOwed, History, IsLawfulRun}
 use Rattle.run_base_laws.specs.RunEvents.{wrote_event, with_event, lives_at, with_record, with_exits}
 use Rattle.run_base_laws.specs.EventRows.{MayStand, HasRow, IsDone}
@@ -53,6 +53,7 @@ use Rattle.tree_laws.proofs.RowLemmas.{kid_branch}
 use Rattle.tree_laws.proofs.SiteLemmas.{IsDecisionOf, wrote_decision, later_undecided}
 use Rattle.tree_laws.proofs.TellWhyLemmas.{RollsSo, Was_live, Learns_so, Knows_so, Is_nothing, Names_not, TellsSo}
 use Rattle.tree_laws.proofs.WhyLemmas.{WroteWhy, why_on}
+use Rattle.tree_laws.proofs.AtTurn.{at_turn}
 
 -- one that is named is a neighbour
 any_kid : (x : BranchId) (cs : List Kid) → list_any (λ c. same c x) (map kid_branch cs) ≡ true → list_any (λ c. same c.branch x) cs ≡ true
@@ -67,14 +68,14 @@ parent_is : (o : Option BranchId) (x : BranchId) → o ≡ Some x → is_branch 
 parent_is None x is = absurd cc
 parent_is (Some q) x is = let it : q ≡ x = cc in same_from_equal q x it
 
-named_neighbor : (s : Standing) (x : BranchId) → IsNamed s.parent (map kid_branch s.children) x → is_neighbor s x ≡ true
+named_neighbor : (s : KeptRow) (x : BranchId) → IsNamed s.parent (map kid_branch s.children) x → is_neighbor s x ≡ true
 named_neighbor s x (inl up) = or_left (is_branch x s.parent) (list_any (λ c. same c.branch x) s.children) (parent_is s.parent x up)
 named_neighbor s x (inr down) = or_right (is_branch x s.parent) (list_any (λ c. same c.branch x) s.children) (any_kid x s.children down)
 
 -- a live branch is not gone
-live_not_gone : (k : NodeState) (b : BranchId) (l : Live) → live_at k b ≡ Some l → stand_of k b ≡ Is_gone → ⊥
-unfolding stand_of
-live_not_gone k b l live gone = (let at : live_or (with_work k (Some l)) (standing_at k b) ≡ Is_gone = subst (λ o. live_or (with_work k o) (standing_at k b) ≡ Is_gone) live gone in absurd cc)
+pub live_not_gone : (k : NodeState) (b : BranchId) (l : Live) → live_at k b ≡ Some l → status_of k b ≡ Is_gone → ⊥
+unfolding status_of
+live_not_gone k b l live gone = (let at : live_or (with_work k (Some l)) (kept_row_at k b) ≡ Is_gone = subst (λ o. live_or (with_work k o) (kept_row_at k b) ≡ Is_gone) live gone in absurd cc)
 
 done_gone : (t : List Event) (b : BranchId) → IsDone t b → Gone t b
 done_gone t b (inl learnt) = inr (inr (inl learnt))
@@ -89,23 +90,16 @@ module _ (t : History) (whole : IsLawfulRun t) where
 
   module _ (before : List Happening) (u : Turn) (rest : List Happening) (is : before ++ happenings.Turn u ∷ rest ≡ t.trace) (lawful : IsLawfulRun (so_far t before)) (k : NodeState) (may : MayTurn t.places (f_at t before) u k)
       (law : Rolled (f_at t before) (e_at t before) (happenings.Turn u)) where
-    abbrev f : Facts
-    f = f_at t before
-
-    abbrev e : List Event
-    e = e_at t before
-
-    abbrev g : Facts
-    g = facts_after t.places t.commands f (happenings.Turn u)
+    open at_turn t whole before u rest is use {f, e, g}
 
     abbrev r : List Event
     r = with_exits f g u e
 
-    abbrev ks : List Standing
+    abbrev ks : List KeptRow
     ks = k.stored.durable.kept
 
-    abbrev d : Deed
-    d = deed_of (place_at t.places u.node) k u.input
+    abbrev d : TurnDraft
+    d = draft_of (place_at t.places u.node) k u.input
 
     added : Added Any e r
     added = exits_added f g u e
@@ -115,10 +109,10 @@ module _ (t : History) (whole : IsLawfulRun t) where
 
     -- ---- its sender is no neighbour
 
-    names_not : (b x : BranchId) (s : Standing) → item_at standing_id ks b ≡ Some s → is_neighbor s x ≡ false → Beyond p x b → exit r x ≡ Some Quiet
+    names_not : (b x : BranchId) (s : KeptRow) → item_at kept_row_id ks b ≡ Some s → is_neighbor s x ≡ false → Beyond p x b → exit r x ≡ Some Quiet
     names_not b x s row other edge =
-        let me : s.me ≡ b = item_is standing_id ks b s row in
-        let names : RowNames p e s = all_found (RowNames p e) standing_id ks b s (acks.beyond_named t whole before u rest is lawful k may law.0) row in
+        let me : s.me ≡ b = item_is kept_row_id ks b s row in
+        let names : RowNames p e s = all_found (RowNames p e) kept_row_id ks b s (acks.beyond_named t whole before u rest is lawful k may law.0) row in
         exit_later x Quiet added (elim (names x (subst (λ c. Beyond p x c) (sym me) edge)) [
           | inr quiet ↦ quiet
           | inl named ↦ (let near : is_neighbor s x ≡ true = named_neighbor s x named in absurd (cc (near, other)))
@@ -158,7 +152,7 @@ module _ (t : History) (whole : IsLawfulRun t) where
     wrote_live wrote b at = deciding_live u.wrote b (subst (λ w. IfSome w (WroteWhy (heard k u.input) u.input d.says)) (sym wrote) why) at
 
     -- one of which its node knows nothing has forgotten, or is alone
-    nothing_known : (b : BranchId) (n : ℕ) → b.node ≡ u.node → exit e b ≡ Some (Decided n) → stand_of k b ≡ Is_gone → (x : BranchId) → Beyond p x b → Gone r b ⊎ (exit r x ≡ Some Quiet)
+    nothing_known : (b : BranchId) (n : ℕ) → b.node ≡ u.node → exit e b ≡ Some (Decided n) → status_of k b ≡ Is_gone → (x : BranchId) → Beyond p x b → Gone r b ⊎ (exit r x ≡ Some Quiet)
     nothing_known b n here decided gone x edge = elim (law.1 b n decided) [
       | inl row ↦ absurd (kept_not_gone k b
           (sym (any_map b unacked_row (λ y. refl) ks)
@@ -183,7 +177,7 @@ module _ (t : History) (whole : IsLawfulRun t) where
       | inr new ↦ (let live = wrote_live wrote b new in absurd (live_not_gone k b live.0 live.1 (gone_before k u.input b gone)))
     ]
     decided_roll wrote b x n decided (Names_not s kept me other) edge =
-        inr (names_not b x s (subst (λ c. item_at standing_id ks c ≡ Some s) me (subst (λ (zs : List Standing). item_at standing_id zs s.me ≡ Some s) (heard_rows k u.input) kept)) other edge)
+        inr (names_not b x s (subst (λ c. item_at kept_row_id ks c ≡ Some s) me (subst (λ (zs : List KeptRow). item_at kept_row_id zs s.me ≡ Some s) (heard_rows k u.input) kept)) other edge)
 
     roll_allowed : u.wrote ≡ d.wrote → (b x : BranchId) → RollbackIs r ks b x → RollsSo e (heard k u.input) u.input d b x → TreeAllows p r (Send_rollback b x)
     roll_allowed wrote b x (inl (inl gone)) how edge = inl gone

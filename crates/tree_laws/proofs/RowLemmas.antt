@@ -8,7 +8,7 @@ use Rattle.redo_record.specs.Rows.{sealed_as, decided_as, has_neighbors}
 use Rattle.redo_record.specs.Kept.{stands_at, ended_commit, forced_state, in_state, met_as, forgot_as, hidden_as, is_done, kept_after}
 use Rattle.redo_record.specs.Durable.{durable_after}
 use Rattle.redo_record.specs.Lists.{change_where, drop_where}
-use Rattle.node_rules.specs.Data.{BranchId, Post, RedoRecord, Standing}
+use Rattle.node_rules.specs.Data.{BranchId, Post, RedoRecord, KeptRow}
 use Rattle.node_rules.specs.Data.decisions
 use Rattle.node_rules.specs.Data.params
 use Rattle.node_rules.specs.Data.records
@@ -24,22 +24,22 @@ kid_branch c = c.branch
 
 -- what is so of a branch, its parent, its children and toward
 module _ (Q : BranchId → Option BranchId → List BranchId → Option BranchId → Type 0) where
-  abbrev pub RowSo : Standing → Type 0
+  abbrev pub RowSo : KeptRow → Type 0
   RowSo s = Q s.me s.parent (map kid_branch s.children) s.toward
 
-  abbrev RowsSo : List Standing → Type 0
+  abbrev RowsSo : List KeptRow → Type 0
   RowsSo ks = AllByRecursion RowSo ks
 
-  rows_changed : (c : BranchId) (g : Standing → Standing) → ((x : Standing) → RowSo x → RowSo (g x)) → (ks : List Standing) → RowsSo ks → RowsSo (change_where (stands_at c) g ks)
+  rows_changed : (c : BranchId) (g : KeptRow → KeptRow) → ((x : KeptRow) → RowSo x → RowSo (g x)) → (ks : List KeptRow) → RowsSo ks → RowsSo (change_where (stands_at c) g ks)
   rows_changed c g each ks all =
       all_map RowSo (λ x. if stands_at c x then g x else x) ks
       (all_weaker RowSo _ (λ x so. cond_both (stands_at c x) (g x) x RowSo (λ here. each x so) (λ other. so)) ks all)
 
-  rows_left : (test : Standing → Bool) (ks : List Standing) → RowsSo ks → RowsSo (drop_where test ks)
+  rows_left : (test : KeptRow → Bool) (ks : List KeptRow) → RowsSo ks → RowsSo (drop_where test ks)
   rows_left test ks all = all_filter RowSo RowSo (λ x. not (test x)) (λ x passes so. so) ks all
 
   module _ (R : RedoRecord → Type 0) (seals : (r : Sealed) → R (records.Sealed r) → RowSo (sealed_as r)) (decides : (r : Decided) → R (records.Decided r) → RowSo (decided_as r)) where
-    rows_kept : (ks : List Standing) (r : RedoRecord) → R r → RowsSo ks → RowsSo (kept_after ks r)
+    rows_kept : (ks : List KeptRow) (r : RedoRecord) → R r → RowsSo ks → RowsSo (kept_after ks r)
     unfolding kept_after
     rows_kept ks (records.Sealed r) is all = all_put RowSo (λ y. y.me) ks (sealed_as r) all (seals r is)
     rows_kept ks (records.Decided r) is all = cond_both (has_neighbors (decided_as r)) _ _ RowsSo (λ kept. all_put RowSo (λ y. y.me) ks (decided_as r) all (decides r is)) (λ alone. all)
@@ -68,7 +68,7 @@ module _ (Q : BranchId → Option BranchId → List BranchId → Option BranchId
     rows_stored s [] all now = now
     rows_stored s (r ∷ rs) all now = rows_stored (applied s r) rs all.1 (rows_applied s r all.0 now)
 
-    unmapped : (ks : List Standing) → RowsSo (map unacked_row ks) → RowsSo ks
+    unmapped : (ks : List KeptRow) → RowsSo (map unacked_row ks) → RowsSo ks
     unmapped [] all = tt
     unmapped (s ∷ ks) all = (subst (λ cs. Q s.me s.parent cs s.toward) (map_after kid_branch unacked_kid kid_branch (λ c. refl) s.children) all.0, unmapped ks all.1)
 
@@ -78,7 +78,7 @@ module _ (Q : BranchId → Option BranchId → List BranchId → Option BranchId
 
 module _ (said : List Post) where
   -- a row has as toward what Prepares told
-  abbrev pub RowLeads : Standing → Type 0
+  abbrev pub RowLeads : KeptRow → Type 0
   RowLeads s = LeadsTo said s.me s.parent s.toward
 
   pub rows_lead : (k : NodeState) (rs : List RedoRecord) → unacked k.stored ≡ stored_by nothing_stored rs → AllByRecursion (RecordLeads said) rs → AllByRecursion RowLeads k.stored.durable.kept

@@ -21,15 +21,14 @@ use Rattle.node_rules.specs.Prepare.{is_awaited, answers_first, has_voted, voted
 use Rattle.node_rules.specs.Turn.{heard}
 use Rattle.node_rules.proofs.Steps as steps
 use Rattle.node_rules.proofs.Steps.{Acting, Answers, Collected, Collects, vote_kind}
-use Rattle.agreement.specs.Events.{Event, Quiet, Send_vote, exit, Has}
+use Rattle.agreement.specs.Events.{Quiet, Send_vote, exit, Has}
 use Rattle.run_rules.specs.Data.{Turn, Happening}
-use Rattle.run_rules.specs.Facts.{Facts, place_at}
+use Rattle.run_rules.specs.Facts.{place_at}
 use Rattle.run_rules.specs.Lawful.{MayTurn, History, IsLawfulRun}
-use Rattle.run_rules.specs.Births.{Born, births_of}
+use Rattle.run_rules.specs.Births.{Born}
 use Rattle.run_base_laws.specs.BirthLaws.{Began, IsChild, LiveIs, GoesSo}
 use Rattle.run_base_laws.specs.FreezeLaws.{was_asked}
 use Rattle.run_branch_laws.specs.HeardLaws.{VoteIs, EdgeIs, AnswersAre, QuietIs}
-use Rattle.run_base_laws.specs.InTurnLaws.{said_in}
 use Rattle.run_branch_laws.specs.PhaseLaws.{IsNoAbort, PhaseFits}
 use Rattle.run_rules.specs.Trail.{is_prepare}
 use Rattle.run_branch_laws.specs.WalkLaws.{is_below, is_above, was_sent}
@@ -55,8 +54,9 @@ use Rattle.tree_laws.specs.WeightLaws.{EdgeWeighs, LiveWeighs}
 use Rattle.tree_laws.proofs.BeyondLemmas.{Settled, settled_all, child_heard}
 use Rattle.tree_laws.proofs.WeightLemmas.{weightless, asked_way}
 use Rattle.tree_laws.proofs.ForestLemmas as trees
-use Rattle.tree_laws.proofs.PrefixLemmas.{so_far, f_at, e_at}
+use Rattle.tree_laws.proofs.PrefixLemmas.{so_far, f_at}
 use Rattle.tree_laws.proofs.WhyLemmas.{Near}
+use Rattle.tree_laws.proofs.AtPart.{at_part}
 
 -- an act that ends a collect at a branch that has changes on it or beyond, or says that there are none
 pub data Settling : Act → Type 0 where
@@ -105,20 +105,7 @@ voted_none from v other es all =
     all_map IsNoAbort (has_voted from v) es (all_weaker IsNoAbort _ (λ e so. cond_both (answers_first from e) (record e { vote = v }) e IsNoAbort (λ first. other) (λ again. so)) es all)
 
 module _ (t : History) (before : List Happening) (lawful : IsLawfulRun (so_far t before)) (u : Turn) (k : NodeState) (may : MayTurn t.places (f_at t before) u k) where
-  abbrev s : History
-  s = so_far t before
-
-  abbrev f : Facts
-  f = f_at t before
-
-  abbrev e : List Event
-  e = e_at t before
-
-  abbrev bs : List Born
-  bs = births_of s
-
-  abbrev said : List Post
-  said = said_in f
+  open at_part t before use {s, f, e, bs, said}
 
   abbrev k0 : NodeState
   k0 = heard k u.input

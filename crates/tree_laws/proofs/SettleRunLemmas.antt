@@ -6,8 +6,8 @@ use Rattle.redo_record.specs.declared.record.Peer.{Peer}
 use Rattle.node_rules.specs.Data.{Sealed, Decided}
 use Rattle.node_rules.specs.Data.{BranchId, Kind, Live, Act, Post, RedoRecord}
 use Rattle.node_rules.specs.Data.records
-use Rattle.node_rules.specs.NodeState.{NodeState, Deed}
-use Rattle.node_rules.specs.Turn.{heard, deed_of}
+use Rattle.node_rules.specs.NodeState.{NodeState, TurnDraft}
+use Rattle.node_rules.specs.Turn.{heard, draft_of}
 use Rattle.agreement.specs.Events as exits
 use Rattle.agreement.specs.Events.{Forest, Event, exit}
 use Rattle.run_rules.specs.Data.{Turn, Happening}
@@ -101,8 +101,8 @@ module _ (t : History) (whole : IsLawfulRun t) where
     wider x began = subst (λ xs. Began xs x) (sym births_on) (began_all t.places t.commands f (happenings.Turn u ∷ rest) (births_of (so_far t before)) x began)
 
     module _ (lawful : IsLawfulRun (so_far t before)) (k : NodeState) (may : MayTurn t.places f u k) (later : EachEventFrom (HasToldAll all) t.places t.commands f e (happenings.Turn u ∷ rest)) where
-      abbrev pub d : Deed
-      d = deed_of (place_at t.places u.node) k u.input
+      abbrev pub d : TurnDraft
+      d = draft_of (place_at t.places u.node) k u.input
 
       abbrev pub k0 : NodeState
       k0 = heard k u.input

@@ -9,7 +9,7 @@ use Rattle.node_rules.specs.Words.{numbered}
 use Rattle.tree_laws.proofs.VoterLemmas.{mapped_at}
 
 -- a step down goes to the first child of the greatest weight
-best_down : (q : Bool) (n : ℕ) (o : Option (ℕ × ℕ)) (i : ℕ) → walk_by q n o ≡ walks.Down i → (w : ℕ) × (o ≡ Some (w, i))
+pub best_down : (q : Bool) (n : ℕ) (o : Option (ℕ × ℕ)) (i : ℕ) → walk_by q n o ≡ walks.Down i → (w : ℕ) × (o ≡ Some (w, i))
 best_down true n None i is = absurd cc
 best_down true n (Some b) i is = by (nat_lt n b.0) is
   where

@@ -12,7 +12,7 @@ use Rattle.commit_forget.specs.Next.{knows_commit}
 use Rattle.reco.specs.declared.told.Told.TheVariants as tolds
 use Rattle.session_tree.specs.Live.{children_of, peer_of, new_edge}
 use Rattle.session_tree.specs.Tree.{step as step_from}
-use Rattle.node_rules.specs.Data.{Answer, Stmt, BranchId, Decision, Kind, Live, Msg, Post, RedoRecord, Standing, Act, Place, Input}
+use Rattle.node_rules.specs.Data.{Answer, Stmt, BranchId, Decision, Kind, Live, Msg, Post, RedoRecord, KeptRow, Act, Place, Input}
 use Rattle.node_rules.specs.Data.acts
 use Rattle.node_rules.specs.Data.decisions
 use Rattle.node_rules.specs.Data.inputs
@@ -22,13 +22,13 @@ use Rattle.node_rules.specs.Data.stmts
 use Rattle.node_rules.specs.declared.session.Session.{Session}
 use Rattle.node_rules.specs.Words.{put_by_branch}
 use Rattle.node_rules.specs.Inputs.{Came, IsCall}
-use Rattle.node_rules.specs.NodeState.{NodeState, Branch, Deed, live_id, standing_id, live_at, to_one, to_each}
+use Rattle.node_rules.specs.NodeState.{NodeState, Branch, TurnDraft, live_id, kept_row_id, live_at, to_one, to_each}
 use Rattle.node_rules.specs.Calls.{answer_says, exec_to, with_edge, hears_reply}
 use Rattle.node_rules.specs.Statement.{ran, after_run}
 use Rattle.node_rules.specs.Prepare.{path_of, site_neighbors, act_turn}
 use Rattle.node_rules.specs.Commit.{beyond, all_acked, acked_by, passes_commit, rollback_to, passes}
 use Rattle.node_rules.specs.Recovery.{told_by, kept_told, told_kind, Asking, asking_id, asks_live, asks_kept, acks_again, recovers, askings}
-use Rattle.node_rules.specs.Turn.{Is_gone, stand_of}
+use Rattle.node_rules.specs.Turn.{Is_gone, status_of}
 use Rattle.node_rules.proofs.Steps as steps
 use Rattle.node_rules.proofs.Steps.{Step, Says, IsKept, IsOfRows, Acting, Collects}
 use Rattle.node_rules.proofs.StandLemmas.{live_so}
@@ -48,13 +48,13 @@ LearnsCommit (Some (records.Met b (decisions.Commit n) mixed)) e = b ≡ e
 LearnsCommit _ e = ⊥
 
 -- messages of two kinds did not both come
-kinds_apart : {input : Input} {a b c e : BranchId} {x y : Kind} → Came input a b x → Came input c e y → x ≡ y
+pub kinds_apart : {input : Input} {a b c e : BranchId} {x y : Kind} → Came input a b x → Came input c e y → x ≡ y
 kinds_apart {a = a} {b = b} {c = c} {e = e} {x = x} {y = y} one other =
     let it : inputs.Message (record { from = a; to = b; scn = one.scn; kind = x }) ≡ inputs.Message (record { from = c; to = e; scn = other.scn; kind = y }) = sym one.is ∙ other.is in
     let here : record { from = a; to = b; scn = one.scn; kind = x } ≡ record { from = c; to = e; scn = other.scn; kind = y } = cc in
     ap (λ (m : Msg). m.kind) here
 
--- A node meets this input without a change before its deed.
+-- A node meets this input without a change before its draft.
 pub record Direct (input : Input) : Type 0 where
   pub rows : NoRows input
   pub commit : (n : ℕ) (c : Option (List ℕ)) → IsCall input n (stmts.Commit c) → ⊥
@@ -103,20 +103,20 @@ abandons_direct (steps.At_point l from _ live came is pointed) = elim pointed [ 
 
 module _ (t : List Event) where
   -- it learns the commit now, knows it, or is gone
-  pub data AcksSo (k : NodeState) (d : Deed) (b : BranchId) : Type 0 where
+  pub data AcksSo (k : NodeState) (d : TurnDraft) (b : BranchId) : Type 0 where
     Learns_it : LearnsCommit d.wrote b → AcksSo k d b
     Knows_it : (n : ℕ) → Knows t b n → AcksSo k d b
-    Has_gone : stand_of k b ≡ Is_gone → AcksSo k d b
+    Has_gone : status_of k b ≡ Is_gone → AcksSo k d b
 
   -- it was live, learns a rollback now, knows it, is gone, or does not know the receiver
-  pub data RollsSo (k : NodeState) (input : Input) (d : Deed) (e to : BranchId) : Type 0 where
+  pub data RollsSo (k : NodeState) (input : Input) (d : TurnDraft) (e to : BranchId) : Type 0 where
     Was_live : IsLive k e → d.wrote ≡ None → RollsSo k input d e to
     Learns_so : LearnsRollback d.wrote e → RollsSo k input d e to
     Knows_so : learned t e ≡ Some decisions.Rollback → RollsSo k input d e to
-    Is_nothing : stand_of k e ≡ Is_gone → (from : BranchId) (kind : Kind) → Came input from e kind → RollsSo k input d e to
-    Names_not : (s : Standing) → IsKept k s → s.me ≡ e → is_neighbor s to ≡ false → RollsSo k input d e to
+    Is_nothing : status_of k e ≡ Is_gone → (from : BranchId) (kind : Kind) → Came input from e kind → RollsSo k input d e to
+    Names_not : (s : KeptRow) → IsKept k s → s.me ≡ e → is_neighbor s to ≡ false → RollsSo k input d e to
 
-  abbrev pub TellsSo : NodeState → Input → Deed → BranchId → BranchId → Kind → Type 0
+  abbrev pub TellsSo : NodeState → Input → TurnDraft → BranchId → BranchId → Kind → Type 0
   TellsSo k input d from to kinds.Ack = AcksSo k d from
   TellsSo k input d from to kinds.Rollback = RollsSo k input d from to
   TellsSo k input d from to kinds.RolledBack = RollsSo k input d from to
@@ -126,12 +126,12 @@ module _ (t : List Event) where
   abbrev IsOther : Kind → Type 0
   IsOther kind = (kind ≢ kinds.Ack) × (kind ≢ kinds.Rollback) × (kind ≢ kinds.RolledBack)
 
-  knows_known : (s : Standing) (o : Option Decision) → knows_commit o ≡ true → IsKnown t s o → (n : ℕ) × Knows t s.me n
+  knows_known : (s : KeptRow) (o : Option Decision) → knows_commit o ≡ true → IsKnown t s o → (n : ℕ) × Knows t s.me n
   knows_known s None is known = absurd cc
   knows_known s (Some decisions.Rollback) is known = absurd cc
   knows_known s (Some (decisions.Commit n)) is known = (n, known)
 
-  module _ (k0 : NodeState) (input : Input) (d : Deed) where
+  module _ (k0 : NodeState) (input : Input) (d : TurnDraft) where
     abbrev So : Post → Type 0
     So x = TellsSo k0 input d x.from x.to x.kind
 
@@ -160,21 +160,21 @@ module _ (t : List Event) where
 
     -- ---- rows
 
-    commit_so : (s : Standing) (n : ℕ) (bs : List Beyond) → AcksSo k0 d s.me → AllSo (passes_commit s n bs)
+    commit_so : (s : KeptRow) (n : ℕ) (bs : List Beyond) → AcksSo k0 d s.me → AllSo (passes_commit s n bs)
     commit_so s n [] so = one_so s.me kinds.Ack s.toward (λ b. so)
     commit_so s n (b ∷ bs) so = each_so s.me (kinds.Committed n) (map (λ c. c.branch) (b ∷ bs)) (λ c. tt)
 
-    passes_so : (s : Standing) (e : Decision) → ((n : ℕ) → e ≡ decisions.Commit n → AcksSo k0 d s.me) → (e ≡ decisions.Rollback → LearnsRollback d.wrote s.me) → AllSo (passes s e)
+    passes_so : (s : KeptRow) (e : Decision) → ((n : ℕ) → e ≡ decisions.Commit n → AcksSo k0 d s.me) → (e ≡ decisions.Rollback → LearnsRollback d.wrote s.me) → AllSo (passes s e)
     passes_so s (decisions.Commit n) commits learns = commit_so s n (beyond s) (commits n refl)
     passes_so s decisions.Rollback commits learns =
         all_each So (rollback_to s.me) (beyond s) (λ b. cond_both b.is_parent kinds.RolledBack kinds.Rollback (λ kind. TellsSo k0 input d s.me b.branch kind) (λ up. Learns_so (learns refl)) (λ down. Learns_so (learns refl)))
 
     -- ---- recovery
 
-    again_so : (s : Standing) → AcksSo k0 d s.me → AllSo (acks_again s)
+    again_so : (s : KeptRow) → AcksSo k0 d s.me → AllSo (acks_again s)
     again_so s so = cond_both (all_acked s && not s.forgot) (to_one s.me kinds.Ack s.toward) [] AllSo (λ all. one_so s.me kinds.Ack s.toward (λ b. so)) (λ some. tt)
 
-    recovers_so : (s : Standing) (e : Option Decision) → IsKnown t s e → AllSo (recovers s e)
+    recovers_so : (s : KeptRow) (e : Option Decision) → IsKnown t s e → AllSo (recovers s e)
     recovers_so s None known = one_so s.me kinds.Ask s.toward (λ b. tt)
     recovers_so s (Some (decisions.Commit n)) known =
         all_append So _ (acks_again s) (each_so s.me (kinds.Committed n) (map (λ b. b.branch) (filter (λ b. not b.acked) (beyond s))) (λ b. tt)) (again_so s (Knows_it n known))
@@ -191,7 +191,7 @@ module _ (t : List Event) where
     flat_so [] all = tt
     flat_so (a ∷ asked) all = all_append So a.says _ all.0 (flat_so asked all.1)
 
-    rows_so : (ks : List Standing) → AllByRecursion (RowIs t) ks → AllByRecursion AskingSo (map asks_kept ks)
+    rows_so : (ks : List KeptRow) → AllByRecursion (RowIs t) ks → AllByRecursion AskingSo (map asks_kept ks)
     rows_so [] rows = tt
     rows_so (s ∷ ks) rows = (recovers_so s s.decision rows.0.known, rows_so ks rows.1)
 
@@ -203,24 +203,24 @@ module _ (t : List Event) where
     -- ---- messages alone
 
     -- what a row knows, to one that asks
-    known_so : (s : Standing) (from : BranchId) (e : Option Decision) → IsKnown t s e → TellsSo k0 input d s.me from (told_kind (told_by e))
+    known_so : (s : KeptRow) (from : BranchId) (e : Option Decision) → IsKnown t s e → TellsSo k0 input d s.me from (told_kind (told_by e))
     known_so s from None known = tt
     known_so s from (Some (decisions.Commit n)) known = tt
     known_so s from (Some decisions.Rollback) known = Knows_so known
 
-    asked_so : (s : Standing) (from : BranchId) → IsKept k0 s → RowIs t s → TellsSo k0 input d s.me from (told_kind (kept_told s from))
+    asked_so : (s : KeptRow) (from : BranchId) → IsKept k0 s → RowIs t s → TellsSo k0 input d s.me from (told_kind (kept_told s from))
     asked_so s from kept is =
         cond_both (is_neighbor s from) (told_by s.decision) tolds.RolledBack (λ x. TellsSo k0 input d s.me from (told_kind x)) (λ near. known_so s from s.decision is.known) (λ other. Names_not s kept refl other)
 
     says_so : (k : NodeState) {says : List Post} → (Direct input → k ≡ k0) → AllByRecursion (RowIs t) k.stored.durable.kept → Says k input says → AllSo says
     says_so k near rows (steps.Gone_rolls_back to from (inl came) gone) =
-        (Is_nothing (subst (λ x. stand_of x to ≡ Is_gone) (near (direct_came came (λ is. absurd cc) (λ w comment is. absurd cc))) gone) from kinds.CommitPoint came, tt)
+        (Is_nothing (subst (λ x. status_of x to ≡ Is_gone) (near (direct_came came (λ is. absurd cc) (λ w comment is. absurd cc))) gone) from kinds.CommitPoint came, tt)
     says_so k near rows (steps.Gone_rolls_back to from (inr came) gone) =
-        (Is_nothing (subst (λ x. stand_of x to ≡ Is_gone) (near (direct_came came (λ is. absurd cc) (λ w comment is. absurd cc))) gone) from kinds.Ask came, tt)
-    says_so k near rows (steps.Gone_acks to from n came gone) = (Has_gone (subst (λ x. stand_of x to ≡ Is_gone) (near (direct_came came (λ is. absurd cc) (λ w comment is. absurd cc))) gone), tt)
-    says_so k near rows (steps.Knows_rollback s from came kept knows) = (Knows_so (subst (IsKnown t s) knows (all_found (RowIs t) standing_id k.stored.durable.kept s.me s rows kept).known), tt)
+        (Is_nothing (subst (λ x. status_of x to ≡ Is_gone) (near (direct_came came (λ is. absurd cc) (λ w comment is. absurd cc))) gone) from kinds.Ask came, tt)
+    says_so k near rows (steps.Gone_acks to from n came gone) = (Has_gone (subst (λ x. status_of x to ≡ Is_gone) (near (direct_came came (λ is. absurd cc) (λ w comment is. absurd cc))) gone), tt)
+    says_so k near rows (steps.Knows_rollback s from came kept knows) = (Knows_so (subst (IsKnown t s) knows (all_found (RowIs t) kept_row_id k.stored.durable.kept s.me s rows kept).known), tt)
     says_so k near rows (steps.Tells s from came kept) =
-        (asked_so s from (subst (λ x. IsKept x s) (near (direct_came came (λ is. absurd cc) (λ w comment is. absurd cc))) kept) (all_found (RowIs t) standing_id k.stored.durable.kept s.me s rows kept), tt)
+        (asked_so s from (subst (λ x. IsKept x s) (near (direct_came came (λ is. absurd cc) (λ w comment is. absurd cc))) kept) (all_found (RowIs t) kept_row_id k.stored.durable.kept s.me s rows kept), tt)
     says_so k near rows (steps.Recovers reco) = askings_so k rows
     says_so k near rows _ = (tt, tt)
 
@@ -235,13 +235,13 @@ module _ (t : List Event) where
   exec_other ss x i s given (Some c) = (((λ is. absurd cc), (λ is. absurd cc), (λ is. absurd cc)), tt)
 
   module _ (k0 : NodeState) (p : Place) (input : Input) where
-    abbrev DeedSo : Deed → Type 0
-    DeedSo d = AllSo k0 input d d.says
+    abbrev DraftSo : TurnDraft → Type 0
+    DraftSo d = AllSo k0 input d d.says
 
     live_there : (k : NodeState) → (Direct input → k ≡ k0) → Direct input → (b : BranchId) → IsLive k b → IsLive k0 b
     live_there k near direct b live = subst (λ x. IsLive x b) (near direct) live
 
-    acts_tell : (k : NodeState) → (Direct input → k ≡ k0) → {l : Live} {b : Bool} (a : Act) → Acting k input l b a → DeedSo (act_turn k l b a)
+    acts_tell : (k : NodeState) → (Direct input → k ≡ k0) → {l : Live} {b : Bool} (a : Act) → Acting k input l b a → DraftSo (act_turn k l b a)
     acts_tell k near acts.Rest why = tt
     acts_tell k near {l = l} {b = b} acts.AskDown why =
         others_so k0 input _ _ (prepares_say IsOther (λ w c. ((λ is. absurd cc), (λ is. absurd cc), (λ is. absurd cc))) l.me l.comment (path_of b (step_from l)) 1 l.edges)
@@ -254,14 +254,14 @@ module _ (t : List Event) where
     acts_tell k near {l = l} acts.Abandon why =
         all_append (So k0 input _) (to_one l.me kinds.Abort l.parent) _ (one_so k0 input _ l.me kinds.Abort l.parent (λ b. tt)) (rolls_all k0 input _ l (live_there k near (abandons_direct why) l.me (acting_live why)) refl)
 
-    pub tells_on : {k : NodeState} {d : Deed} → Step p input k d → (Direct input → k ≡ k0) → AllByRecursion (RowIs t) k.stored.durable.kept → DeedSo d
+    pub tells_on : {k : NodeState} {d : TurnDraft} → Step p input k d → (Direct input → k ≡ k0) → AllByRecursion (RowIs t) k.stored.durable.kept → DraftSo d
     tells_on (steps.Begins n s call rows fit none step) near all = tells_on step (λ direct. absurd (direct.rows n s call rows)) all
     tells_on (steps.Pends n l given call has live code step) near all = tells_on step (λ direct. absurd (direct.commit n given call)) all
     tells_on (steps.Lets_reads_go l comment b live begins step) near all = tells_on step (λ direct. absurd (collects_indirect begins direct)) all
     tells_on (steps.Counts_ack {k = k} s from kept came counts step) near all =
-        let was : RowIs t s = all_found (RowIs t) standing_id k.stored.durable.kept s.me s all kept in
+        let was : RowIs t s = all_found (RowIs t) kept_row_id k.stored.durable.kept s.me s all kept in
         tells_on step (λ direct. absurd (direct.ack from s.me came))
-        (all_with (RowIs t) standing_id k.stored.durable.kept (acked_by s from) all (record { left = was.left; known = was.known; force = was.force; forgot = was.forgot }))
+        (all_with (RowIs t) kept_row_id k.stored.durable.kept (acked_by s from) all (record { left = was.left; known = was.known; force = was.force; forgot = was.forgot }))
     tells_on (steps.Sends {k = k} says why) near all = says_so k0 input _ k near all why
     tells_on (steps.Runs {k = k} x s given table asked way) near all = others_so k0 input _ _ (answer_other (record x { live = after_run x.live (ran p k x.live.me s table) }) _ x.live.parent)
     tells_on (steps.Goes_nowhere x s given r asked way) near all = others_so k0 input _ _ (answer_other x _ x.live.parent)
@@ -283,11 +283,11 @@ module _ (t : List Event) where
     tells_on (steps.Does s from (nexts.Meet e mixed) kept why) near all =
         passes_so k0 input _ s e (λ n is. Learns_it (subst (λ x. LearnsCommit (Some (records.Met s.me x mixed)) s.me) (sym is) refl)) (λ is. subst (λ x. LearnsRollback (Some (records.Met s.me x mixed)) s.me) (sym is) refl)
     tells_on (steps.Does {k = k} s from nexts.AckToward kept (steps.Acks_on came knows new all_so other)) near all =
-        let known = knows_known s s.decision knows (all_found (RowIs t) standing_id k.stored.durable.kept s.me s all kept).known in one_so k0 input _ s.me kinds.Ack s.toward (λ b. Knows_it known.0 known.1)
+        let known = knows_known s s.decision knows (all_found (RowIs t) kept_row_id k.stored.durable.kept s.me s all kept).known in one_so k0 input _ s.me kinds.Ack s.toward (λ b. Knows_it known.0 known.1)
     tells_on (steps.Does s from nexts.Forget kept why) near all = each_so k0 input _ s.me kinds.Forgotten (map (λ b. b.branch) (beyond s)) (λ b. tt)
     tells_on (steps.Does s from nexts.SayForgotten kept why) near all = (tt, tt)
     tells_on (steps.Does {k = k} s from nexts.SayAck kept (steps.Acks_again n m came toward knows all_so)) near all =
-        (Knows_it n (subst (IsKnown t s) knows (all_found (RowIs t) standing_id k.stored.durable.kept s.me s all kept).known), tt)
+        (Knows_it n (subst (IsKnown t s) knows (all_found (RowIs t) kept_row_id k.stored.durable.kept s.me s all kept).known), tt)
     tells_on (steps.Does s from nexts.Rest kept why) near all = tt
     tells_on (steps.Rolls_back {k = k} n x call has live) near all = rolls_all k0 input _ x.live (live_there k near (direct_rollback n call) x.live.me (x.live, live_so k x.live.me x live)) refl
     tells_on (steps.Gives_up_commit {k = k} n b (Some l) gives has calls live) near all =

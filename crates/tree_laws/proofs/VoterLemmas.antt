@@ -9,13 +9,13 @@ use Rattle.node_rules.specs.Data.phases
 use Rattle.node_rules.specs.Data.records
 use Rattle.node_rules.specs.Words.{numbered}
 use Rattle.node_rules.specs.NodeState.{NodeState, Branch, live_at, branch_at, work_at, with_work}
-use Rattle.node_rules.specs.Turn.{heard, deed_of}
+use Rattle.node_rules.specs.Turn.{heard, draft_of}
 use Rattle.agreement.specs.Events.{Event, Sealed, exit}
 use Rattle.run_rules.specs.Data.{Turn, Happening}
 use Rattle.run_rules.specs.Data.happenings
 use Rattle.run_rules.specs.Facts.{Facts, place_at, node_at}
 use Rattle.run_rules.specs.Lawful.{MayTurn, History, IsLawfulRun}
-use Rattle.run_rules.specs.Births.{Born, births_of}
+use Rattle.run_rules.specs.Births.{Born}
 use Rattle.run_base_laws.specs.FreezeLaws.{was_asked}
 use Rattle.run_base_laws.specs.InTurnLaws.{said_in, newest_exec, call_at}
 use Rattle.run_rules.specs.Trail.{is_prepare}
@@ -34,6 +34,7 @@ use Rattle.tree_laws.proofs.SealLemmas.{SealsSo, seals_so, IsSealOf}
 use Rattle.tree_laws.proofs.SettleLemmas.{live_in, born_of}
 use Rattle.tree_laws.proofs.WeightRunLemmas.{replies_tell_weights, edges_hold_weights}
 use Rattle.tree_laws.proofs.WhyLemmas.{WroteWhy, why_on}
+use Rattle.tree_laws.proofs.AtPart.{at_part}
 
 -- ---- lists of edges
 
@@ -85,14 +86,7 @@ no_parent (Some q) p none is = absurd cc
 -- ---- a branch that becomes sealed
 
 module _ (t : History) (before : List Happening) (lawful : IsLawfulRun (so_far t before)) (u : Turn) (k : NodeState) (may : MayTurn t.places (f_at t before) u k) where
-  abbrev s : History
-  s = so_far t before
-
-  abbrev said : List Post
-  said = said_in (f_at t before)
-
-  abbrev bs : List Born
-  bs = births_of s
+  open at_part t before use {s, said, bs}
 
   -- It was live, so it began, and its parent told it of the walk.
   pub record SealsNow (c : BranchId) : Type 0 where
@@ -102,7 +96,7 @@ module _ (t : History) (before : List Happening) (lawful : IsLawfulRun (so_far t
     pub weighs : (is_none (weight live) ≡ false) ⊎ ((is_none live.parent ≡ true) ⊎ (live.phase ≡ phases.Ready))
     pub leads : (q : BranchId) × LeadsTo said live.me live.parent (Some q)
 
-  seals_by : (c : BranchId) (w : Option RedoRecord) → IfSome w (WroteWhy (heard k u.input) u.input (deed_of (place_at t.places u.node) k u.input).says) → IfSome w (RecordLeads said) → IsSealOf c w → SealsNow c
+  seals_by : (c : BranchId) (w : Option RedoRecord) → IfSome w (WroteWhy (heard k u.input) u.input (draft_of (place_at t.places u.node) k u.input).says) → IfSome w (RecordLeads said) → IsSealOf c w → SealsNow c
   seals_by c (Some (records.Sealed r)) why leads at =
       let so : SealsSo why.4.here why.1.me why.1.parent = seals_so why.3 why.4.acting in
       let found : live_at k so.live.me ≡ Some so.live = live_in t before lawful u k may why.4.here why.4.near so.live so.found in
@@ -120,7 +114,7 @@ module _ (t : History) (before : List Happening) (lawful : IsLawfulRun (so_far t
   pub seals_now : (c : BranchId) → WritesAsTold t.places (f_at t before) (happenings.Turn u) → IsSealOf c u.wrote → SealsNow c
   seals_now c leads at = elim (serves t.places (f_at t before) u k may).wrote [
     | inl none ↦ absurd (subst (IsSealOf c) none at)
-    | inr it ↦ seals_by c u.wrote (subst (λ o. IfSome o (WroteWhy (heard k u.input) u.input (deed_of (place_at t.places u.node) k u.input).says)) (sym it)
+    | inr it ↦ seals_by c u.wrote (subst (λ o. IfSome o (WroteWhy (heard k u.input) u.input (draft_of (place_at t.places u.node) k u.input).says)) (sym it)
         (why_on (heard k u.input) u.input (place_at t.places u.node) (serves t.places (f_at t before) u k may).step (λ no. record { lives = refl; clock = refl })).0) leads at
   ]
 

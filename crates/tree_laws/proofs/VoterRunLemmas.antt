@@ -38,19 +38,10 @@ use Rattle.tree_laws.proofs.RecordRunLemmas.{records_are_as_told}
 use Rattle.tree_laws.proofs.SealLemmas.{later_unsealed, wrote_seal}
 use Rattle.tree_laws.proofs.VoterLemmas.{mapped_at, edge_at_both, all_numbered, SealedHeard, SealedWeigh, SealsNow, seals_now, sealing_heard, sealing_weighs}
 use Rattle.tree_laws.proofs.WeightLemmas.{asked_way}
+use Rattle.tree_laws.proofs.AtPart.{at_part}
 
 module _ (t : History) (before : List Happening) (lawful : IsLawfulRun (so_far t before)) where
-  abbrev f : Facts
-  f = f_at t before
-
-  abbrev e : List Event
-  e = e_at t before
-
-  abbrev said : List Post
-  said = said_in f
-
-  abbrev bs : List Born
-  bs = births_of (so_far t before)
+  open at_part t before use {f, e, said, bs}
 
   -- a branch becomes sealed now
   abbrev NewSeal : (h : Happening) → MayHappen t.places t.commands f h → BranchId → Type 0

@@ -8,8 +8,8 @@ use Rattle.node_rules.specs.Data.kinds
 use Rattle.node_rules.specs.declared.work.Work.{Work}
 use Rattle.node_rules.specs.Words.{numbered}
 use Rattle.node_rules.specs.Inputs.{Came}
-use Rattle.node_rules.specs.NodeState.{NodeState, Deed, live_at}
-use Rattle.node_rules.specs.Turn.{start_of, deed_of}
+use Rattle.node_rules.specs.NodeState.{NodeState, TurnDraft, live_at}
+use Rattle.node_rules.specs.Turn.{start_of, draft_of}
 use Rattle.agreement.specs.Events.{Event}
 use Rattle.run_rules.specs.Data.{Packet, Turn, Happening, Command}
 use Rattle.run_rules.specs.Facts.{Facts, first_facts, place_at, node_at, facts_after, facts_of}
@@ -104,8 +104,8 @@ module _ (places : List Place) (asked : List Command) (each : (n : ℕ) (p : Pla
       abbrev p : Place
       p = place_at places u.node
 
-      abbrev d : Deed
-      d = deed_of p k u.input
+      abbrev d : TurnDraft
+      d = draft_of p k u.input
 
       abbrev said : List Post
       said = said_in f

@@ -13,7 +13,7 @@ use Rattle.node_rules.specs.declared.session.Session.{Session}
 use Rattle.node_rules.specs.declared.session.PendingCall.TheVariants as pending
 use Rattle.node_rules.specs.declared.work.Work.{Work}
 use Rattle.node_rules.specs.Words.{same, put_item, drop_item}
-use Rattle.node_rules.specs.NodeState.{NodeState, Branch, Deed, live_id, work_id, live_at, branch_at, post, to_one, to_each, no_work, with_work, standing_at}
+use Rattle.node_rules.specs.NodeState.{NodeState, Branch, TurnDraft, live_id, work_id, live_at, branch_at, post, to_one, to_each, no_work, with_work, kept_row_at}
 use Rattle.node_rules.specs.Names.{passed_on}
 use Rattle.node_rules.specs.Statement.{ran, after_run}
 use Rattle.node_rules.specs.Calls.{reply_fields, kept_reply, with_answer, answer_says, called, exec_to, next_child, strength_of, with_edge, waits_for_opened, hears_reply, replies, nobody_at}
@@ -21,7 +21,7 @@ use Rattle.node_rules.specs.Client.{new_root, fresh_root, gives_up}
 use Rattle.node_rules.specs.Prepare.{path_of, site_neighbors, with_prepare_sent, has_voted, answers_first, ready, collecting, with_comment, voted, act_turn}
 use Rattle.node_rules.specs.Commit.{beyond}
 use Rattle.node_rules.specs.Recovery.{kept_told}
-use Rattle.node_rules.specs.Turn.{Is_gone, live_or, stand_of}
+use Rattle.node_rules.specs.Turn.{Is_gone, live_or, status_of}
 use Rattle.node_rules.proofs.Steps as steps
 use Rattle.node_rules.proofs.Steps.{Step, Acting, Says}
 use Rattle.node_rules.proofs.StandLemmas.{live_so}
@@ -36,7 +36,7 @@ use Rattle.run_base_laws.proofs.NeighborStepLemmas.{begun_news, pends_news, lets
 use Rattle.run_base_laws.proofs.KindSayLemmas.{OfDecisions, AllSay, one_says, each_says, prepares_say, told_says, passes_say, askings_say}
 use Rattle.run_base_laws.proofs.InTurnLemmas as turns
 use Rattle.run_base_laws.proofs.InTurnEdgeLemmas.{opened_free, heard_free}
-use Rattle.run_base_laws.proofs.InTurnStepLemmas as deeds
+use Rattle.run_base_laws.proofs.InTurnStepLemmas as drafts
 use Rattle.tree_laws.specs.WeightLaws.{TellsWeight, ToldWeight, TellsItsWeight}
 
 -- ---- messages
@@ -90,12 +90,12 @@ other_silent a to b kind other n v (inl here) = (let yes : same a b ≡ true = s
 other_silent a to b kind other n v (inr none) = none
 
 -- a gone branch is not live
-gone_by : (k : NodeState) (b : BranchId) (o : Option Live) → live_at k b ≡ o → live_or (with_work k o) (standing_at k b) ≡ Is_gone → o ≡ None
+gone_by : (k : NodeState) (b : BranchId) (o : Option Live) → live_at k b ≡ o → live_or (with_work k o) (kept_row_at k b) ≡ Is_gone → o ≡ None
 gone_by k b None is gone = refl
 gone_by k b (Some l) is gone = absurd cc
 
-gone_live : (k : NodeState) (b : BranchId) → stand_of k b ≡ Is_gone → live_at k b ≡ None
-unfolding stand_of
+gone_live : (k : NodeState) (b : BranchId) → status_of k b ≡ Is_gone → live_at k b ≡ None
+unfolding status_of
 gone_live k b gone = gone_by k b (live_at k b) refl gone
 
 -- ---- weights
@@ -172,7 +172,7 @@ module _ (E : BranchId → Option ℕ) (A : BranchId → Option BranchId) (G Her
   Then says l w = Weighs (said ++ says) l w
 
   -- what a step leaves
-  abbrev pub Leaves : Deed → Type 0
+  abbrev pub Leaves : TurnDraft → Type 0
   Leaves d = EachLive (Then d.says) d.after.lives d.after.works
 
   module _ (k : NodeState) (now : Tolds k) where
@@ -310,28 +310,28 @@ module _ (E : BranchId → Option ℕ) (A : BranchId → Option BranchId) (G Her
   }
 
   module _ (p : Place) (place : (b : BranchId) → b.node ≡ p.number → Here b) where
-    pub tolds_on : {k : NodeState} {d : Deed} → Step p input k d → SessionsFit k → News (deeds.NewBorn E A G Here input said received) p input k → Nodes k → Tolds k → Leaves d
+    pub tolds_on : {k : NodeState} {d : TurnDraft} → Step p input k d → SessionsFit k → News (drafts.NewBorn E A G Here input said received) p input k → Nodes k → Tolds k → Leaves d
     tolds_on (steps.Begins {k = k} n s call rows range none step) ss news nodes now =
         let root = news.root n s call rows none in
-        tolds_on step (begun_so k ss p n) (begun_news (deeds.NewBorn E A G Here input said received) p input k n news)
-        (deeds.begins_so E A G Here input said received k nodes (fresh_root p k (new_root p k n)) refl (place (new_root p k n) refl) root)
+        tolds_on step (begun_so k ss p n) (begun_news (drafts.NewBorn E A G Here input said received) p input k n news)
+        (drafts.begins_so E A G Here input said received k nodes (fresh_root p k (new_root p k n)) refl (place (new_root p k n) refl) root)
         (each_begun (Weighs said) (Weighs said) k.lives k.works now (fresh_root p k (new_root p k n)) (begins_weighing said (fresh_root p k (new_root p k n)) (no_work (new_root p k n)) refl refl (fresh_weight _ _ _ _ _)) (λ y v live any is. is))
-    tolds_on (steps.Pends {k = k} n l given call has live code step) ss news nodes now = tolds_on step (pends_so k ss n pending.Commit) (pends_news (deeds.NewBorn E A G Here input said received) p input k n given call news) nodes now
-    tolds_on (steps.Lets_reads_go {k = k} l comment b live begins step) ss news nodes now = tolds_on step (record { roots = ss.roots; above = ss.above }) (lets_news (deeds.NewBorn E A G Here input said received) p input k l.me news) nodes now
-    tolds_on (steps.Counts_ack {k = k} s from kept came counts step) ss news nodes now = tolds_on step (record { roots = ss.roots; above = ss.above }) (acked_news (deeds.NewBorn E A G Here input said received) p input k _ news) nodes now
+    tolds_on (steps.Pends {k = k} n l given call has live code step) ss news nodes now = tolds_on step (pends_so k ss n pending.Commit) (pends_news (drafts.NewBorn E A G Here input said received) p input k n given call news) nodes now
+    tolds_on (steps.Lets_reads_go {k = k} l comment b live begins step) ss news nodes now = tolds_on step (record { roots = ss.roots; above = ss.above }) (lets_news (drafts.NewBorn E A G Here input said received) p input k l.me news) nodes now
+    tolds_on (steps.Counts_ack {k = k} s from kept came counts step) ss news nodes now = tolds_on step (record { roots = ss.roots; above = ss.above }) (acked_news (drafts.NewBorn E A G Here input said received) p input k _ news) nodes now
     tolds_on (steps.Sends {k = k} posts why) ss news nodes now = says_tell k now why
     tolds_on (steps.Runs {k = k} x s given t asked way) ss news nodes now =
         let free : turns.FreeOf E A G Here input said x = turns.asked_free E A G Here input said received k ss nodes asked in
         let y : Branch = record x { live = after_run x.live (ran p k x.live.me s t) } in
-        put k now (answer_says y _ x.live.parent) y.live (with_answer y _).work (deeds.asked_mine E A G Here input said received k asked) (λ b other. answer_silent k now y _ x.live.parent b other)
+        put k now (answer_says y _ x.live.parent) y.live (with_answer y _).work (drafts.asked_mine E A G Here input said received k asked) (λ b other. answer_silent k now y _ x.live.parent b other)
         (answers_weighing said y _ free.unanswered free.owes)
-    tolds_on (steps.Goes_nowhere {k = k} x s given r asked way) ss news nodes now = answers k now x _ (deeds.asked_mine E A G Here input said received k asked) (turns.asked_free E A G Here input said received k ss nodes asked)
+    tolds_on (steps.Goes_nowhere {k = k} x s given r asked way) ss news nodes now = answers k now x _ (drafts.asked_mine E A G Here input said received k asked) (turns.asked_free E A G Here input said received k ss nodes asked)
     tolds_on (steps.Calls {k = k} x s given i table asked way) ss news nodes now =
-        calls k now k.sessions x i (passed_on s table) given (deeds.asked_mine E A G Here input said received k asked) (turns.asked_free E A G Here input said received k ss nodes asked)
+        calls k now k.sessions x i (passed_on s table) given (drafts.asked_mine E A G Here input said received k asked) (turns.asked_free E A G Here input said received k ss nodes asked)
     tolds_on (steps.Opens {k = k} x s given node link table asked way) ss news nodes now =
         let free : turns.FreeOf E A G Here input said x = turns.asked_free E A G Here input said received k ss nodes asked in
         let says : List Post = post x.live.me (nobody_at node) (kinds.Open (next_edge x.live) x.live.root (x.live.depth + 1)) in
-        put k now says x.live (waits_for_opened x link (passed_on s table) given).work (deeds.asked_mine E A G Here input said received k asked) (λ b other. no_reply says b ((λ n v is. is), tt))
+        put k now says x.live (waits_for_opened x link (passed_on s table) given).work (drafts.asked_mine E A G Here input said received k asked) (λ b other. no_reply says b ((λ n v is. is), tt))
         (waits_weighing (said ++ says) x.live (waits_for_opened x link (passed_on s table) given).work (λ is. absurd cc) free.unanswered (owes_calls k now x free))
     tolds_on (steps.Goes_on {k = k} x from strength g link opened) ss news nodes now =
         calls k now k.sessions (with_edge x (new_edge from link strength)) (length x.live.edges + 1) g.statement (g.room - 1) (work_is k x.live.me x opened.live) (opened_free E A G Here input said received k nodes x from strength g link opened)

@@ -14,7 +14,7 @@ use Rattle.node_rules.specs.Data.phases
 use Rattle.node_rules.specs.Data.records
 use Rattle.node_rules.specs.declared.session.Session.{Session}
 use Rattle.node_rules.specs.Words.{item_at, drop_item}
-use Rattle.node_rules.specs.NodeState.{NodeState, Branch, Deed, live_id, post, to_one, to_each}
+use Rattle.node_rules.specs.NodeState.{NodeState, Branch, TurnDraft, live_id, post, to_one, to_each}
 use Rattle.node_rules.specs.Calls.{answer_says, exec_to, with_edge, hears_reply}
 use Rattle.node_rules.specs.Statement.{ran, after_run}
 use Rattle.node_rules.specs.Prepare.{path_of, ready, own_changes, site_neighbors, act_turn}
@@ -91,7 +91,7 @@ module _ (k0 : NodeState) (input : Input) where
   SaidSo says after xs = AllByRecursion (λ x. SaidWhy says after x.from x.to x.kind) xs
 
   -- what a step writes and says is so
-  abbrev pub WhyOf : Deed → Type 0
+  abbrev pub WhyOf : TurnDraft → Type 0
   WhyOf d = IfSome d.wrote (WroteWhy d.says) × SaidSo d.says d.after.lives d.says
 
   mute_why : (says : List Post) (after : List Live) (from to : BranchId) (kind : Kind) → IsMute kind → SaidWhy says after from to kind
@@ -148,7 +148,7 @@ module _ (k0 : NodeState) (input : Input) where
 
   module _ (p : Place) where
     -- the node is as it was, unless a statement with a table came
-    pub why_on : {k : NodeState} {d : Deed} → Step p input k d → (NoRows input → Near k0 k) → WhyOf d
+    pub why_on : {k : NodeState} {d : TurnDraft} → Step p input k d → (NoRows input → Near k0 k) → WhyOf d
     why_on (steps.Begins n s call rows range none step) near = why_on step (λ no. absurd (no n s call rows))
     why_on (steps.Pends {k = k} n l given call has live code step) near = why_on step (λ no. (let is = near no in record { lives = is.lives; clock = is.clock }))
     why_on (steps.Lets_reads_go {k = k} l comment b live begins step) near = why_on step (λ no. (let is = near no in record { lives = is.lives; clock = is.clock }))

@@ -10,3 +10,7 @@ pub mod MessageLaws
 pub mod WeightLaws
 pub mod AgreeLaws
 pub mod TriedForest
+pub mod WeighLaws
+pub mod RestLaws
+pub mod LeaveLaws
+pub mod DecideLaws

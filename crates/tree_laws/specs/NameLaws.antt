@@ -1,7 +1,7 @@
 -- The rows of kept branches name their neighbours beyond, by the forest that the Prepares of the whole run make. What records do by it.
 use Rattle.std.specs.Prelude.{◌≡◌, ℕ, ◌⊎◌, List, map, Option, Some}
 use Rattle.std.specs.List.{AllByRecursion}
-use Rattle.node_rules.specs.Data.{BranchId, Standing}
+use Rattle.node_rules.specs.Data.{BranchId, KeptRow}
 use Rattle.node_rules.specs.NodeState.{NodeState}
 use Rattle.agreement.specs.Events.{Forest, Event, Beyond, Quiet, exit}
 use Rattle.run_rules.specs.Data.{Happening}
@@ -19,7 +19,7 @@ abbrev pub NamesBeyond : Forest → List Event → BranchId → Option BranchId 
 NamesBeyond p t me parent kids = (x : BranchId) → Beyond p x me → IsNamed parent kids x ⊎ (exit t x ≡ Some Quiet)
 
 -- by a row
-abbrev pub RowNames : Forest → List Event → Standing → Type 0
+abbrev pub RowNames : Forest → List Event → KeptRow → Type 0
 RowNames p t s = NamesBeyond p t s.me s.parent (map (λ c. c.branch) s.children)
 
 -- each row of each node that is up does so, whatever happens next

@@ -16,7 +16,7 @@ use Rattle.run_rules.specs.Lawful.{History, IsLawfulRun}
 use Rattle.run_rules.specs.Trail.{trail_of, stopped_by, trail_after}
 use Rattle.run_rules.proofs.ListLemmas.{all_weaker, all_map}
 use Rattle.tree_laws.proofs.PrefixLemmas.{so_far, f_at, one_on}
-use Rattle.tree_site_laws.proofs.TimeLemmas.{Part, part_on, part_lawful, born_end, keep_on}
+use Rattle.tree_laws.proofs.TimeLemmas.{Part, part_on, part_lawful, born_end, keep_on}
 use Rattle.tree_trail_laws.specs.ChildLaws.{IsToldOf, ChildrenAreTold}
 use Rattle.tree_trail_laws.proofs.MomentLemmas.{tr_at, trail_one_on}
 use Rattle.tree_trail_laws.proofs.SeenLemmas.{item_mapped}

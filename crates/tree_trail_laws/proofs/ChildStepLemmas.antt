@@ -15,7 +15,7 @@ use Rattle.node_rules.specs.Data.phases
 use Rattle.node_rules.specs.declared.session.Session.{Session}
 use Rattle.node_rules.specs.Words.{same, numbered, item_at, put_item, drop_item, set_numbered}
 use Rattle.node_rules.specs.Inputs.{Came}
-use Rattle.node_rules.specs.NodeState.{NodeState, Branch, Deed, live_id, branch_at, post, to_one, to_each}
+use Rattle.node_rules.specs.NodeState.{NodeState, Branch, TurnDraft, live_id, branch_at, post, to_one, to_each}
 use Rattle.node_rules.specs.Names.{passed_on}
 use Rattle.node_rules.specs.Statement.{ran, after_run}
 use Rattle.node_rules.specs.Calls.{answer_says, exec_to, next_child, strength_of, with_edge, hears_reply}
@@ -36,7 +36,7 @@ use Rattle.run_base_laws.proofs.KindSayLemmas.{OfDecisions, AllSay, one_says, ea
 use Rattle.run_rules.proofs.ListLemmas.{all_append}
 use Rattle.run_base_laws.proofs.NeighborLemmas.{News, reply_is}
 use Rattle.run_base_laws.proofs.NeighborStepLemmas.{begun_news, pends_news, lets_news, acked_news}
-use Rattle.tree_site_laws.proofs.RestLemmas.{collected}
+use Rattle.tree_laws.proofs.RestLemmas.{collected}
 
 -- ---- receivers of Execs
 
@@ -101,7 +101,7 @@ module _ (k0 : NodeState) (p : Place) (input : Input) (Unborn : BranchId → Typ
   abbrev pub NotThere : Born → Type 0
   NotThere x = (item_at live_id k0.lives x.me ≡ None) × Unborn x.me
 
-  -- The children and the parent of a live branch before the deed: a branch that begins by then is a root.
+  -- The children and the parent of a live branch before the draft: a branch that begins by then is a root.
   pub record Same (l : Live) : Type 0 where
     pub old : (z : Live) → item_at live_id k0.lives l.me ≡ Some z → (children_of l ≡ children_of z) × (l.parent ≡ z.parent)
     pub new : item_at live_id k0.lives l.me ≡ None → l.parent ≡ None
@@ -135,7 +135,7 @@ module _ (k0 : NodeState) (p : Place) (input : Input) (Unborn : BranchId → Typ
   abbrev pub Leaves : List Post → List Live → Type 0
   Leaves says ls = EachLive (λ l w. Grows says l) ls [] × ((b : BranchId) (cs : List BranchId) → item_at live_id ls b ≡ None → called_by b cs says ≡ cs)
 
-  abbrev pub Grown : Deed → Type 0
+  abbrev pub Grown : TurnDraft → Type 0
   Grown d = Leaves d.says d.after.lives
 
   -- the branch whose Opened comes is not a child yet
@@ -280,7 +280,7 @@ module _ (k0 : NodeState) (p : Place) (input : Input) (Unborn : BranchId → Typ
       each_begun (λ l w. Same l) (λ l w. Same l) k.lives [] now l (record { old = λ z found. absurd (cc (found, none)); new = λ no. root }) (λ y v live any is. is)
 
   module _ (fresh : NewChild) where
-    pub grows_on : {k : NodeState} {d : Deed} → Step p input k d → News NotThere p input k → Sames k → Grown d
+    pub grows_on : {k : NodeState} {d : TurnDraft} → Step p input k d → News NotThere p input k → Sames k → Grown d
     grows_on (steps.Begins {k = k} n s call rows range none step) news now =
         grows_on step (begun_news NotThere p input k n news) (begun_root k now (fresh_root p k (new_root p k n)) (news.root n s call rows none).0 refl)
     grows_on (steps.Pends {k = k} n l given call has live code step) news now = grows_on step (pends_news NotThere p input k n given call news) now

@@ -7,19 +7,19 @@ use Rattle.tran_ids.proofs.BranchLemmas.{equal_from_same, same_from_equal}
 use Rattle.tran_ids.proofs.ListedLemmas.{item_is}
 use Rattle.reco.specs.declared.post.Post.{Post}
 use Rattle.session_tree.specs.Live.{children_of}
-use Rattle.node_rules.specs.Data.{BranchId, Edge, Kind, Live, Msg, Stmt, Place, Input}
+use Rattle.node_rules.specs.Data.{BranchId, Edge, Kind, Live, Msg, Stmt, Input}
 use Rattle.node_rules.specs.Data.inputs
 use Rattle.node_rules.specs.Data.kinds
 use Rattle.node_rules.specs.Words.{same, numbered, is_item_of, item_at}
-use Rattle.node_rules.specs.NodeState.{NodeState, Deed, live_id, live_at, post}
+use Rattle.node_rules.specs.NodeState.{NodeState, live_id, live_at, post}
 use Rattle.node_rules.specs.LiveBranches.{EachLive}
-use Rattle.node_rules.specs.Turn.{turn_of, heard, deed_of, stamped}
+use Rattle.node_rules.specs.Turn.{turn_of, heard, stamped}
 use Rattle.run_rules.specs.Births.{Born, births_of, born_at}
 use Rattle.run_base_laws.specs.BirthLaws.{Began, IsChildAt, LiveIs, GoesSo}
 use Rattle.run_rules.specs.Branches.{Seen, Trail, seen_id, seen_at, is_among, root_at, newly_seen}
 use Rattle.run_rules.specs.Data.{Turn, Happening}
 use Rattle.run_rules.specs.Data.happenings
-use Rattle.run_rules.specs.Facts.{Facts, place_at, node_at, kept_after, facts_after}
+use Rattle.run_rules.specs.Facts.{Facts, node_at, kept_after}
 use Rattle.run_rules.specs.Lawful.{MayHappen, IsOwed, History, IsLawfulRun, facts_at}
 use Rattle.run_base_laws.specs.RunEvents.{events_of}
 use Rattle.run_rules.specs.Runs.{is_of_rows}
@@ -38,13 +38,15 @@ use Rattle.run_base_laws.proofs.OwnLemmas.{all_found}
 use Rattle.run_base_laws.proofs.SaidPostLemmas.{said_after}
 use Rattle.run_base_laws.proofs.TurnEventLemmas.{number_is}
 use Rattle.tree_laws.proofs.PrefixLemmas.{so_far, f_at, one_on}
-use Rattle.tree_site_laws.proofs.TimeLemmas.{Part, part_on, part_lawful, may_of, born_end}
+use Rattle.tree_laws.proofs.TimeLemmas.{part_on, may_of, born_end}
 use Rattle.tree_trail_laws.specs.ChildLaws.{IsToldOf}
 use Rattle.tree_trail_laws.proofs.CallLemmas.{call_free}
 use Rattle.tree_trail_laws.proofs.ChildStepLemmas.{called_by, stamped_calls, still_calls, NotThere, Same, Grows, IsOpened, Grown, NewChild, grows_on}
 use Rattle.tree_trail_laws.proofs.MomentLemmas.{tr_at, trail_one_on}
 use Rattle.tree_trail_laws.proofs.PlanLemmas.{find_more, find_last}
 use Rattle.tree_trail_laws.proofs.SeenLemmas.{begun, turned, seen_begun}
+use Rattle.tree_laws.proofs.AtTurn.{at_turn}
+use Rattle.tree_trail_laws.proofs.AtTrail.{at_trail}
 
 -- ---- lists
 
@@ -86,53 +88,11 @@ module _ (t : History) (whole : IsLawfulRun t) where
     pub known : AllByRecursion (IsKnown hs) (tr_at t hs).seen
 
   module _ (hs : List Happening) (u : Turn) (rest : List Happening) (is : hs ++ happenings.Turn u ∷ rest ≡ t.trace) (now : Tells hs) where
-    abbrev hs1 : List Happening
-    hs1 = hs ++ happenings.Turn u ∷ []
-
-    part0 : Part t whole hs
-    part0 = record { rest = happenings.Turn u ∷ rest; is = is }
-
-    part1 : Part t whole hs1
-    part1 = part_on t whole hs (happenings.Turn u) rest is
-
-    abbrev s0 : History
-    s0 = so_far t hs
-
-    abbrev s1 : History
-    s1 = so_far t hs1
-
-    lawful0 : IsLawfulRun s0
-    lawful0 = part_lawful t whole hs part0
-
-    lawful1 : IsLawfulRun s1
-    lawful1 = part_lawful t whole hs1 part1
-
-    abbrev f0 : Facts
-    f0 = f_at t hs
-
-    abbrev f1 : Facts
-    f1 = facts_after t.places t.commands f0 (happenings.Turn u)
-
-    abbrev tr0 : Trail
-    tr0 = tr_at t hs
-
-    abbrev tr1 : Trail
-    tr1 = trail_after t.places f0 tr0 (happenings.Turn u)
+    open at_turn t whole hs u rest is use {after as hs1, part as part0, part_after as part1, s as s0, s_after as s1, lawful as lawful0, lawful_after as lawful1, f as f0, g as f1, k, p, d, bs as bs0}
+    open at_trail t hs u use {tr as tr0, tr_on as tr1}
 
     abbrev pub may : MayHappen t.places t.commands f0 (happenings.Turn u)
     may = may_of t whole hs (happenings.Turn u) rest is
-
-    abbrev k : NodeState
-    k = may.0
-
-    abbrev p : Place
-    p = place_at t.places u.node
-
-    abbrev d : Deed
-    d = deed_of p k u.input
-
-    abbrev bs0 : List Born
-    bs0 = births_of s0
 
     abbrev Unborn : BranchId → Type 0
     Unborn b = born_at bs0 b ≡ None

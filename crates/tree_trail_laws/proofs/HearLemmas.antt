@@ -16,7 +16,7 @@ use Rattle.node_rules.specs.declared.work.Going.{Going}
 use Rattle.node_rules.specs.declared.work.Waits.{Waits}
 use Rattle.node_rules.specs.declared.work.Waits.TheVariants as waiting
 use Rattle.node_rules.specs.Words.{same, item_at, put_item}
-use Rattle.node_rules.specs.NodeState.{NodeState, Branch, Deed, live_id, live_at, branch_at, nothing, post}
+use Rattle.node_rules.specs.NodeState.{NodeState, Branch, TurnDraft, live_id, live_at, branch_at, nothing, post}
 use Rattle.node_rules.specs.Names.{Way, Runs_here, Over, Through, Nowhere_to, way_of}
 use Rattle.node_rules.specs.Calls.{goes, exec_by, on_exec, on_opened, opened_going, opened_waits, on_reply, reply_by, reply_of, admit, takes_call}
 use Rattle.node_rules.specs.Prepare.{is_awaited, answers_first, has_voted, with_prepare_sent, collecting, with_comment, voted, ready, act_turn, answer_act, first_act, collects, prepare_in, answer_in, on_prepare, on_answer, on_commit_point, commit_point_in, commit_point_act, drops, without_read_keys}
@@ -104,8 +104,8 @@ abbrev pub IsBusy : List BranchId → Live → Type 0
 IsBusy vs l = (l.phase ≢ phases.Working) × AreVoted vs l.edges
 
 module _ (p : Place) (k : NodeState) (x : Branch) (found : branch_at k x.live.me ≡ Some x) where
-  -- what stays live after these deeds
-  abbrev pub After : Deed → (Live → Type 0) → Type 0
+  -- what stays live after these drafts
+  abbrev pub After : TurnDraft → (Live → Type 0) → Type 0
   After d P = (l : Live) → live_at d.after x.live.me ≡ Some l → P l
 
   -- where its node keeps the same live branches

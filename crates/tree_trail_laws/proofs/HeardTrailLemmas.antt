@@ -11,10 +11,10 @@ use Rattle.node_rules.specs.Data.kinds
 use Rattle.node_rules.specs.Data.phases
 use Rattle.node_rules.specs.Data.votes
 use Rattle.node_rules.specs.Words.{same, is_item_of}
-use Rattle.node_rules.specs.NodeState.{NodeState, Branch, live_id, live_at, branch_at, standing_at, nothing}
+use Rattle.node_rules.specs.NodeState.{NodeState, Branch, live_id, live_at, branch_at, kept_row_at, nothing}
 use Rattle.node_rules.specs.Calls.{open_by}
 use Rattle.node_rules.specs.Prepare.{is_awaited, answers_first, on_answer, drops}
-use Rattle.node_rules.specs.Turn.{Is_live, live_or, stand_of, kind_turn}
+use Rattle.node_rules.specs.Turn.{Is_live, live_or, status_of, kind_turn}
 use Rattle.node_rules.proofs.StandLemmas.{live_so}
 use Rattle.run_rules.specs.Branches.{Seen, is_among, is_live}
 use Rattle.run_branch_laws.specs.PhaseLaws.{PhaseFits}
@@ -216,9 +216,9 @@ module _ (p : Place) (k : NodeState) (x : Branch) (found : branch_at k x.live.me
   by_kind from scn kinds.Ask is = asks_by from scn (is_branch from z.parent) refl is
 
   -- what stands at the node
-  stands : stand_of k z.me ≡ Is_live x
-  unfolding stand_of
-  stands = ap (λ o. live_or o (standing_at k z.me)) found
+  stands : status_of k z.me ≡ Is_live x
+  unfolding status_of
+  stands = ap (λ o. live_or o (kept_row_at k z.me)) found
 
-  pub heard_so : (from : BranchId) (scn : ℕ) (kind : Kind) → live_at (kind_turn p k from z.me kind (stand_of k z.me)).after z.me ≡ Some l → Heard s (msg from scn kind) l
+  pub heard_so : (from : BranchId) (scn : ℕ) (kind : Kind) → live_at (kind_turn p k from z.me kind (status_of k z.me)).after z.me ≡ Some l → Heard s (msg from scn kind) l
   heard_so from scn kind is = by_kind from scn kind (subst (λ st. live_at (kind_turn p k from z.me kind st).after z.me ≡ Some l) stands is)

@@ -15,12 +15,12 @@ use Rattle.node_rules.specs.Words.{same, item_at}
 use Rattle.node_rules.specs.NodeState.{NodeState, live_id, live_at}
 use Rattle.node_rules.specs.Prepare.{is_awaited, answers_first, has_voted, voted}
 use Rattle.node_rules.specs.Sessions.{session_at}
-use Rattle.node_rules.specs.Turn.{deed_of}
+use Rattle.node_rules.specs.Turn.{draft_of}
 use Rattle.run_rules.specs.Branches.{Seen, Trail, seen_id, seen_at, children_of, children_at, is_among, is_live, all_voted, root_at}
 use Rattle.run_rules.specs.Data.{Turn, Happening}
 use Rattle.run_rules.specs.Data.happenings
 use Rattle.run_rules.specs.Each.{AtEach}
-use Rattle.run_rules.specs.Facts.{Facts, first_facts, place_at, node_at}
+use Rattle.run_rules.specs.Facts.{first_facts, place_at, node_at}
 use Rattle.run_claims.specs.Knowledge.{IsLastVote, IsPrepareToLeaf, IsCommitPoint, IsCommitOfLeaf}
 use Rattle.run_rules.specs.Lawful.{MayTurn, History, IsLawfulRun}
 use Rattle.run_base_laws.specs.NodeLaws.{EachFactFrom}
@@ -33,14 +33,16 @@ use Rattle.run_branch_laws.proofs.PhaseLemmas.{phases_fit}
 use Rattle.tree_laws.proofs.PrefixLemmas.{so_far, f_at}
 use Rattle.book_laws.specs.LeaveLaws.{IsLastAnswer, IsPointed, IsCommit, SealsOn, DecidesOn, LeavesOn, LeavesDuly}
 use Rattle.book_laws.proofs.LeaveLemmas.{branches_leave_duly}
-use Rattle.tree_site_laws.proofs.CommitLemmas.{Ends_record, Commits_root, commit_writes}
-use Rattle.tree_site_laws.proofs.TimeLemmas.{part_lawful, may_of, fact_at}
+use Rattle.tree_laws.proofs.CommitLemmas.{Ends_record, Commits_root, commit_writes}
+use Rattle.tree_laws.proofs.TimeLemmas.{part_lawful, may_of, fact_at}
 use Rattle.tree_trail_laws.specs.LowerLaws.{AreVoted, IsToldLive}
 use Rattle.tree_trail_laws.specs.SeenLaws.{LeavesOnWhatCame, LeavesKnowing, SeenIsEnoughToLeave}
 use Rattle.tree_trail_laws.proofs.FullLemmas.{Sees, SeesAll, full}
 use Rattle.tree_trail_laws.proofs.CallLemmas.{call_free, seen_root}
 use Rattle.tree_trail_laws.proofs.HearLemmas.{first_among}
 use Rattle.tree_trail_laws.proofs.MomentLemmas.{tr_at, at_moment, by_moment}
+use Rattle.tree_laws.proofs.AtTurn.{at_turn}
+use Rattle.tree_trail_laws.proofs.AtTrail.{at_trail}
 
 -- ---- answers
 
@@ -129,11 +131,8 @@ module _ (tr : Trail) (l : Live) (s : Seen) (seen : seen_at tr l.me ≡ Some s) 
 
 module _ (t : History) (whole : IsLawfulRun t) (sees : SeesAll t) where
   module _ (hs : List Happening) (u : Turn) (rest : List Happening) (is : hs ++ happenings.Turn u ∷ rest ≡ t.trace) (k : NodeState) (up : node_at (f_at t hs) u.node ≡ Some k) where
-    abbrev f0 : Facts
-    f0 = f_at t hs
-
-    abbrev tr0 : Trail
-    tr0 = tr_at t hs
+    open at_turn t whole hs u rest is use {f as f0}
+    open at_trail t hs u use {tr as tr0}
 
     saw : Sees f0 tr0
     saw = at_moment t (λ places f tr h. Sees f tr) sees hs (happenings.Turn u) rest is
@@ -151,14 +150,14 @@ module _ (t : History) (whole : IsLawfulRun t) (sees : SeesAll t) where
     phase_of b l live = all_found (λ l. PhaseFits l.parent l.edges l.phase) live_id k.lives b l (phases_fit (so_far t hs) (part_lawful t whole hs (record { rest = happenings.Turn u ∷ rest; is = is })) u.node k up) live
 
     -- the record that was written is the one that the turn writes
-    written : (r : RedoRecord) → u.wrote ≡ Some r → (deed_of (place_at t.places u.node) k u.input).wrote ≡ Some r
+    written : (r : RedoRecord) → u.wrote ≡ Some r → (draft_of (place_at t.places u.node) k u.input).wrote ≡ Some r
     written r wrote = elim (serves t.places f0 u k may).wrote [ inl none ↦ absurd (cc (none, wrote)) | inr new ↦ sym new ∙ wrote ]
 
-    leaf : (b : BranchId) (l : Live) → item_at live_id k.lives b ≡ Some l → l.me ≡ b → (s : Seen) → seen_at tr0 b ≡ Some s → s.children ≡ kept_children l → Ends_record b (deed_of (place_at t.places u.node) k u.input).wrote
+    leaf : (b : BranchId) (l : Live) → item_at live_id k.lives b ≡ Some l → l.me ≡ b → (s : Seen) → seen_at tr0 b ≡ Some s → s.children ≡ kept_children l → Ends_record b (draft_of (place_at t.places u.node) k u.input).wrote
         → IsCommit u.input → l.edges ≡ [] → IsCommitOfLeaf tr0 u.node b u.input
     leaf b l live me s seen kids ends commit none =
         let free = call_free f0 k u.node u.input u.took commit.0 (Some (stmts.Commit commit.1)) commit.2 may.comes in
-        let root : Commits_root k commit.0 (unwrap_or commit.1 []) b = commit_writes (place_at t.places u.node) k commit.0 commit.1 b (subst (λ i. Ends_record b (deed_of (place_at t.places u.node) k i).wrote) commit.2 ends) in
+        let root : Commits_root k commit.0 (unwrap_or commit.1 []) b = commit_writes (place_at t.places u.node) k commit.0 commit.1 b (subst (λ i. Ends_record b (draft_of (place_at t.places u.node) k i).wrote) commit.2 ends) in
         let has : (session_at k.sessions commit.0).root ≡ Some b = root.3 ∙ ap Some root.2 in
         let top = seen_root tr0 k (root_at tr0 u.node commit.0) (session_at k.sessions commit.0).root b has (saw.roots u.node k up commit.0 free.0 free.1) in
         let both : Some top.0 ≡ Some s = sym top.4 ∙ seen in
@@ -174,7 +173,7 @@ module _ (t : History) (whole : IsLawfulRun t) (sees : SeesAll t) where
         let it = saw.lives u.node k up l (subst (λ c. live_at k c ≡ Some l) (sym me) live) in
         subst (λ c. IsLastVote tr0 c u.input ⊎ (IsPrepareToLeaf tr0 c u.input ⊎ IsCommitPoint tr0 c u.input)) me (seals tr0 l it.0 it.1 it.2.told (phase_of b l live) u.input on)
 
-    decides_so : (b : BranchId) (l : Live) → item_at live_id k.lives b ≡ Some l → Ends_record b (deed_of (place_at t.places u.node) k u.input).wrote → DecidesOn l u.input
+    decides_so : (b : BranchId) (l : Live) → item_at live_id k.lives b ≡ Some l → Ends_record b (draft_of (place_at t.places u.node) k u.input).wrote → DecidesOn l u.input
         → IsCommitPoint tr0 b u.input ⊎ ((parent_of (seen_at tr0 b) ≡ None) × (IsLastVote tr0 b u.input ⊎ IsCommitOfLeaf tr0 u.node b u.input))
     decides_so b l live ends on =
         let me : l.me ≡ b = item_is live_id k.lives b l live in
@@ -182,7 +181,7 @@ module _ (t : History) (whole : IsLawfulRun t) (sees : SeesAll t) where
         let it = saw.lives u.node k up l found in
         subst (λ c. IsCommitPoint tr0 c u.input ⊎ ((parent_of (seen_at tr0 c) ≡ None) × (IsLastVote tr0 c u.input ⊎ IsCommitOfLeaf tr0 u.node c u.input))) me
         (decides tr0 l it.0 it.1 it.2.told (phase_of b l live) u.input u.node
-        (leaf l.me l found refl it.0 it.1 it.2.told.children (subst (λ c. Ends_record c (deed_of (place_at t.places u.node) k u.input).wrote) (sym me) ends)) on)
+        (leaf l.me l found refl it.0 it.1 it.2.told.children (subst (λ c. Ends_record c (draft_of (place_at t.places u.node) k u.input).wrote) (sym me) ends)) on)
 
     by_record : (w : Option RedoRecord) → u.wrote ≡ w → IfSome w (LeavesOn k.lives u.input) → LeavesSo w
     by_record None wrote on = tt

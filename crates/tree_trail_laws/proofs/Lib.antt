@@ -1,4 +1,5 @@
 pub mod MomentLemmas
+pub mod AtTrail
 pub mod PlanLemmas
 pub mod SeenLemmas
 pub mod CallLemmas
@@ -21,7 +22,6 @@ pub mod OwnLemmas
 pub mod EnoughLemmas
 pub mod LeaveLemmas
 pub mod LowerLeaveLemmas
-pub mod TopStepLemmas
 pub mod TopNodeLemmas
 pub mod TopNodeStepLemmas
 pub mod TopSeqLemmas

@@ -6,7 +6,7 @@ use Rattle.node_rules.specs.Data.{BranchId, Live, RedoRecord}
 use Rattle.node_rules.specs.Data.records
 use Rattle.node_rules.specs.Words.{item_at}
 use Rattle.node_rules.specs.NodeState.{NodeState, live_id, live_at}
-use Rattle.run_rules.specs.Branches.{Seen, Trail, seen_at}
+use Rattle.run_rules.specs.Branches.{Seen, seen_at}
 use Rattle.run_rules.specs.Data.{Turn, Happening}
 use Rattle.run_rules.specs.Data.happenings
 use Rattle.run_rules.specs.Facts.{first_facts, node_at}
@@ -19,20 +19,19 @@ use Rattle.run_branch_laws.proofs.PhaseLemmas.{phases_fit}
 use Rattle.tree_laws.proofs.PrefixLemmas.{so_far, f_at}
 use Rattle.book_laws.specs.LeaveLaws.{SealsOn, DecidesOn, LeavesOn, LeavesDuly}
 use Rattle.book_laws.proofs.LeaveLemmas.{branches_leave_duly}
-use Rattle.tree_site_laws.proofs.TimeLemmas.{Part, part_lawful, fact_at}
+use Rattle.tree_laws.proofs.TimeLemmas.{part_lawful, fact_at}
 use Rattle.tree_trail_laws.specs.LeaveLaws.{LeavesBelow, LeavesAsTold, LowerLeaveAsTold}
 use Rattle.tree_trail_laws.specs.LowerLaws.{IsToldLive}
 use Rattle.tree_trail_laws.proofs.LeaveLemmas.{pointed, seals}
 use Rattle.tree_trail_laws.proofs.LowerRunLemmas.{lower_at}
 use Rattle.tree_trail_laws.proofs.MomentLemmas.{tr_at, by_moment}
+use Rattle.tree_laws.proofs.AtTurn.{at_turn}
+use Rattle.tree_trail_laws.proofs.AtTrail.{at_trail}
 
 module _ (t : History) (whole : IsLawfulRun t) where
   module _ (hs : List Happening) (u : Turn) (rest : List Happening) (is : hs ++ happenings.Turn u ∷ rest ≡ t.trace) (k : NodeState) (up : node_at (f_at t hs) u.node ≡ Some k) where
-    abbrev tr0 : Trail
-    tr0 = tr_at t hs
-
-    part0 : Part t whole hs
-    part0 = record { rest = happenings.Turn u ∷ rest; is = is }
+    open at_turn t whole hs u rest is use {part as part0}
+    open at_trail t hs u use {tr as tr0}
 
     leaves : IfSome u.wrote (LeavesOn k.lives u.input)
     leaves =

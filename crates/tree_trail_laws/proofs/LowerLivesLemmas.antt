@@ -6,25 +6,25 @@ use Rattle.tran_ids.proofs.BranchLemmas.{equal_from_same, same_from_equal}
 use Rattle.tran_ids.proofs.ListedLemmas.{item_is}
 use Rattle.reco.specs.declared.post.Post.{Post}
 use Rattle.agreement.specs.Events.{Exit, Quiet, exit}
-use Rattle.node_rules.specs.Data.{BranchId, Kind, Live, Msg, Input, Place}
+use Rattle.node_rules.specs.Data.{BranchId, Kind, Live, Msg, Input}
 use Rattle.node_rules.specs.Data.inputs
 use Rattle.node_rules.specs.Data.kinds
 use Rattle.node_rules.specs.Data.phases
 use Rattle.node_rules.specs.Words.{same, item_at}
 use Rattle.node_rules.specs.Inputs.{Came}
-use Rattle.node_rules.specs.NodeState.{NodeState, Branch, Deed, live_id, live_at, branch_at, work_at, with_work}
-use Rattle.node_rules.specs.Turn.{turn_of, heard, deed_of, kind_turn, stand_of}
+use Rattle.node_rules.specs.NodeState.{NodeState, Branch, live_id, live_at, branch_at, work_at, with_work}
+use Rattle.node_rules.specs.Turn.{turn_of, heard, draft_of, kind_turn, status_of}
 use Rattle.run_rules.specs.Births.{births_of, born_at}
 use Rattle.run_rules.specs.Branches.{Seen, Trail, is_among, seen_id, seen_at, newly_seen}
 use Rattle.run_rules.specs.Data.{Took, Turn, Happening}
 use Rattle.run_rules.specs.Data.happenings
-use Rattle.run_rules.specs.Facts.{Facts, place_at, node_at, kept_after, facts_after}
+use Rattle.run_rules.specs.Facts.{Facts, node_at, kept_after}
 use Rattle.run_branch_laws.specs.HeardLaws.{QuietIs}
 use Rattle.run_base_laws.specs.InTurnLaws.{post_of, packet_post, said_in}
 use Rattle.run_rules.specs.Lawful.{MayHappen, Comes, History, IsLawfulRun, facts_at}
 use Rattle.run_branch_laws.specs.PhaseLaws.{PhaseFits}
 use Rattle.run_base_laws.specs.RunEvents.{with_record, events_of}
-use Rattle.run_rules.specs.Trail.{voted_after, begins_collect, input_drops, recorded_exit, is_quiet, trail_after}
+use Rattle.run_rules.specs.Trail.{voted_after, begins_collect, input_drops, recorded_exit, is_quiet}
 use Rattle.run_rules.proofs.AtNodeLemmas.{turn_elsewhere}
 use Rattle.run_base_laws.proofs.EventsStandLemmas.{run_stands, nodes_are_as_events, ids_name_their_node}
 use Rattle.run_branch_laws.proofs.FreezeRunLemmas.{asked_stand_still}
@@ -37,8 +37,8 @@ use Rattle.run_base_laws.proofs.OwnLemmas.{all_found}
 use Rattle.run_branch_laws.proofs.PhaseLemmas.{phases_fit}
 use Rattle.run_base_laws.proofs.RootLemmas.{SessionsFit, root_alone, sessions_keep}
 use Rattle.run_base_laws.proofs.SaidPostLemmas.{said_after}
-use Rattle.tree_laws.proofs.PrefixLemmas.{so_far, f_at, e_at, one_on, more_on}
-use Rattle.tree_site_laws.proofs.TimeLemmas.{Part, part_on, part_lawful, may_of}
+use Rattle.tree_laws.proofs.PrefixLemmas.{f_at, e_at, one_on, more_on}
+use Rattle.tree_laws.proofs.TimeLemmas.{may_of}
 use Rattle.tree_trail_laws.specs.ChildLaws.{IsToldOf}
 use Rattle.tree_trail_laws.specs.LowerLaws.{AreVoted, IsToldLive}
 use Rattle.tree_trail_laws.proofs.ChildTurnLemmas as kids
@@ -50,8 +50,10 @@ use Rattle.tree_trail_laws.proofs.SeenLemmas.{begun, brings, turned, seen_begun,
 use Rattle.tree_trail_laws.proofs.UntouchedLemmas.{stays_on}
 use Rattle.tree_trail_laws.proofs.ChildRunLemmas.{tells_at}
 use Rattle.tree_trail_laws.proofs.ChildTurnLemmas.{all_behind, Tells}
+use Rattle.tree_laws.proofs.AtTurn.{at_turn}
+use Rattle.tree_trail_laws.proofs.AtTrail.{at_trail}
 
-bool_cases : (q : Bool) → (P : Type 0) → (q ≡ true → P) → (q ≡ false → P) → P
+pub bool_cases : (q : Bool) → (P : Type 0) → (q ≡ true → P) → (q ≡ false → P) → P
 bool_cases true P at_true at_false = at_true refl
 bool_cases false P at_true at_false = at_false refl
 
@@ -73,50 +75,14 @@ module _ (t : History) (whole : IsLawfulRun t) where
   Lower hs = TellsLives (f_at t hs) (tr_at t hs)
 
   module _ (hs : List Happening) (u : Turn) (rest : List Happening) (is : hs ++ happenings.Turn u ∷ rest ≡ t.trace) (now : Lower hs) where
-    abbrev hs1 : List Happening
-    hs1 = hs ++ happenings.Turn u ∷ []
-
-    part0 : Part t whole hs
-    part0 = record { rest = happenings.Turn u ∷ rest; is = is }
-
-    abbrev s0 : History
-    s0 = so_far t hs
-
-    abbrev s1 : History
-    s1 = so_far t hs1
-
-    lawful0 : IsLawfulRun s0
-    lawful0 = part_lawful t whole hs part0
-
-    lawful1 : IsLawfulRun s1
-    lawful1 = part_lawful t whole hs1 (part_on t whole hs (happenings.Turn u) rest is)
+    open at_turn t whole hs u rest is use {after as hs1, part as part0, s as s0, s_after as s1, lawful as lawful0, lawful_after as lawful1, f as f0, g as f1, k, p, d}
+    open at_trail t hs u use {tr as tr0, tr_on as tr1}
 
     tells : Tells t whole hs
     tells = tells_at t whole hs part0
 
-    abbrev f0 : Facts
-    f0 = f_at t hs
-
-    abbrev f1 : Facts
-    f1 = facts_after t.places t.commands f0 (happenings.Turn u)
-
-    abbrev tr0 : Trail
-    tr0 = tr_at t hs
-
-    abbrev tr1 : Trail
-    tr1 = trail_after t.places f0 tr0 (happenings.Turn u)
-
     abbrev pub may : MayHappen t.places t.commands f0 (happenings.Turn u)
     may = may_of t whole hs (happenings.Turn u) rest is
-
-    abbrev k : NodeState
-    k = may.0
-
-    abbrev p : Place
-    p = place_at t.places u.node
-
-    abbrev d : Deed
-    d = deed_of p k u.input
 
     -- ---- one that is live after the turn
 
@@ -300,8 +266,8 @@ module _ (t : History) (whole : IsLawfulRun t) where
                 let rests : z.phase ≢ phases.Working → x.work.going ≡ None = (λ busy. ((asked_stand_still s0 lawful0 u.node k may.1.up (record { live = z; work = work_at k z.me }) found0).1 busy).0) in
                 let phase : PhaseFits z.parent z.edges z.phase = all_found (λ l. PhaseFits l.parent l.edges l.phase) live_id k.lives z.me z (phases_fit s0 lawful0 u.node k may.1.up) z_live in
                 let to_z : m.to ≡ z.me = to ∙ sym me in
-                let after : live_at (deed_of p k (inputs.Message m)).after z.me ≡ Some l = subst (λ i. live_at (deed_of p k i).after z.me ≡ Some l) came (subst (λ c. live_at d.after c ≡ Some l) (sym me) live) in
-                let turned_at : live_at (kind_turn p k1 m.from z.me m.kind (stand_of k1 z.me)).after z.me ≡ Some l = subst (λ b. live_at (kind_turn p k1 m.from b m.kind (stand_of k1 b)).after z.me ≡ Some l) to_z after in
+                let after : live_at (draft_of p k (inputs.Message m)).after z.me ≡ Some l = subst (λ i. live_at (draft_of p k i).after z.me ≡ Some l) came (subst (λ c. live_at d.after c ≡ Some l) (sym me) live) in
+                let turned_at : live_at (kind_turn p k1 m.from z.me m.kind (status_of k1 z.me)).after z.me ≡ Some l = subst (λ b. live_at (kind_turn p k1 m.from b m.kind (status_of k1 b)).after z.me ≡ Some l) to_z after in
                 subst (λ b. Heard s (record { from = m.from; to = b; scn = m.scn; kind = m.kind }) l) (sym to_z) (heard_so p k1 x found rests phase s (me_s ∙ sym me) was l m.from m.scn m.kind turned_at)
 
     lives_at : TellsLives f1 tr1

@@ -3,22 +3,22 @@ use Rattle.std.proofs.Common.{◌≡◌, ℕ, ◌⊎◌, true, false, List, [], 
 use Rattle.std.specs.List.{list_any, AllByRecursion}
 use Rattle.tran_ids.proofs.ListedLemmas.{item_is, put_found}
 use Rattle.sql_eval.specs.Meaning.{meant}
-use Rattle.node_rules.specs.Data.{Value, Answer, BranchId, Live, Place}
+use Rattle.node_rules.specs.Data.{Value, Answer, BranchId, Live}
 use Rattle.node_rules.specs.Data.answers
 use Rattle.node_rules.specs.Rows.{same_value}
 use Rattle.node_rules.specs.Meaning.{examined}
 use Rattle.node_rules.specs.Names.{ref_of}
 use Rattle.node_rules.specs.Records.{nothing_stored, stored_by}
-use Rattle.node_rules.specs.NodeState.{NodeState, Branch, Deed, live_id, live_at}
+use Rattle.node_rules.specs.NodeState.{NodeState, TurnDraft, live_id, live_at}
 use Rattle.node_rules.specs.Prepare.{own_changes}
-use Rattle.node_rules.specs.Statement.{Ran, Refuses, Reads, Writes, ran, after_run, answer_of_run, owns_after, view}
-use Rattle.node_rules.specs.Turn.{turn_of, heard, deed_of, outcome_of}
+use Rattle.node_rules.specs.Statement.{StmtOutcome, Refuses, Reads, Writes, ran, after_run, answer_of_run, owns_after, view}
+use Rattle.node_rules.specs.Turn.{turn_of, heard, draft_of, output_of}
 use Rattle.node_rules.proofs.StandLemmas.{live_so}
-use Rattle.run_rules.specs.Branches.{Run, Seen, Trail, seen_id, seen_at, own_at}
+use Rattle.run_rules.specs.Branches.{Run, Seen, seen_id, seen_at, own_at}
 use Rattle.run_key_laws.specs.ChangedLaws.{changes_at}
 use Rattle.run_rules.specs.Data.{Turn, Happening}
 use Rattle.run_rules.specs.Data.happenings
-use Rattle.run_rules.specs.Facts.{Facts, place_at, node_at, records_at, served, outcome_at}
+use Rattle.run_rules.specs.Facts.{node_at, records_at, served, outcome_at}
 use Rattle.run_rules.specs.Lawful.{MayHappen, History, IsLawfulRun, facts_at}
 use Rattle.run_claims.specs.Meanings.{AnswerIsMeant}
 use Rattle.run_base_laws.specs.NodeLaws.{unacked}
@@ -28,8 +28,7 @@ use Rattle.run_base_laws.proofs.EventsStandLemmas.{ids_name_their_node}
 use Rattle.run_base_laws.proofs.OwnLemmas.{all_found}
 use Rattle.run_key_laws.proofs.RanLemmas.{runs_at_table}
 use Rattle.run_base_laws.proofs.StoredLemmas.{StoresOf, records_are_kept}
-use Rattle.tree_laws.proofs.PrefixLemmas.{so_far, f_at, one_on}
-use Rattle.tree_site_laws.proofs.TimeLemmas.{part_on, part_lawful}
+use Rattle.tree_laws.proofs.PrefixLemmas.{f_at, one_on}
 use Rattle.tree_trail_laws.specs.OwnLaws.{TellsRoots}
 use Rattle.tree_trail_laws.proofs.ChildTurnLemmas as kids
 use Rattle.tree_trail_laws.proofs.MomentLemmas.{tr_at}
@@ -39,9 +38,10 @@ use Rattle.tree_trail_laws.proofs.OwnRunLemmas.{IsOfBook, IsMeantBy, of_book, ru
 use Rattle.tree_trail_laws.proofs.OwnStepLemmas.{HasRun, Rests, AcceptsNone, turns_on}
 use Rattle.tree_trail_laws.proofs.OwnTurnLemmas as turns
 use Rattle.tree_trail_laws.proofs.OwnTurnLemmas.{Owns}
-use Rattle.tree_trail_laws.proofs.SeenLemmas.{begun}
+use Rattle.tree_laws.proofs.AtTurn.{at_turn}
+use Rattle.tree_trail_laws.proofs.AtTrail.{at_trail}
 
-all_at : {A : Type 0} (P : A → Type 0) (xs : List A) (i : ℕ) (x : A) → AllByRecursion P xs → slice_get xs i ≡ Some x → P x
+pub all_at : {A : Type 0} (P : A → Type 0) (xs : List A) (i : ℕ) (x : A) → AllByRecursion P xs → slice_get xs i ≡ Some x → P x
 all_at P [] i x all is = absurd cc
 all_at P (y ∷ ys) zero x all is = subst P (let it : Some y ≡ Some x = is in let here : y ≡ x = cc in here) all.0
 all_at P (y ∷ ys) (suc i) x all is = all_at P ys i x all.1 is
@@ -53,26 +53,11 @@ refused _ is = absurd cc
 
 module _ (t : History) (whole : IsLawfulRun t) where
   module _ (hs : List Happening) (u : Turn) (more : List Happening) (is : hs ++ happenings.Turn u ∷ more ≡ t.trace) (roots : TellsRoots t.places (f_at t hs) (tr_at t hs)) (now : Owns (f_at t hs) (tr_at t hs)) (uncut : u.cut ≡ false) where
-    abbrev s0 : History
-    s0 = so_far t hs
-
-    abbrev s1 : History
-    s1 = so_far t (hs ++ happenings.Turn u ∷ [])
+    open at_turn t whole hs u more is use {s as s0, s_after as s1, lawful_after as lawful1, f as f0, p}
+    open at_trail t hs u use {tr as tr0, begun_tr as trb}
 
     lawful0 : IsLawfulRun s0
     lawful0 = turns.lawful0 t whole hs u more is roots now
-
-    lawful1 : IsLawfulRun s1
-    lawful1 = part_lawful t whole (hs ++ happenings.Turn u ∷ []) (part_on t whole hs (happenings.Turn u) more is)
-
-    abbrev f0 : Facts
-    f0 = f_at t hs
-
-    abbrev tr0 : Trail
-    tr0 = tr_at t hs
-
-    abbrev trb : Trail
-    trb = begun t.places f0 tr0 u
 
     abbrev may : MayHappen t.places t.commands f0 (happenings.Turn u)
     may = turns.may t whole hs u more is roots now
@@ -80,14 +65,11 @@ module _ (t : History) (whole : IsLawfulRun t) where
     abbrev k : NodeState
     k = (turns.may t whole hs u more is roots now).0
 
-    abbrev p : Place
-    p = place_at t.places u.node
-
     abbrev k1 : NodeState
     k1 = heard k u.input
 
-    abbrev d : Deed
-    d = deed_of p k u.input
+    abbrev d : TurnDraft
+    d = draft_of p k u.input
 
     abbrev pub knows_after : (l : Live) → live_at d.after l.me ≡ Some l → Knows k1 trb l.me
     knows_after l live = turns.knows_after t whole hs u more is roots now uncut l live
@@ -98,23 +80,19 @@ module _ (t : History) (whole : IsLawfulRun t) where
         let up1 : node_at (facts_at s1) u.node ≡ Some d.after = ap (λ f. node_at f u.node) (one_on t hs (happenings.Turn u)) ∙ kids.after_up t whole hs u more is (turns.tells t whole hs u more is roots now) uncut in
         all_found (λ y. y.me.node ≡ u.node) live_id d.after.lives l.me l (ids_name_their_node s1 lawful1 u.node d.after up1).lives live
 
-    outcome_is : outcome_at t.places f0 u ≡ Some (outcome_of d)
+    outcome_is : outcome_at t.places f0 u ≡ Some (output_of d)
     unfolding turn_of
     outcome_is = ap (served p u.input) may.1.up
 
     -- ---- a run
 
     module _ (has : HasRun p u.input k1 d) where
-      abbrev j : NodeState
-      j = has.at
-
-      abbrev x : Branch
-      x = has.branch
+      open has use {at as j, branch as x}
 
       abbrev b : BranchId
       b = x.live.me
 
-      abbrev q : Ran
+      abbrev q : StmtOutcome
       q = ran p j b has.statement has.table
 
       abbrev y : Live
@@ -142,7 +120,7 @@ module _ (t : History) (whole : IsLawfulRun t) where
       runs = one_runs f0 trb u uncut asked.0 has.statement has.table asked.1 (table_so f0 u.node j p x.live has.room has.statement has.table stored has.way)
 
       pub answers_it : answered_by (outcome_at t.places f0 u) ≡ Some (answer_of_run q)
-      answers_it = ap answered_by outcome_is ∙ (ap (λ e. answered_by (Some (outcome_of e))) has.is ∙ run_answered p j x has.statement has.table)
+      answers_it = ap answered_by outcome_is ∙ (ap (λ e. answered_by (Some (output_of e))) has.is ∙ run_answered p j x has.statement has.table)
 
       of_it : IsOfBook f0.book u.node j
       of_it = from_book p u.input has.from f0.book u.node (heard_book k u.input f0.book u.node (of_book s0 lawful0 u.node k may.1.up))
@@ -177,7 +155,7 @@ module _ (t : History) (whole : IsLawfulRun t) where
           node_is : run.branch.node ≡ u.node
           node_is = ap (λ (c : BranchId). c.node) asked.2 ∙ own_node y runs_on
 
-          by : (r : Ran) → IsMeantBy f0.book u.node has.statement has.table (view_by f0.book b (own_changes j b) has.table.name) r → AnswerIsMeant f0 tr0 run (answer_of_run r)
+          by : (r : StmtOutcome) → IsMeantBy f0.book u.node has.statement has.table (view_by f0.book b (own_changes j b) has.table.name) r → AnswerIsMeant f0 tr0 run (answer_of_run r)
           by (Refuses why) so = tt
           by (Reads rows keys) so = record {
             gives = meaning_is ∙ so.0;

@@ -18,7 +18,7 @@ use Rattle.node_rules.specs.Names.{ref_named, ref_of, target_of, Runs_here, Thro
 use Rattle.node_rules.specs.Calls.{admit, runs_here, answer_says, answer_ends}
 use Rattle.node_rules.specs.Records.{applied, nothing_stored, stored_by}
 use Rattle.node_rules.specs.Statement.{ran, after_run, answer_of_run}
-use Rattle.node_rules.specs.Turn.{outcome_of}
+use Rattle.node_rules.specs.Turn.{output_of}
 use Rattle.node_rules.proofs.Steps as steps
 use Rattle.node_rules.proofs.Steps.{HasRoot, Asked, IsOfRows}
 use Rattle.run_rules.specs.Branches.{Seen, Trail, seen_at, is_live, root_at}
@@ -113,11 +113,11 @@ new_no true wide node link table a b t is = absurd cc
 new_no false true node link table a b t is = absurd cc
 new_no false false node link table a b t is = absurd cc
 
-edge_no : (p : Place) (l : Live) (given node : ℕ) (link table : List ℕ) (o : Option ℕ) (t : Table) → way_edge p l given node link table o ≡ Runs_here t → ⊥
+pub edge_no : (p : Place) (l : Live) (given node : ℕ) (link table : List ℕ) (o : Option ℕ) (t : Table) → way_edge p l given node link table o ≡ Runs_here t → ⊥
 edge_no p l given node link table (Some i) t is = absurd cc
 edge_no p l given node link table None t is = new_no (nat_le depth_limit l.depth || (room l given == 0)) (nat_le p.links (length l.edges)) node link table _ _ t is
 
-target_no : (p : Place) (l : Live) (given : ℕ) (link table : List ℕ) (o : Option ℕ) (t : Table) → way_target p l given link table o ≡ Runs_here t → ⊥
+pub target_no : (p : Place) (l : Live) (given : ℕ) (link table : List ℕ) (o : Option ℕ) (t : Table) → way_target p l given link table o ≡ Runs_here t → ⊥
 target_no p l given link table None t is = absurd cc
 target_no p l given link table (Some node) t is = edge_no p l given node link table (edge_by_link l link) t is
 
@@ -162,11 +162,11 @@ module _ (f : Facts) (tr : Trail) (u : Turn) where
       ∙ (ap (run_by f tr u.node) asked ∙ ap (run_at_table tr.moment (asking b s)) found)
 
 -- what is answered to it
-pub run_answered : (p : Place) (k : NodeState) (x : Branch) (s : Stmt) (t : Table) → answered_by (Some (outcome_of (runs_here p k x s t))) ≡ Some (answer_of_run (ran p k x.live.me s t))
+pub run_answered : (p : Place) (k : NodeState) (x : Branch) (s : Stmt) (t : Table) → answered_by (Some (output_of (runs_here p k x s t))) ≡ Some (answer_of_run (ran p k x.live.me s t))
 run_answered p k x s t = by x.live.parent
   where
     by : (o : Option BranchId)
-        → answered_by (Some (outcome_of (record (runs_here p k x s t) {
+        → answered_by (Some (output_of (record (runs_here p k x s t) {
           says = answer_says (record x { live = after_run x.live (ran p k x.live.me s t) }) (answer_of_run (ran p k x.live.me s t)) o;
           ended = answer_ends (after_run x.live (ran p k x.live.me s t)) (answer_of_run (ran p k x.live.me s t)) o;
         })))

@@ -13,7 +13,7 @@ use Rattle.node_rules.specs.Data.kinds
 use Rattle.node_rules.specs.Words.{same, item_at, put_item, drop_item}
 use Rattle.node_rules.specs.Inputs.{Came}
 use Rattle.node_rules.specs.Names.{Way, Runs_here, Over, Through, Nowhere_to, way_of}
-use Rattle.node_rules.specs.NodeState.{NodeState, Branch, Deed, live_id, work_id, work_or, live_at, work_at, with_work, branch_at}
+use Rattle.node_rules.specs.NodeState.{NodeState, Branch, TurnDraft, live_id, work_id, work_or, live_at, work_at, with_work, branch_at}
 use Rattle.node_rules.specs.Prepare.{act_turn}
 use Rattle.node_rules.specs.Calls.{admit, takes_call, goes, exec_by, on_exec}
 use Rattle.node_rules.proofs.LiveLemmas.{work_is}
@@ -82,7 +82,7 @@ module _ (p : Place) (input : Input) (b : BranchId) (not_to : (from : BranchId) 
   act_calls k l q acts.Finish y live = left_calls k.lives k.works l.me b y live
   act_calls k l q acts.Abandon y live = left_calls k.lives k.works l.me b y live
 
-  pub calls_on : {k : NodeState} {d : Deed} → Step p input k d → (y : Live) → live_at d.after b ≡ Some y → last_of d.after b ≡ last_of k b
+  pub calls_on : {k : NodeState} {d : TurnDraft} → Step p input k d → (y : Live) → live_at d.after b ≡ Some y → last_of d.after b ≡ last_of k b
   calls_on (steps.Begins n s call rows range none step) y live = calls_on step y live
   calls_on (steps.Pends n l given call has found code step) y live = calls_on step y live
   calls_on (steps.Lets_reads_go l comment q found begins step) y live = calls_on step y live

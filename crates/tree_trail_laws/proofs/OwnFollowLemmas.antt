@@ -5,9 +5,9 @@ use Rattle.tran_ids.proofs.ListedLemmas.{item_is}
 use Rattle.tran_ids.proofs.NumberedLemmas.{set_or_before}
 use Rattle.node_rules.specs.Data.{Answer, BranchId, Live}
 use Rattle.node_rules.specs.Words.{same, item_at}
-use Rattle.node_rules.specs.NodeState.{NodeState, Deed, live_id, live_at}
+use Rattle.node_rules.specs.NodeState.{NodeState, TurnDraft, live_id, live_at}
 use Rattle.node_rules.specs.Prepare.{own_changes}
-use Rattle.node_rules.specs.Turn.{turn_of, start_of, deed_of}
+use Rattle.node_rules.specs.Turn.{turn_of, start_of, draft_of}
 use Rattle.run_rules.specs.Branches.{Dropped, Run, Seen, Trail, seen_id, seen_at, own_at, own_of, is_live_at}
 use Rattle.run_rules.specs.Data.{Turn, Happening}
 use Rattle.run_rules.specs.Data.happenings
@@ -21,7 +21,7 @@ use Rattle.run_rules.proofs.AtNodeLemmas.{turn_elsewhere}
 use Rattle.run_base_laws.proofs.EventsStandLemmas.{run_stands, ids_name_their_node}
 use Rattle.run_base_laws.proofs.OwnLemmas.{all_found}
 use Rattle.tree_laws.proofs.PrefixLemmas.{so_far, f_at, one_on}
-use Rattle.tree_site_laws.proofs.TimeLemmas.{Part, keep_on}
+use Rattle.tree_laws.proofs.TimeLemmas.{Part, keep_on}
 use Rattle.tree_trail_laws.specs.OwnLaws.{TellsRoots}
 use Rattle.tree_trail_laws.specs.SeenLaws.{TellsOwns, Sees, SeesAll}
 use Rattle.tree_trail_laws.proofs.ChildTurnLemmas as kids
@@ -35,6 +35,9 @@ use Rattle.tree_trail_laws.proofs.OwnTurnLemmas as turns
 use Rattle.tree_trail_laws.proofs.OwnTurnLemmas.{taken_of, Owns}
 use Rattle.tree_trail_laws.proofs.SeenLemmas.{begun, turned, seen_begun, seen_turned}
 use Rattle.tree_trail_laws.proofs.StartLemmas.{started_none, none_made}
+use Rattle.tree_laws.proofs.AtTurn.{at_turn}
+use Rattle.tree_trail_laws.proofs.AtTrail.{at_trail}
+use Rattle.tree_trail_laws.proofs.SeenLemmas.{stopped_me}
 
 -- What is told of one live branch.
 pub record IsSo (tr : Trail) (k : NodeState) (b : BranchId) : Type 0 where
@@ -49,13 +52,6 @@ both : (f : Facts) (tr : Trail) → AreSo f tr → Owns f tr
 both f tr all = record { owns = λ n k up l live. (all n k up l live).own; calls = λ n k up l live. (all n k up l live).calls }
 
 -- ---- a stop leaves what is told of changes and calls
-
-stopped_me : (n : ℕ) (s : Seen) → (stopped_by n s).me ≡ s.me
-stopped_me n s = by (is_live_at n s)
-  where
-    by : (q : Bool) → (if q then record s { exit = Some Dropped } else s).me ≡ s.me
-    by true = refl
-    by false = refl
 
 stopped_at : (n : ℕ) (xs : List Seen) (b : BranchId) → item_at seen_id (map (stopped_by n) xs) b ≡ option_map (stopped_by n) (item_at seen_id xs b)
 stopped_at n [] b = refl
@@ -84,17 +80,8 @@ module _ (t : History) (whole : IsLawfulRun t) (roots : AtEach (λ places f tr h
   -- ---- a turn
 
   module _ (hs : List Happening) (u : Turn) (more : List Happening) (is : hs ++ happenings.Turn u ∷ more ≡ t.trace) (now : Owns (f_at t hs) (tr_at t hs)) where
-    abbrev f0 : Facts
-    f0 = f_at t hs
-
-    abbrev f1 : Facts
-    f1 = facts_after t.places t.commands f0 (happenings.Turn u)
-
-    abbrev tr0 : Trail
-    tr0 = tr_at t hs
-
-    abbrev tr1 : Trail
-    tr1 = trail_after t.places f0 tr0 (happenings.Turn u)
+    open at_turn t whole hs u more is use {f as f0, g as f1}
+    open at_trail t hs u use {tr as tr0, tr_on as tr1}
 
     abbrev r0 : TellsRoots t.places f0 tr0
     r0 = roots_at hs (happenings.Turn u) more is
@@ -102,8 +89,8 @@ module _ (t : History) (whole : IsLawfulRun t) (roots : AtEach (λ places f tr h
     abbrev may : MayHappen t.places t.commands f0 (happenings.Turn u)
     may = turns.may t whole hs u more is r0 now
 
-    abbrev d : Deed
-    d = deed_of (place_at t.places u.node) (turns.may t whole hs u more is r0 now).0 u.input
+    abbrev d : TurnDraft
+    d = draft_of (place_at t.places u.node) (turns.may t whole hs u more is r0 now).0 u.input
 
     here : IsHere u.node u.input
     here = comes_here f0 may.0 u.node u.input u.took may.1.comes

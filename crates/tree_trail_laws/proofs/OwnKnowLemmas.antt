@@ -9,7 +9,7 @@ use Rattle.node_rules.specs.Words.{same}
 use Rattle.node_rules.specs.Rows.{changes_of, set_over}
 use Rattle.node_rules.specs.NodeState.{NodeState, own_id, sets_of, sets_at}
 use Rattle.node_rules.specs.Prepare.{own_changes}
-use Rattle.node_rules.specs.Statement.{Ran, Refuses, Reads, Writes, answer_of_run, owns_after, view}
+use Rattle.node_rules.specs.Statement.{StmtOutcome, Refuses, Reads, Writes, answer_of_run, owns_after, view}
 use Rattle.node_rules.specs.Turn.{heard}
 use Rattle.run_rules.specs.Branches.{Run, Seen, Trail, seen_at}
 use Rattle.run_key_laws.specs.ChangedLaws.{changes_at}
@@ -95,7 +95,7 @@ module _ (book : List Entry) (n : ℕ) (j : NodeState) (b : BranchId) (s : Stmt)
       ∙ (ap (λ o. meant r.statement r.table (view_by book b o r.table.name)) is
       ∙ (ap (λ x. meant x r.table (view_by book b (own_changes j b) r.table.name)) statement ∙ ap (λ x. meant s x (view_by book b (own_changes j b) x.name)) table))
 
-  own_mine : (y : Seen) → y.own ≡ own_changes j b → (q : Ran) → IsMeantBy book n s t (view_by book b (own_changes j b) t.name) q
+  own_mine : (y : Seen) → y.own ≡ own_changes j b → (q : StmtOutcome) → IsMeantBy book n s t (view_by book b (own_changes j b) t.name) q
       → own_with (true && is_accepted (Some (answer_of_run q))) book y.own (Some r) ≡ changes_at (owns_after j.owns b rows q) b
   own_mine y own (Refuses e) so = own
   own_mine y own (Reads found keys) so = ap (λ m. y.own ++ changes_in m) (means y.own own ∙ so.0) ∙ (append_none y.own ∙ own)
@@ -106,12 +106,12 @@ module _ (book : List Entry) (n : ℕ) (j : NodeState) (b : BranchId) (s : Stmt)
       ∙ (sym (one_more_set (sets_at j.owns b) rows cs)
       ∙ sym (ap (λ o. changes_of (sets_of o)) (put_found own_id j.owns (record { branch = b; sets = sets_at j.owns b ++ set_over rows cs ∷ [] }))))))
 
-  not_mine : (c : BranchId) → same b c ≡ false → (q : Ran) → changes_at (owns_after j.owns b rows q) c ≡ changes_at j.owns c
+  not_mine : (c : BranchId) → same b c ≡ false → (q : StmtOutcome) → changes_at (owns_after j.owns b rows q) c ≡ changes_at j.owns c
   not_mine c other (Refuses e) = refl
   not_mine c other (Reads found keys) = refl
   not_mine c other (Writes d cs keys undo) = ap (λ o. changes_of (sets_of o)) (put_leaves own_id j.owns (record { branch = b; sets = sets_at j.owns b ++ set_over rows cs ∷ [] }) c other)
 
-  pub own_ran : (y : Seen) → y.own ≡ own_changes j y.me → (q : Ran) → IsMeantBy book n s t (view_by book b (own_changes j b) t.name) q
+  pub own_ran : (y : Seen) → y.own ≡ own_changes j y.me → (q : StmtOutcome) → IsMeantBy book n s t (view_by book b (own_changes j b) t.name) q
       → own_with (runs_for y (Some r) (Some (answer_of_run q))) book y.own (Some r) ≡ changes_at (owns_after j.owns b rows q) y.me
   own_ran y own q so = by (same b y.me) refl
     where

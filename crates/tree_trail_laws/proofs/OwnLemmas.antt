@@ -15,19 +15,21 @@ use Rattle.run_rules.specs.Data.happenings
 use Rattle.run_rules.specs.Each.{AtEach}
 use Rattle.run_rules.specs.Facts.{Facts, first_facts}
 use Rattle.run_rules.specs.Branches.{Run, Seen, Trail, seen_at, own_at, own_of, root_at}
-use Rattle.run_rules.specs.Lawful.{MayHappen, History, IsLawfulRun}
+use Rattle.run_rules.specs.Lawful.{History, IsLawfulRun}
 use Rattle.run_base_laws.specs.NodeLaws.{EachFactFrom}
 use Rattle.run_rules.specs.Runs.{asks_root, asks_by, asks, run_by, run_in}
 use Rattle.run_claims.specs.Site.{HasOwn, RecordIsSo}
-use Rattle.run_rules.specs.Trail.{is_vote, runs_for, own_with, trail_after}
+use Rattle.run_rules.specs.Trail.{is_vote, runs_for, own_with}
 use Rattle.tree_laws.proofs.PrefixLemmas.{f_at}
 use Rattle.book_laws.specs.LeaveLaws.{SealsOn, DecidesOn, LeavesOn, LeavesDuly}
 use Rattle.book_laws.proofs.LeaveLemmas.{branches_leave_duly}
-use Rattle.tree_site_laws.proofs.TimeLemmas.{may_of, fact_at}
+use Rattle.tree_laws.proofs.TimeLemmas.{fact_at}
 use Rattle.tree_trail_laws.proofs.FullLemmas.{Sees, SeesAll}
 use Rattle.tree_trail_laws.proofs.MomentLemmas.{tr_at, at_moment, by_moment}
 use Rattle.tree_trail_laws.proofs.OwnRecordLemmas.{HasKept, turn_own}
 use Rattle.tree_trail_laws.proofs.SeenLemmas.{begun, brings, turned, seen_turned}
+use Rattle.tree_laws.proofs.AtTurn.{at_turn}
+use Rattle.tree_trail_laws.proofs.AtTrail.{at_trail}
 
 -- ---- inputs that bring no statement
 
@@ -65,20 +67,11 @@ run_none f tr u none = by u.cut
 
 module _ (t : History) (whole : IsLawfulRun t) (sees : SeesAll t) where
   module _ (hs : List Happening) (u : Turn) (rest : List Happening) (is : hs ++ happenings.Turn u ∷ rest ≡ t.trace) where
-    abbrev f0 : Facts
-    f0 = f_at t hs
-
-    abbrev tr0 : Trail
-    tr0 = tr_at t hs
-
-    abbrev tr1 : Trail
-    tr1 = trail_after t.places f0 tr0 (happenings.Turn u)
+    open at_turn t whole hs u rest is use {f as f0, may}
+    open at_trail t hs u use {tr as tr0, tr_on as tr1}
 
     saw : Sees f0 tr0
     saw = at_moment t (λ places f tr h. Sees f tr) sees hs (happenings.Turn u) rest is
-
-    may : MayHappen t.places t.commands f0 (happenings.Turn u)
-    may = may_of t whole hs (happenings.Turn u) rest is
 
     leaves : IfSome u.wrote (LeavesOn may.0.lives u.input)
     leaves =

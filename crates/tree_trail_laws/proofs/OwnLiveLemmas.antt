@@ -12,7 +12,7 @@ use Rattle.node_rules.specs.Data.stmts
 use Rattle.node_rules.specs.declared.session.Session.{Session}
 use Rattle.node_rules.specs.Words.{same, item_at, put_item, drop_item}
 use Rattle.node_rules.specs.Inputs.{IsSession, IsCall}
-use Rattle.node_rules.specs.NodeState.{NodeState, Branch, Deed, live_id, live_at}
+use Rattle.node_rules.specs.NodeState.{NodeState, Branch, TurnDraft, live_id, live_at}
 use Rattle.node_rules.specs.Calls.{next_child, strength_of, with_edge, hears_reply}
 use Rattle.node_rules.specs.Client.{new_root, fresh_root, begun_by}
 use Rattle.node_rules.specs.Prepare.{ready, act_turn}
@@ -109,13 +109,13 @@ module _ (p : Place) (input : Input) (b : BranchId) where
       let row : is_of_rows root.statement ≡ true = of_rows root.statement root.rows in
       absurd (cc (some, row))
 
-  -- changes before a deed that leave the live branches
+  -- changes before a draft that leave the live branches
   past : (k j : NodeState) (l : Live) → BringsNone input → (((z : Live) × (live_at j b ≡ Some z)) → (z : Live) × (live_at k b ≡ Some z)) → IsOfThese j l → IsOfThese k l
   past k j l none same (inl there) = inl (same there)
   past k j l none same (inr (inl root)) = absurd (not_new j none root)
   past k j l none same (inr (inr below)) = inr (inr below)
 
-  pub lives_on : {k : NodeState} {d : Deed} → Step p input k d → (l : Live) → live_at d.after b ≡ Some l → IsOfThese k l
+  pub lives_on : {k : NodeState} {d : TurnDraft} → Step p input k d → (l : Live) → live_at d.after b ≡ Some l → IsOfThese k l
   lives_on (steps.Begins {k = k} n s call rows range new step) l live = begun_lives k n s call rows new l (lives_on step l live)
   lives_on (steps.Pends {k = k} n x given call has found code step) l live = past k _ l (called_none input n (stmts.Commit given) call refl) (λ there. there) (lives_on step l live)
   lives_on (steps.Lets_reads_go {k = k} x comment q found begins step) l live = past k _ l (collects_none input begins) (λ there. there) (lives_on step l live)

@@ -6,8 +6,8 @@ use Rattle.node_rules.specs.Data.{RedoRecord, Owned, Place, Input}
 use Rattle.node_rules.specs.Data.acts
 use Rattle.node_rules.specs.Data.inputs
 use Rattle.node_rules.specs.Data.records
-use Rattle.node_rules.specs.NodeState.{NodeState, Deed}
-use Rattle.node_rules.specs.Turn.{heard, deed_of}
+use Rattle.node_rules.specs.NodeState.{NodeState, TurnDraft}
+use Rattle.node_rules.specs.Turn.{heard, draft_of}
 use Rattle.node_rules.proofs.Steps as steps
 use Rattle.node_rules.proofs.Steps.{Step}
 use Rattle.run_key_laws.specs.ChangedLaws.{changes_at}
@@ -23,7 +23,7 @@ HasKept owns (records.Decided r) = r.changes ≡ changes_at owns r.me
 HasKept owns _ = Unit {0}
 
 module _ (p : Place) (input : Input) where
-  writes_own : {k : NodeState} {d : Deed} → Step p input k d → IfSome d.wrote (HasKept k.owns)
+  writes_own : {k : NodeState} {d : TurnDraft} → Step p input k d → IfSome d.wrote (HasKept k.owns)
   writes_own (steps.Begins m s call rows fit none step) = writes_own step
   writes_own (steps.Pends m l comment call has live code step) = writes_own step
   writes_own (steps.Lets_reads_go l comment site_below live begins step) = writes_own step
@@ -61,4 +61,4 @@ pub turn_own : (places : List Place) (f : Facts) (u : Turn) (k : NodeState) → 
 turn_own places f u k may =
     let p : Place = place_at places u.node in
     of_wrote p k u (serves places f u k may) (λ w. IfSome w (HasKept k.owns)) tt
-    (subst (λ (owns : List Owned). IfSome (deed_of p k u.input).wrote (HasKept owns)) (heard_owns k u.input) (writes_own p u.input (serves places f u k may).step))
+    (subst (λ (owns : List Owned). IfSome (draft_of p k u.input).wrote (HasKept owns)) (heard_owns k u.input) (writes_own p u.input (serves places f u k may).step))

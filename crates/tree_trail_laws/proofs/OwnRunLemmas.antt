@@ -16,7 +16,7 @@ use Rattle.sql_eval.specs.Meaning.{unless, meant}
 use Rattle.sql_eval.proofs.MadeLemmas.{count_is_length}
 use Rattle.row_locks.specs.Locks.{Lock, is_lock_on, named, keys_held}
 use Rattle.row_locks.specs.Held.{in_doubt_one, doubt_on}
-use Rattle.stmt_run.specs.Run.{Ground, held_refusal, in_doubt_refusal, locked_refusal, space_refusal, ran_within, ran_meant, ran_locked, ran_checked, ran_over}
+use Rattle.stmt_run.specs.Run.{StmtContext, held_refusal, in_doubt_refusal, locked_refusal, space_refusal, ran_within, ran_meant, ran_locked, ran_checked, ran_over}
 use Rattle.node_rules.specs.Data.{Value, Change, Table, Stmt, Refusal, Done, BranchId, Keyed, Doubt, Place}
 use Rattle.node_rules.specs.Words.{same, same_text}
 use Rattle.node_rules.specs.Rows.{same_value, get, rows_of_table}
@@ -24,7 +24,7 @@ use Rattle.node_rules.specs.Meaning.{examined, written, meant_over}
 use Rattle.node_rules.specs.Names.{table_of}
 use Rattle.node_rules.specs.NodeState.{NodeState}
 use Rattle.node_rules.specs.Prepare.{own_changes}
-use Rattle.node_rules.specs.Statement.{Ran, Refuses, Reads, Writes, ground_of, ran}
+use Rattle.node_rules.specs.Statement.{StmtOutcome, Refuses, Reads, Writes, ground_of, ran}
 use Rattle.run_rules.specs.Book.{commits_at, rows_of, committed_at, rows_told}
 use Rattle.run_rules.specs.Data.{Entry}
 use Rattle.run_rules.specs.Facts.{node_at}
@@ -42,10 +42,10 @@ use Rattle.stmt_view_laws.specs.Views.{AgreeBut, AreInKeyOrder, IsView, SeesAlik
 use Rattle.stmt_view_laws.proofs.AgreeLemmas.{changes_keep_agreement}
 use Rattle.stmt_view_laws.proofs.MeantLemmas.{means_alike, avoids_alike}
 use Rattle.stmt_view_laws.proofs.OrderLemmas.{changes_keep_order}
-use Rattle.book_row_laws.specs.RowLaws.{doubtful_keys}
-use Rattle.book_row_laws.proofs.NodeDoubtLemmas.{doubts_agree}
-use Rattle.book_row_laws.proofs.RecordFitLemmas.{book_rows_fit}
-use Rattle.book_row_laws.proofs.RowLemmas.{rows_agree}
+use Rattle.book_laws.specs.RowLaws.{doubtful_keys}
+use Rattle.book_laws.proofs.NodeDoubtLemmas.{doubts_agree}
+use Rattle.book_laws.proofs.RecordFitLemmas.{book_rows_fit}
+use Rattle.book_laws.proofs.RowLemmas.{rows_agree}
 
 -- ---- lists
 
@@ -169,14 +169,14 @@ abbrev pub AreCertain : List Entry → ℕ → List ℕ → List Value → Type 
 AreCertain book n table keys = AllByRecursion (λ key. list_any (same_value key) (keys_in_doubt book n table) ≡ false) keys
 
 -- what an accepted run says, over these rows
-abbrev pub IsMeantBy : List Entry → ℕ → Stmt → Table → List Keyed → Ran → Type 0
+abbrev pub IsMeantBy : List Entry → ℕ → Stmt → Table → List Keyed → StmtOutcome → Type 0
 IsMeantBy book n s t seen (Refuses r) = Unit {0}
 IsMeantBy book n s t seen (Reads rows keys) = (meant s t seen ≡ meants.Gives rows) × ((others : List Value) → AreCertain book n t.name (examined s t seen others))
 IsMeantBy book n s t seen (Writes d cs keys undo) = meant s t seen ≡ meants.Changes d (length cs) cs
 
 module _ (book : List Entry) (n : ℕ) (k : NodeState) (of_it : IsOfBook book n k) (p : Place) (b : BranchId) (here : b.node ≡ n) (s : Stmt) (t : Table) (name : List ℕ)
     (found : table_of k.stored.durable name ≡ Some t) where
-  abbrev g : Ground
+  abbrev g : StmtContext
   g = ground_of p k b t
 
   abbrev doubtful : List Value

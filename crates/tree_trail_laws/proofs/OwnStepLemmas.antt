@@ -16,13 +16,13 @@ use Rattle.node_rules.specs.Words.{same, item_at, drop_item}
 use Rattle.node_rules.specs.Inputs.{Came, IsCall, Brings, Commit_came, Rollback_came, Rolled_back_came}
 use Rattle.node_rules.specs.Names.{Runs_here, way_of, passed_on}
 use Rattle.node_rules.specs.Rows.{changes_of}
-use Rattle.node_rules.specs.NodeState.{NodeState, Branch, Deed, live_id, own_id, sets_of, live_at, branch_at, nothing, saying, ending}
+use Rattle.node_rules.specs.NodeState.{NodeState, Branch, TurnDraft, live_id, own_id, sets_of, live_at, branch_at, nothing, saying, ending}
 use Rattle.node_rules.specs.Prepare.{own_changes, act_turn}
 use Rattle.node_rules.specs.Calls.{runs_here, answered, answer_says, answer_ends, exec_to, calls_over, opens_through}
 use Rattle.node_rules.specs.Commit.{next_turn}
 use Rattle.node_rules.specs.Client.{begun_by}
 use Rattle.node_rules.specs.Sessions.{session_at}
-use Rattle.node_rules.specs.Turn.{outcome_of}
+use Rattle.node_rules.specs.Turn.{output_of}
 use Rattle.node_rules.proofs.Steps as steps
 use Rattle.node_rules.proofs.Steps.{IsOfRows, Asked, Collects, Acting, Doing, Says, Makes, Completes, Drops, Step, vote_kind, purge_of}
 use Rattle.run_key_laws.specs.ChangedLaws.{changes_at}
@@ -116,7 +116,7 @@ pub data From (p : Place) (input : Input) : NodeState → NodeState → Type 0 w
   Begun : {k j : NodeState} (n : ℕ) (s : Stmt) → IsCall input n s → IsOfRows s → (session_at k.sessions n).root ≡ None → From p input (begun_by p k n None) j → From p input k j
 
 -- A statement ran in a turn.
-pub record HasRun (p : Place) (input : Input) (k : NodeState) (d : Deed) : Type 0 where
+pub record HasRun (p : Place) (input : Input) (k : NodeState) (d : TurnDraft) : Type 0 where
   pub at : NodeState
   pub from : From p input k at
   pub branch : Branch
@@ -128,15 +128,15 @@ pub record HasRun (p : Place) (input : Input) (k : NodeState) (d : Deed) : Type 
   pub is : d ≡ runs_here p at branch statement table
 
 -- the changes of each branch that is live after it are as before
-abbrev pub SameOwn : NodeState → Deed → Type 0
+abbrev pub SameOwn : NodeState → TurnDraft → Type 0
 SameOwn k d = (b : BranchId) (l : Live) → live_at d.after b ≡ Some l → own_changes d.after b ≡ own_changes k b
 
 -- no statement is accepted: none came, or it was not answered or refused, or it is one that was answered before
-abbrev pub AcceptsNone : NodeState → Input → Deed → Type 0
-AcceptsNone k input d = BringsNone input ⊎ ((is_accepted (answered_by (Some (outcome_of d))) ≡ false) ⊎ Repeats k input)
+abbrev pub AcceptsNone : NodeState → Input → TurnDraft → Type 0
+AcceptsNone k input d = BringsNone input ⊎ ((is_accepted (answered_by (Some (output_of d))) ≡ false) ⊎ Repeats k input)
 
 -- What a turn without a run does.
-pub record Rests (k : NodeState) (input : Input) (d : Deed) : Type 0 where
+pub record Rests (k : NodeState) (input : Input) (d : TurnDraft) : Type 0 where
   pub own : SameOwn k d
   pub accepts : AcceptsNone k input d
 
@@ -164,29 +164,29 @@ act_own k l q acts.Abandon b y live = left_own k l.me b y live
 
 -- ---- a step
 
-refused_not : (k : NodeState) (x : Branch) (r : _) → is_accepted (answered_by (Some (outcome_of (answered k x (answers.Refused r))))) ≡ false
+refused_not : (k : NodeState) (x : Branch) (r : _) → is_accepted (answered_by (Some (output_of (answered k x (answers.Refused r))))) ≡ false
 refused_not k x r = by x.live.parent
   where
-    by : (o : Option BranchId) → is_accepted (answered_by (Some (outcome_of (record (answered k x (answers.Refused r)) { says = answer_says x (answers.Refused r) o; ended = answer_ends x.live (answers.Refused r) o })))) ≡ false
+    by : (o : Option BranchId) → is_accepted (answered_by (Some (output_of (record (answered k x (answers.Refused r)) { says = answer_says x (answers.Refused r) o; ended = answer_ends x.live (answers.Refused r) o })))) ≡ false
     by None = refl
     by (Some parent) = refl
 
-calls_not : (k : NodeState) (x : Branch) (i : ℕ) (s : Stmt) (given : ℕ) → is_accepted (answered_by (Some (outcome_of (calls_over k x i s given)))) ≡ false
+calls_not : (k : NodeState) (x : Branch) (i : ℕ) (s : Stmt) (given : ℕ) → is_accepted (answered_by (Some (output_of (calls_over k x i s given)))) ≡ false
 calls_not k x i s given = by (peer_of x.live i)
   where
-    by : (o : Option BranchId) → is_accepted (answered_by (Some (outcome_of (record (calls_over k x i s given) { says = exec_to k.sessions x i s given o })))) ≡ false
+    by : (o : Option BranchId) → is_accepted (answered_by (Some (output_of (record (calls_over k x i s given) { says = exec_to k.sessions x i s given o })))) ≡ false
     by None = refl
     by (Some peer) = refl
 
 module _ (p : Place) (input : Input) where
   -- a run happened, or none
-  abbrev pub Turns : NodeState → Deed → Type 0
+  abbrev pub Turns : NodeState → TurnDraft → Type 0
   Turns k d = HasRun p input k d ⊎ Rests k input d
 
-  none : (k : NodeState) (d : Deed) → SameOwn k d → BringsNone input → Turns k d
+  none : (k : NodeState) (d : TurnDraft) → SameOwn k d → BringsNone input → Turns k d
   none k d own is = inr (record { own = own; accepts = inl is })
 
-  not_yet : (k : NodeState) (d : Deed) → SameOwn k d → is_accepted (answered_by (Some (outcome_of d))) ≡ false → Turns k d
+  not_yet : (k : NodeState) (d : TurnDraft) → SameOwn k d → is_accepted (answered_by (Some (output_of d))) ≡ false → Turns k d
   not_yet k d own is = inr (record { own = own; accepts = inr (inl is) })
 
   said : (k : NodeState) (ps : List Post) → Says k input ps → AcceptsNone k input (saying k ps)
@@ -206,7 +206,7 @@ module _ (p : Place) (input : Input) where
   said k _ (steps.Recovers is) = inl (subst BringsNone (sym is) refl)
 
   -- a run can't have happened where no statement came
-  unless_run : {j : NodeState} {d : Deed} → BringsNone input → Turns j d → SameOwn j d
+  unless_run : {j : NodeState} {d : TurnDraft} → BringsNone input → Turns j d → SameOwn j d
   unless_run is (inl ran) = absurd (asked_some input ran.asked is)
   unless_run is (inr rests) = rests.own
 
@@ -220,12 +220,12 @@ module _ (p : Place) (input : Input) where
   doing k s from (nexts.End e) (steps.Ends_so d brings toward new sealed met) = none k _ (λ b l live. refl) (brought_none input brings)
   doing k s from (nexts.Meet e mixed) (steps.Meets_so d brings toward new sealed committed met) = none k _ (λ b l live. refl) (brought_none input brings)
 
-  repeats_not : (j : NodeState) (d : Deed) (n : ℕ) (s : Stmt) → IsCall input n s → AcceptsNone j input d → BringsNone input ⊎ (is_accepted (answered_by (Some (outcome_of d))) ≡ false)
+  repeats_not : (j : NodeState) (d : TurnDraft) (n : ℕ) (s : Stmt) → IsCall input n s → AcceptsNone j input d → BringsNone input ⊎ (is_accepted (answered_by (Some (output_of d))) ≡ false)
   repeats_not j d n s call (inl is) = inl is
   repeats_not j d n s call (inr (inl not_so)) = inr not_so
   repeats_not j d n s call (inr (inr again)) = (let came = again.6.is in absurd (cc (came, call)))
 
-  begins_on : {k : NodeState} {d : Deed} (n : ℕ) (s : Stmt) → IsCall input n s → IsOfRows s → (session_at k.sessions n).root ≡ None → Turns (begun_by p k n None) d → Turns k d
+  begins_on : {k : NodeState} {d : TurnDraft} (n : ℕ) (s : Stmt) → IsCall input n s → IsOfRows s → (session_at k.sessions n).root ≡ None → Turns (begun_by p k n None) d → Turns k d
   begins_on n s call rows new (inl ran) = inl (record {
     at = ran.at;
     from = Begun n s call rows new ran.from;
@@ -239,7 +239,7 @@ module _ (p : Place) (input : Input) where
   })
   begins_on {k = k} {d = d} n s call rows new (inr rests) = inr (record { own = rests.own; accepts = elim (repeats_not (begun_by p k n None) d n s call rests.accepts) [ inl is ↦ inl is | inr not_so ↦ inr (inl not_so) ] })
 
-  pub turns_on : {k : NodeState} {d : Deed} → Step p input k d → Turns k d
+  pub turns_on : {k : NodeState} {d : TurnDraft} → Step p input k d → Turns k d
   turns_on (steps.Begins n s call rows range new step) = begins_on n s call rows new (turns_on step)
   turns_on (steps.Pends {k = k} {d = d} n l given call has found code step) = none k d (unless_run (called_none input n (stmts.Commit given) call refl) (turns_on step)) (called_none input n (stmts.Commit given) call refl)
   turns_on (steps.Lets_reads_go {k = k} {d = d} l comment q found begins step) = none k d (unless_run (collects_none input begins) (turns_on step)) (collects_none input begins)

@@ -3,26 +3,26 @@ use Rattle.std.proofs.Common.{◌≡◌, ℕ, ◌==◌, ◌&&◌, ◌⊎◌, Boo
 use Rattle.std.proofs.lemmas.Bool.{eq-eqb}
 use Rattle.tran_ids.proofs.BranchLemmas.{equal_from_same, same_from_equal}
 use Rattle.tran_ids.proofs.ListedLemmas.{item_is}
-use Rattle.node_rules.specs.Data.{Stmt, Advice, BranchId, Kind, Live, Msg, Place, Input}
+use Rattle.node_rules.specs.Data.{Stmt, Advice, BranchId, Kind, Live, Msg, Input}
 use Rattle.node_rules.specs.Data.inputs
 use Rattle.node_rules.specs.Data.kinds
 use Rattle.node_rules.specs.Words.{same, is_item_of, item_at}
 use Rattle.node_rules.specs.Inputs.{IsSession, Came, IsCall}
-use Rattle.node_rules.specs.NodeState.{NodeState, Branch, Deed, live_id, work_or, sets_of, live_at, branch_at, work_at, with_work, standing_at}
+use Rattle.node_rules.specs.NodeState.{NodeState, Branch, live_id, work_or, sets_of, live_at, branch_at, work_at, with_work, kept_row_at}
 use Rattle.node_rules.specs.Rows.{changes_of}
 use Rattle.node_rules.specs.Prepare.{own_changes}
 use Rattle.node_rules.specs.Client.{new_root, begun_by}
 use Rattle.node_rules.specs.Sessions.{session_at}
-use Rattle.node_rules.specs.Turn.{heard, deed_of, kind_turn, Is_live, stand_of, live_or}
+use Rattle.node_rules.specs.Turn.{heard, draft_of, kind_turn, Is_live, status_of, live_or}
 use Rattle.node_rules.proofs.Steps.{HasRoot, Step}
 use Rattle.run_rules.specs.Births.{births_of, born_at}
 use Rattle.run_rules.specs.Branches.{Seen, Trail, seen_id, seen_at, own_at, own_of, newly_seen, is_live, is_root_of, root_at}
 use Rattle.run_key_laws.specs.ChangedLaws.{changes_at}
 use Rattle.run_rules.specs.Data.{Turn, Happening}
 use Rattle.run_rules.specs.Data.happenings
-use Rattle.run_rules.specs.Facts.{Facts, place_at, node_at, facts_after}
+use Rattle.run_rules.specs.Facts.{Facts, node_at}
 use Rattle.run_rules.specs.Lawful.{MayHappen, History, IsLawfulRun}
-use Rattle.run_rules.specs.Trail.{next_root, root_seen, roots_begun, children_begun, begun_in_turn, taken_by, taken_after, trail_after}
+use Rattle.run_rules.specs.Trail.{next_root, root_seen, roots_begun, children_begun, begun_in_turn, taken_by, taken_after}
 use Rattle.run_branch_laws.proofs.CallLemmas.{CallsSo, calls_keep}
 use Rattle.run_key_laws.proofs.ChangedLemmas.{changes_are_of_live}
 use Rattle.run_base_laws.proofs.EventsStandLemmas.{run_stands}
@@ -30,8 +30,8 @@ use Rattle.run_base_laws.proofs.LawfulLemmas.{serves}
 use Rattle.run_base_laws.proofs.NodeLemmas.{kept_alone}
 use Rattle.run_base_laws.proofs.RootLemmas.{SessionsFit, sessions_keep}
 use Rattle.run_base_laws.proofs.TurnEventLemmas.{number_is}
-use Rattle.tree_laws.proofs.PrefixLemmas.{so_far, f_at}
-use Rattle.tree_site_laws.proofs.TimeLemmas.{Part, part_lawful, may_of}
+use Rattle.tree_laws.proofs.PrefixLemmas.{f_at}
+use Rattle.tree_laws.proofs.TimeLemmas.{Part, part_lawful, may_of}
 use Rattle.tree_trail_laws.specs.OwnLaws.{TellsRoots}
 use Rattle.tree_trail_laws.specs.SeenLaws.{TellsOwns, IsSeenRoot}
 use Rattle.tree_trail_laws.proofs.CallLemmas.{call_free, seen_root}
@@ -48,7 +48,9 @@ use Rattle.tree_trail_laws.proofs.OwnLiveLemmas.{NewRoot, IsOfThese, lives_on, r
 use Rattle.tree_trail_laws.proofs.OwnStepLemmas.{From, Itself, brings_none, came_none, of_rows}
 use Rattle.tree_trail_laws.proofs.OwnRecordLemmas.{heard_owns}
 use Rattle.tree_trail_laws.proofs.PlanLemmas.{find_more, find_last}
-use Rattle.tree_trail_laws.proofs.SeenLemmas.{begun}
+use Rattle.tree_laws.proofs.AtTurn.{at_turn}
+use Rattle.tree_trail_laws.proofs.AtTrail.{at_trail}
+use Rattle.tree_trail_laws.proofs.LowerLivesLemmas.{bool_cases}
 
 -- the greatest call number that a branch is told to have taken
 abbrev pub taken_of : Option Seen → ℕ
@@ -58,10 +60,6 @@ taken_of (Some s) = s.taken
 -- the calls that are told of each live branch are those that its node keeps
 abbrev pub TellsCalls : Facts → Trail → Type 0
 TellsCalls f tr = (n : ℕ) (k : NodeState) → node_at f n ≡ Some k → (l : Live) → live_at k l.me ≡ Some l → taken_of (seen_at tr l.me) ≡ last_of k l.me
-
-bool_cases : (q : Bool) → (P : Type 0) → (q ≡ true → P) → (q ≡ false → P) → P
-bool_cases true P at_true at_false = at_true refl
-bool_cases false P at_true at_false = at_false refl
 
 -- an Exec came to a branch, or none did
 exec_to : (b : BranchId) (input : Input)
@@ -103,9 +101,9 @@ taken_same s (inputs.Message m) not_to = by (same m.to s.me) (is_live s) refl m.
     by true true here _ is = refl
 taken_same s _ not_to = refl
 
-stands_live : (k : NodeState) (x : Branch) → branch_at k x.live.me ≡ Some x → stand_of k x.live.me ≡ Is_live x
-unfolding stand_of
-stands_live k x found = ap (λ o. live_or o (standing_at k x.live.me)) found
+stands_live : (k : NodeState) (x : Branch) → branch_at k x.live.me ≡ Some x → status_of k x.live.me ≡ Is_live x
+unfolding status_of
+stands_live k x found = ap (λ o. live_or o (kept_row_at k x.live.me)) found
 
 -- What happenings keep.
 pub record Owns (f : Facts) (tr : Trail) : Type 0 where
@@ -117,8 +115,8 @@ module _ (t : History) (whole : IsLawfulRun t) where
     pub part0 : Part t whole hs
     part0 = record { rest = happenings.Turn u ∷ more; is = is }
 
-    abbrev s0 : History
-    s0 = so_far t hs
+    open at_turn t whole hs u more is use {s as s0, f as f0, g as f1, k, p, heard_k as k1, d}
+    open at_trail t hs u use {tr as tr0, tr_on as tr1, begun_tr as trb}
 
     pub lawful0 : IsLawfulRun s0
     lawful0 = part_lawful t whole hs part0
@@ -126,35 +124,8 @@ module _ (t : History) (whole : IsLawfulRun t) where
     pub tells : Tells t whole hs
     tells = tells_at t whole hs part0
 
-    abbrev f0 : Facts
-    f0 = f_at t hs
-
-    abbrev f1 : Facts
-    f1 = facts_after t.places t.commands f0 (happenings.Turn u)
-
-    abbrev tr0 : Trail
-    tr0 = tr_at t hs
-
-    abbrev tr1 : Trail
-    tr1 = trail_after t.places f0 tr0 (happenings.Turn u)
-
-    abbrev trb : Trail
-    trb = begun t.places f0 tr0 u
-
     abbrev pub may : MayHappen t.places t.commands f0 (happenings.Turn u)
     may = may_of t whole hs (happenings.Turn u) more is
-
-    abbrev k : NodeState
-    k = may.0
-
-    abbrev p : Place
-    p = place_at t.places u.node
-
-    abbrev k1 : NodeState
-    k1 = heard k u.input
-
-    abbrev d : Deed
-    d = deed_of p k u.input
 
     pub step : Step p u.input k1 d
     step = (serves t.places f0 u k may.1).step
@@ -332,7 +303,7 @@ module _ (t : History) (whole : IsLawfulRun t) where
               let m : Msg = record { from = from; to = l.me; scn = scn; kind = kinds.Exec call given advice st } in
               let z = was_live_there (live_at k1 l.me) refl (lives_on p u.input l.me step l live) in
               let told : taken_after s (inputs.Message m) ≡ max s.taken call = ap (λ q. if q && is_live s then max s.taken call else s.taken) (same_from_equal l.me s.me (sym me)) ∙ ap (λ o. if is_none o then max s.taken call else s.taken) alive in
-              ap (taken_after s) came ∙ (told ∙ (ap (λ a. max a call) (taken ∙ ap (λ i. last_of (heard k i) l.me) came) ∙ (sym (took z) ∙ sym (ap (λ i. last_of (deed_of p k i).after l.me) came))))
+              ap (taken_after s) came ∙ (told ∙ (ap (λ a. max a call) (taken ∙ ap (λ i. last_of (heard k i) l.me) came) ∙ (sym (took z) ∙ sym (ap (λ i. last_of (draft_of p k i).after l.me) came))))
             where
               opened_not : IsOpened k p u.input (λ b. born_at (births_of s0) b ≡ None) d.says l → ⊥
               opened_not opened = true≢false (sym (came_none u.input opened.came refl) ∙ ap brings_none came)
@@ -346,7 +317,7 @@ module _ (t : History) (whole : IsLawfulRun t) where
                 | inr opened ↦ absurd (opened_not opened)
               ]
 
-              took : ((z : Live) × (live_at k l.me ≡ Some z)) → last_of (deed_of p k (inputs.Message (record { from = from; to = l.me; scn = scn; kind = kinds.Exec call given advice st }))).after l.me ≡ max (last_of (heard k (inputs.Message (record { from = from; to = l.me; scn = scn; kind = kinds.Exec call given advice st }))) l.me) call
+              took : ((z : Live) × (live_at k l.me ≡ Some z)) → last_of (draft_of p k (inputs.Message (record { from = from; to = l.me; scn = scn; kind = kinds.Exec call given advice st }))).after l.me ≡ max (last_of (heard k (inputs.Message (record { from = from; to = l.me; scn = scn; kind = kinds.Exec call given advice st }))) l.me) call
               took there =
                   let k2 : NodeState = heard k (inputs.Message (record { from = from; to = l.me; scn = scn; kind = kinds.Exec call given advice st })) in
                   let z : Live = there.0 in
@@ -354,5 +325,5 @@ module _ (t : History) (whole : IsLawfulRun t) where
                   let z_live : live_at k2 z.me ≡ Some z = subst (λ c. live_at k c ≡ Some z) (sym z_me) there.1 in
                   let x : Branch = record { live = z; work = work_at k2 z.me } in
                   let found : branch_at k2 z.me ≡ Some x = ap (with_work k2) z_live in
-                  subst (λ c. last_of (kind_turn p k2 from c (kinds.Exec call given advice st) (stand_of k2 c)).after c ≡ max (last_of k2 c) call) z_me
+                  subst (λ c. last_of (kind_turn p k2 from c (kinds.Exec call given advice st) (status_of k2 c)).after c ≡ max (last_of k2 c) call) z_me
                   (subst (λ stand. last_of (kind_turn p k2 from z.me (kinds.Exec call given advice st) stand).after z.me ≡ max (last_of k2 z.me) call) (sym (stands_live k2 x found)) (exec_took p k2 x found from call given advice st))

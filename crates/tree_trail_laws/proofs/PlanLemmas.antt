@@ -14,28 +14,21 @@ use Rattle.node_rules.specs.Data.kinds
 use Rattle.node_rules.specs.declared.session.PendingCall.TheVariants as pending
 use Rattle.node_rules.specs.Data.stmts
 use Rattle.node_rules.specs.Inputs.{IsCall}
-use Rattle.node_rules.specs.NodeState.{NodeState, Branch, Deed, to_one, to_each}
+use Rattle.node_rules.specs.NodeState.{NodeState, Branch, TurnDraft, to_one, to_each}
 use Rattle.node_rules.specs.Sessions.{session_at, with_call, commit_is_pending, commit_complete}
 use Rattle.node_rules.specs.Prepare.{act_turn, collecting, with_comment, first_act_by, root_act, without_read_keys, prepare_to, path_of, site_neighbors, is_alone}
 use Rattle.node_rules.specs.Client.{root_at as kept_root, commit_by}
-use Rattle.node_rules.specs.Turn.{turn_of, outcome_of, stamped}
+use Rattle.node_rules.specs.Turn.{turn_of, output_of, stamped}
 use Rattle.run_rules.specs.Data.{Turn, Happening}
 use Rattle.run_rules.specs.Data.happenings
 use Rattle.run_rules.specs.Facts.{Facts, place_at, node_at, served, outcome_at}
-use Rattle.run_rules.specs.Branches.{Seen, Trail, Plan, is_root_of, root_at, is_plan_of, plan_at}
+use Rattle.run_rules.specs.Branches.{Seen, Trail, CommitPlan, is_root_of, root_at, is_plan_of, plan_at}
 use Rattle.run_rules.specs.Runs.{ended_answer, replied_answer, answer_or, answered_by}
 use Rattle.run_rules.specs.Tree.{plan}
 use Rattle.run_rules.specs.Trail.{begun_in_turn, is_refused, commits, planned_by, called_root, with_begun, trail_after}
+pub use Rattle.tree_laws.proofs.TopStepLemmas.{find_more}
 
 -- ---- what is found in a list
-
-pub find_more : {A : Type 0} (p : A → Bool) (xs ys : List A) (y : A) → find p xs ≡ Some y → find p (xs ++ ys) ≡ Some y
-find_more p [] ys y is = absurd cc
-find_more p (x ∷ xs) ys y is = by (p x) is (find_more p xs ys y)
-  where
-    by : (here : Bool) → (if here then Some x else find p xs) ≡ Some y → (find p xs ≡ Some y → find p (xs ++ ys) ≡ Some y) → (if here then Some x else find p (xs ++ ys)) ≡ Some y
-    by true is later = is
-    by false is later = later is
 
 -- one that is put behind the others
 pub find_last : {A : Type 0} (p : A → Bool) (xs : List A) (y : A) → find p xs ≡ None → p y ≡ true → find p (xs ++ y ∷ []) ≡ Some y
@@ -56,7 +49,7 @@ find_passes p (x ∷ xs) y is = by (p x) refl is (find_passes p xs y)
 
 -- ---- plans stay
 
-pub plan_stays : (places : List Place) (f : Facts) (tr : Trail) (h : Happening) (r : BranchId) (p : Plan) → plan_at tr r ≡ Some p → plan_at (trail_after places f tr h) r ≡ Some p
+pub plan_stays : (places : List Place) (f : Facts) (tr : Trail) (h : Happening) (r : BranchId) (p : CommitPlan) → plan_at tr r ≡ Some p → plan_at (trail_after places f tr h) r ≡ Some p
 unfolding trail_after
 plan_stays places f tr (happenings.Turn u) r p is = find_more (is_plan_of r) tr.plans _ p is
 plan_stays places f tr _ r p is = is
@@ -83,8 +76,8 @@ ends_alone true pends n o none = ended_so pends n o none
 ends_alone false pends n o none = ap is_refused none
 
 -- what a turn answers is no refusal
-abbrev pub IsGranted : Deed → Type 0
-IsGranted d = is_refused (answered_by (Some (outcome_of d))) ≡ false
+abbrev pub IsGranted : TurnDraft → Type 0
+IsGranted d = is_refused (answered_by (Some (output_of d))) ≡ false
 
 ready_granted : (scn : ℕ) (me : BranchId) (o : Option BranchId) → is_refused (replied_answer (map (stamped scn) (to_one me kinds.Ready o))) ≡ false
 ready_granted scn me None = refl

@@ -19,8 +19,8 @@ use Rattle.run_base_laws.proofs.OwnLemmas.{all_found}
 use Rattle.run_base_laws.proofs.RootLemmas.{roots_are_of_sessions}
 use Rattle.tree_laws.proofs.ForestLemmas as trees
 use Rattle.tree_laws.proofs.SettleRunLemmas.{known}
-use Rattle.tree_site_laws.specs.DecideLaws.{live_of, live_in, WalksTo, Ends_here, Goes_down}
-use Rattle.tree_site_laws.proofs.MemberLemmas.{IsIn, born_below}
+use Rattle.tree_laws.specs.DecideLaws.{live_of, live_in, WalksTo, Ends_here, Goes_down}
+use Rattle.tree_laws.proofs.MemberLemmas.{IsIn, born_below}
 
 -- a live branch, and the node that keeps it
 pub record IsLiveIn (f : Facts) (b : BranchId) (l : Live) : Type 0 where

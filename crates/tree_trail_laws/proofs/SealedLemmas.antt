@@ -20,7 +20,7 @@ use Rattle.tree_laws.proofs.PrefixLemmas.{f_at, e_at, more_on}
 use Rattle.tree_laws.proofs.SealLemmas.{IsSealOf, wrote_seal, later_unsealed}
 use Rattle.book_laws.specs.LeaveLaws.{LeavesOn, LeavesDuly}
 use Rattle.book_laws.proofs.LeaveLemmas.{branches_leave_duly}
-use Rattle.tree_site_laws.proofs.TimeLemmas.{Part, may_of, fact_at, keep_on}
+use Rattle.tree_laws.proofs.TimeLemmas.{Part, may_of, fact_at, keep_on}
 use Rattle.tree_trail_laws.proofs.FullLemmas.{Sees, SeesAll}
 use Rattle.tree_trail_laws.proofs.MomentLemmas.{tr_at, trail_one_on, at_moment}
 use Rattle.tree_trail_laws.proofs.SeenLemmas.{sealed_by_turn, exit_stays}

@@ -74,7 +74,7 @@ stopped_left n s e is = by (is_live_at n s) refl
     by true live = (let here : is_none s.exit ≡ true = (and_parts (s.me.node == n) (is_live s) live).1 in let gone : is_none s.exit ≡ false = ap is_none is in absurd (cc (here, gone)))
     by false live = is
 
-stopped_me : (n : ℕ) (s : Seen) → (stopped_by n s).me ≡ s.me
+pub stopped_me : (n : ℕ) (s : Seen) → (stopped_by n s).me ≡ s.me
 stopped_me n s = by (is_live_at n s)
   where
     by : (q : Bool) → (if q then record s { exit = Some Dropped } else s).me ≡ s.me

@@ -10,7 +10,7 @@ use Rattle.run_claims.specs.Headline.{EveryRunIsMeant, EverySiteDecides}
 use Rattle.run_rules.specs.Lawful.{History, IsLawfulRun}
 use Rattle.run_rules.specs.Trail.{trail_after}
 use Rattle.tree_laws.proofs.PrefixLemmas.{so_far, f_at}
-use Rattle.tree_site_laws.proofs.TimeLemmas.{Part, part_lawful, part_of, keep_on}
+use Rattle.tree_laws.proofs.TimeLemmas.{Part, part_lawful, part_of, keep_on}
 use Rattle.tree_trail_laws.specs.OwnLaws.{TellsRoots, AllIsSeen, DecisionsCover, LeavesAreDue}
 use Rattle.tree_trail_laws.specs.SeenLaws.{TellsOwns}
 use Rattle.tree_trail_laws.proofs.EnoughLemmas.{seen_is_enough}

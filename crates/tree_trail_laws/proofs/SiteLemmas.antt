@@ -16,7 +16,7 @@ use Rattle.node_rules.specs.Data.records
 use Rattle.node_rules.specs.Data.stmts
 use Rattle.node_rules.specs.Inputs.{IsSession}
 use Rattle.node_rules.specs.Words.{same}
-use Rattle.node_rules.specs.NodeState.{NodeState, Branch, live_id, live_at, work_at, with_work}
+use Rattle.node_rules.specs.NodeState.{Branch, live_id, live_at, work_at, with_work}
 use Rattle.node_rules.specs.Sessions.{session_at}
 use Rattle.run_key_laws.specs.ChangedLaws.{changes_at, has_changes as are_some}
 use Rattle.run_base_laws.specs.CallLaws.{ComesAtRest}
@@ -26,7 +26,7 @@ use Rattle.run_rules.specs.Each.{AtEach}
 use Rattle.run_base_laws.specs.EventLaws.{EachEventFrom, TellsAsEvents}
 use Rattle.run_base_laws.specs.EventRows.{MayStand}
 use Rattle.run_rules.specs.Facts.{Facts, first_facts, records_at, facts_after}
-use Rattle.run_rules.specs.Branches.{Seen, Trail, Planned, no_trail, seen_at, own_at, own_of, children_of, children_at, exit_at, root_at, plan_at}
+use Rattle.run_rules.specs.Branches.{Seen, Trail, PlannedBranch, no_trail, seen_at, own_at, own_of, children_of, children_at, exit_at, root_at, plan_at}
 use Rattle.run_rules.specs.Births.{births_of}
 use Rattle.run_rules.specs.Lawful.{MayHappen, MayTurn, History, IsLawfulRun, facts_at}
 use Rattle.run_base_laws.specs.NodeLaws.{EachFactFrom}
@@ -44,20 +44,22 @@ use Rattle.run_rules.proofs.ListLemmas.{all_weaker}
 use Rattle.run_base_laws.proofs.RestRunLemmas.{calls_come_at_rest}
 use Rattle.run_base_laws.proofs.RootLemmas.{roots_are_of_sessions}
 use Rattle.tree_laws.proofs.PrefixLemmas.{so_far, f_at, e_at, one_on, more_on}
-use Rattle.tree_site_laws.specs.DecideLaws.{live_in, InTree, SeesTree, IsCoveredBy, DecidedSo}
-use Rattle.tree_site_laws.proofs.DecideLemmas.{decisions_follow_walks}
-use Rattle.tree_site_laws.proofs.MemberLemmas.{IsIn}
-use Rattle.tree_site_laws.proofs.TimeLemmas.{Part, part_on, part_lawful, may_of, fact_at, each_at, born_end}
+use Rattle.tree_laws.specs.DecideLaws.{live_in, InTree, SeesTree, IsCoveredBy, DecidedSo}
+use Rattle.tree_laws.proofs.DecideLemmas.{decisions_follow_walks}
+use Rattle.tree_laws.proofs.MemberLemmas.{IsIn}
+use Rattle.tree_laws.proofs.TimeLemmas.{Part, part_lawful, may_of, fact_at, each_at, born_end}
 use Rattle.tree_trail_laws.proofs.FullLemmas.{IsSeenSo, Sees, SeesAll}
 use Rattle.tree_trail_laws.proofs.MomentLemmas.{tr_at, trail_one_on, trail_join, trail_keeps, at_moment, by_moment}
 use Rattle.tree_trail_laws.proofs.CallLemmas.{call_free, seen_root}
 use Rattle.tree_trail_laws.proofs.PlanLemmas.{plan_stays, plan_here}
 use Rattle.tree_trail_laws.proofs.RootLemmas.{IsLiveIn, live_there, walk_in, root_in, record_root}
 use Rattle.tree_trail_laws.proofs.SealedLemmas.{seals_are_told}
+use Rattle.tree_laws.proofs.AtTurn.{at_turn}
+use Rattle.tree_trail_laws.proofs.AtTrail.{at_trail}
 
 -- ---- what is told of the tree
 
-some_first : (cs : List Change) → is_some (slice_get cs 0) ≡ are_some cs
+pub some_first : (cs : List Change) → is_some (slice_get cs 0) ≡ are_some cs
 some_first [] = refl
 some_first (c ∷ cs) = sym (lt-ltb 0 (length (c ∷ cs)) (omega arith))
 
@@ -96,20 +98,8 @@ module _ (t : History) (whole : IsLawfulRun t) (sees : SeesAll t) where
   -- ---- a decision
 
   module _ (hs : List Happening) (u : Turn) (rest : List Happening) (is : hs ++ happenings.Turn u ∷ rest ≡ t.trace) (r : DecidedRecord) (wrote : u.wrote ≡ Some (records.Decided r)) where
-    abbrev hs1 : List Happening
-    hs1 = hs ++ happenings.Turn u ∷ []
-
-    part1 : Part t whole hs1
-    part1 = part_on t whole hs (happenings.Turn u) rest is
-
-    abbrev s1 : History
-    s1 = so_far t hs1
-
-    lawful1 : IsLawfulRun s1
-    lawful1 = part_lawful t whole hs1 part1
-
-    part0 : Part t whole hs
-    part0 = record { rest = happenings.Turn u ∷ rest; is = is }
+    open at_turn t whole hs u rest is use {after as hs1, part_after as part1, s_after as s1, lawful_after as lawful1, part as part0, k as k1}
+    open at_trail t hs u use {tr_on as tr1}
 
     -- it has decided then
     not_left : exit (e_at t hs) r.me ≡ None
@@ -205,18 +195,12 @@ module _ (t : History) (whole : IsLawfulRun t) (sees : SeesAll t) where
         (trail_keeps t.places t.commands (λ tr. plan_at tr so.root ≡ Some (plan t.places tr0 so.root)) (λ f tr h now. plan_stays t.places f tr h so.root (plan t.places tr0 so.root) now)
         (facts_after t.places t.commands f0 (happenings.Turn v)) (trail_after t.places f0 tr0 (happenings.Turn v)) so.later planned_then)
 
-    abbrev tr1 : Trail
-    tr1 = trail_after t.places (f_at t hs) (tr_at t hs) (happenings.Turn u)
-
     planned_now : plan_at tr1 so.root ≡ Some (plan t.places tr0 so.root)
     planned_now =
         subst (λ tr. plan_at tr so.root ≡ Some (plan t.places tr0 so.root)) (trail_one_on t hs (happenings.Turn u))
         (subst (λ xs. plan_at (tr_at t xs) so.root ≡ Some (plan t.places tr0 so.root)) so.is planned_at_end)
 
     -- ---- its root
-
-    abbrev k1 : NodeState
-    k1 = (may_of t whole hs (happenings.Turn u) rest is).0
 
     disk : records_at (facts_at s1) u.node ≡ records_at (f_at t hs) u.node ++ records.Decided r ∷ []
     disk =
@@ -244,7 +228,7 @@ module _ (t : History) (whole : IsLawfulRun t) (sees : SeesAll t) where
     pub by_site : IsSite tr1 r
     by_site = record { plan = plan t.places tr0 so.root; planned = planned_for; here = fits.0 }
 
-    covered : (y : Planned) → IsCoveredBy s1 r.me y → IsCovered tr1 r.me y
+    covered : (y : PlannedBranch) → IsCoveredBy s1 r.me y → IsCovered tr1 r.me y
     covered y is_so other weighs =
         let it = is_so other weighs in
         (it.0, subst (λ tr. exit_at tr y.me ≡ Some (Sealed it.0)) (trail_one_on t hs (happenings.Turn u)) (seals_are_told t whole sees hs1 part1 y.me it.0 it.1))

@@ -6,16 +6,16 @@ use Rattle.tran_ids.proofs.BranchLemmas.{same_from_equal}
 use Rattle.tran_ids.proofs.ListedLemmas.{item_is}
 use Rattle.agreement.specs.Events.{Exit, Quiet, Dropped}
 use Rattle.session_tree.specs.Live.{is_branch, children_of}
-use Rattle.node_rules.specs.Data.{BranchId, Edge, Kind, Live, Msg, Vote, Input, Place}
+use Rattle.node_rules.specs.Data.{BranchId, Edge, Kind, Live, Msg, Vote, Input}
 use Rattle.node_rules.specs.Data.inputs
 use Rattle.node_rules.specs.Data.kinds
 use Rattle.node_rules.specs.Data.phases
 use Rattle.node_rules.specs.Data.votes
 use Rattle.node_rules.specs.Words.{same}
-use Rattle.node_rules.specs.NodeState.{NodeState, Deed, live_id, live_at}
+use Rattle.node_rules.specs.NodeState.{NodeState, live_id, live_at}
 use Rattle.node_rules.specs.Client.{new_root}
 use Rattle.node_rules.specs.Prepare.{is_awaited, voted}
-use Rattle.node_rules.specs.Turn.{turn_of, heard, deed_of, stamped}
+use Rattle.node_rules.specs.Turn.{turn_of, heard, draft_of, stamped}
 use Rattle.node_rules.proofs.Steps.{Answers, vote_kind}
 use Rattle.node_rules.proofs.StepLemmas.{branch_found}
 use Rattle.node_rules.proofs.HeardLemmas.{sessions_heard}
@@ -23,7 +23,7 @@ use Rattle.run_rules.specs.Births.{births_of}
 use Rattle.run_rules.specs.Branches.{Seen, Trail, is_among, all_voted, is_live, is_live_at, is_root_of, seen_at, plan_at}
 use Rattle.run_rules.specs.Data.{Turn, Happening}
 use Rattle.run_rules.specs.Data.happenings
-use Rattle.run_rules.specs.Facts.{Facts, place_at, node_at, outcome_at, kept_after, facts_after}
+use Rattle.run_rules.specs.Facts.{Facts, node_at, outcome_at, kept_after, facts_after}
 use Rattle.run_rules.specs.Lawful.{MayHappen, IsOwed, History, IsLawfulRun}
 use Rattle.run_base_laws.specs.RunEvents.{events_of}
 use Rattle.run_rules.specs.Runs.{answered_by}
@@ -41,8 +41,8 @@ use Rattle.run_base_laws.proofs.TurnEventLemmas.{all_both, number_is}
 use Rattle.tree_laws.specs.AskLaws.{way_of}
 use Rattle.tree_laws.proofs.AskRunLemmas.{live_told}
 use Rattle.tree_laws.proofs.AskStepLemmas.{voted_peers}
-use Rattle.tree_laws.proofs.PrefixLemmas.{so_far, f_at}
-use Rattle.tree_site_laws.proofs.TimeLemmas.{Part, part_lawful, may_of}
+use Rattle.tree_laws.proofs.PrefixLemmas.{f_at}
+use Rattle.tree_laws.proofs.TimeLemmas.{may_of}
 use Rattle.tree_trail_laws.specs.LowerLaws.{AreVoted, IsToldLive}
 use Rattle.tree_trail_laws.specs.SeenLaws.{TellsTops, SeesRoots}
 use Rattle.tree_trail_laws.proofs.ChildRunLemmas.{tells_at}
@@ -57,7 +57,9 @@ use Rattle.tree_trail_laws.proofs.TopBirthLemmas.{IsBorn, Counts, TurnBegins, No
 use Rattle.tree_trail_laws.proofs.TopListLemmas.{Alone}
 use Rattle.tree_trail_laws.proofs.TopFreshLemmas.{Fresh, fresh_so}
 use Rattle.tree_trail_laws.proofs.TopNodeLemmas.{RootGoes}
-use Rattle.tree_trail_laws.proofs.TopStepLemmas.{Finishes, At_once, On_answer, Why, By_record, By_quiet, By_finish, By_abort, By_rollback, By_parent, By_ask, By_call, By_give_up, why_on}
+use Rattle.tree_laws.proofs.TopStepLemmas.{Finishes, At_once, On_answer, Why, By_record, By_quiet, By_finish, By_abort, By_rollback, By_parent, By_ask, By_call, By_give_up, why_on}
+use Rattle.tree_laws.proofs.AtTurn.{at_turn}
+use Rattle.tree_trail_laws.proofs.AtTrail.{at_trail}
 
 -- a branch is live at its node, or the node has just been cut off
 abbrev pub IsBack : Facts → BranchId → Type 0
@@ -89,38 +91,11 @@ abort_is kind is = (let it : Some kinds.Abort ≡ Some kind = is in let here : k
 module _ (t : History) (whole : IsLawfulRun t) (hs : List Happening) (u : Turn) (rest : List Happening) (is : hs ++ happenings.Turn u ∷ rest ≡ t.trace)
     (tops : TellsTops (f_at t hs) (tr_at t hs)) (sees : SeesRoots (f_at t hs) (tr_at t hs)) (counts : Counts t whole (f_at t hs) (tr_at t hs)) (born : AllByRecursion (λ s. IsBorn t whole hs s.me) (tr_at t hs).seen)
     (alone : Alone (tr_at t hs).seen) (goes : (n : ℕ) (k : NodeState) → node_at (f_at t hs) n ≡ Some k → RootGoes k.sessions k.lives) where
-  part0 : Part t whole hs
-  part0 = record { rest = happenings.Turn u ∷ rest; is = is }
-
-  abbrev s0 : History
-  s0 = so_far t hs
-
-  lawful0 : IsLawfulRun s0
-  lawful0 = part_lawful t whole hs part0
-
-  abbrev f0 : Facts
-  f0 = f_at t hs
-
-  abbrev f1 : Facts
-  f1 = facts_after t.places t.commands f0 (happenings.Turn u)
-
-  abbrev tr0 : Trail
-  tr0 = tr_at t hs
-
-  abbrev tr1 : Trail
-  tr1 = trail_after t.places f0 tr0 (happenings.Turn u)
+  open at_turn t whole hs u rest is use {part as part0, s as s0, lawful as lawful0, f as f0, g as f1, k, p, d}
+  open at_trail t hs u use {tr as tr0, tr_on as tr1}
 
   abbrev pub may : MayHappen t.places t.commands f0 (happenings.Turn u)
   may = may_of t whole hs (happenings.Turn u) rest is
-
-  abbrev k : NodeState
-  k = may.0
-
-  abbrev p : Place
-  p = place_at t.places u.node
-
-  abbrev d : Deed
-  d = deed_of p k u.input
 
   abbrev pl : Trail
   pl = planned t.places f0 tr0 u
@@ -336,7 +311,7 @@ module _ (t : History) (whole : IsLawfulRun t) (hs : List Happening) (u : Turn) 
     new_back ys cut (Child_begins y nobody its below alive untold are) = subst (AllByRecursion (λ s. Back f1 (turned t.places f0 tr0 u s))) (sym are) ((λ none top. absurd (below top)), tt)
     new_back ys cut (Root_begins n st call rows range none are) =
         let unborn = root_unborn t whole hs u rest is sees counts born n st call rows none in
-        let so : Fresh p k n d = subst (λ i. Fresh p k n (deed_of p k i)) (sym call) (fresh_so p k n (not_live t whole hs u rest is sees counts born (new_root p k n) unborn) fit range none st rows) in
+        let so : Fresh p k n d = subst (λ i. Fresh p k n (draft_of p k i)) (sym call) (fresh_so p k n (not_live t whole hs u rest is sees counts born (new_root p k n) unborn) fit range none st rows) in
         let number : p.number ≡ u.node = number_is t.places t.commands t.of_a_script.each f0 u.node k (run_births s0 lawful0).0.1.many may.1.up in
         subst (AllByRecursion (λ s. Back f1 (turned t.places f0 tr0 u s))) (sym are)
         ((λ alive top. inl (d.after, so.live, subst (λ m. node_at f1 m ≡ Some d.after) (sym number) (after_is cut), so.found)), tt)

@@ -5,21 +5,20 @@ use Rattle.std.specs.List.{AllByRecursion}
 use Rattle.tran_ids.proofs.BranchLemmas.{same_from_equal}
 use Rattle.tran_ids.proofs.ListedLemmas.{item_is}
 use Rattle.reco.specs.declared.post.Post.{Post}
-use Rattle.node_rules.specs.Data.{BranchId, Kind, Live, Msg, Stmt, Place, Input}
+use Rattle.node_rules.specs.Data.{BranchId, Kind, Live, Msg, Stmt, Input}
 use Rattle.node_rules.specs.Data.inputs
 use Rattle.node_rules.specs.Data.kinds
 use Rattle.node_rules.specs.Words.{is_item_of}
 use Rattle.node_rules.specs.Inputs.{IsCall, IsSession}
-use Rattle.node_rules.specs.NodeState.{NodeState, Deed, live_id, live_at}
+use Rattle.node_rules.specs.NodeState.{NodeState, live_id, live_at}
 use Rattle.node_rules.specs.Sessions.{session_at}
 use Rattle.node_rules.specs.Client.{new_root}
-use Rattle.node_rules.specs.Turn.{deed_of}
 use Rattle.run_rules.specs.Births.{Born, root_born, roots_by, births_by, births_at, births_after, births_from, births_of, born_id, born_at}
 use Rattle.run_base_laws.specs.BirthLaws.{Began, IsChildAt, LiveIs, GoesSo}
 use Rattle.run_rules.specs.Branches.{Seen, Trail, seen_id, seen_at, root_at, newly_seen}
 use Rattle.run_rules.specs.Data.{Turn, Happening}
 use Rattle.run_rules.specs.Data.happenings
-use Rattle.run_rules.specs.Facts.{Facts, place_at, node_at, records_at, facts_after}
+use Rattle.run_rules.specs.Facts.{Facts, node_at, records_at}
 use Rattle.run_base_laws.specs.InTurnLaws.{post_of, packet_post, said_in}
 use Rattle.run_rules.specs.Lawful.{MayHappen, boots, History, IsLawfulRun, facts_at}
 use Rattle.run_rules.specs.Runs.{is_of_rows}
@@ -37,7 +36,7 @@ use Rattle.run_base_laws.proofs.RootLemmas.{SessionsFit, sessions_keep}
 use Rattle.run_base_laws.proofs.SaidPostLemmas.{said_after}
 use Rattle.run_base_laws.proofs.TurnEventLemmas.{number_is}
 use Rattle.tree_laws.proofs.PrefixLemmas.{so_far, f_at, one_on, births_join}
-use Rattle.tree_site_laws.proofs.TimeLemmas.{Part, part_on, part_lawful, may_of, born_end}
+use Rattle.tree_laws.proofs.TimeLemmas.{part_on, part_lawful, may_of, born_end}
 use Rattle.tree_trail_laws.specs.SeenLaws.{IsSeenRoot, SeesRoots}
 use Rattle.tree_trail_laws.proofs.CallLemmas.{call_free}
 use Rattle.tree_trail_laws.proofs.ChildTurnLemmas.{all_behind}
@@ -45,6 +44,8 @@ use Rattle.tree_trail_laws.proofs.MomentLemmas.{tr_at}
 use Rattle.tree_trail_laws.proofs.PlanLemmas.{find_last}
 use Rattle.tree_trail_laws.proofs.SeenLemmas.{begun, turned}
 use Rattle.tree_trail_laws.proofs.TopListLemmas.{Alone, alone_map, alone_more}
+use Rattle.tree_laws.proofs.AtTurn.{at_turn}
+use Rattle.tree_trail_laws.proofs.AtTrail.{at_trail}
 
 module _ (t : History) (whole : IsLawfulRun t) where
   -- a branch began
@@ -69,50 +70,11 @@ module _ (t : History) (whole : IsLawfulRun t) where
 
   module _ (hs : List Happening) (u : Turn) (rest : List Happening) (is : hs ++ happenings.Turn u ∷ rest ≡ t.trace)
       (sees : SeesRoots (f_at t hs) (tr_at t hs)) (counts : Counts (f_at t hs) (tr_at t hs)) (born : AllByRecursion (λ s. IsBorn hs s.me) (tr_at t hs).seen) where
-    abbrev hs1 : List Happening
-    hs1 = hs ++ happenings.Turn u ∷ []
-
-    part0 : Part t whole hs
-    part0 = record { rest = happenings.Turn u ∷ rest; is = is }
-
-    abbrev s0 : History
-    s0 = so_far t hs
-
-    abbrev s1 : History
-    s1 = so_far t hs1
-
-    lawful0 : IsLawfulRun s0
-    lawful0 = part_lawful t whole hs part0
-
-    lawful1 : IsLawfulRun s1
-    lawful1 = part_lawful t whole hs1 (part_on t whole hs (happenings.Turn u) rest is)
-
-    abbrev f0 : Facts
-    f0 = f_at t hs
-
-    abbrev f1 : Facts
-    f1 = facts_after t.places t.commands f0 (happenings.Turn u)
-
-    abbrev tr0 : Trail
-    tr0 = tr_at t hs
-
-    abbrev tr1 : Trail
-    tr1 = trail_after t.places f0 tr0 (happenings.Turn u)
+    open at_turn t whole hs u rest is use {after as hs1, part as part0, s as s0, s_after as s1, lawful as lawful0, lawful_after as lawful1, f as f0, g as f1, k, p, d, bs as bs0}
+    open at_trail t hs u use {tr as tr0, tr_on as tr1}
 
     abbrev pub may : MayHappen t.places t.commands f0 (happenings.Turn u)
     may = may_of t whole hs (happenings.Turn u) rest is
-
-    abbrev k : NodeState
-    k = may.0
-
-    abbrev p : Place
-    p = place_at t.places u.node
-
-    abbrev d : Deed
-    d = deed_of p k u.input
-
-    abbrev bs0 : List Born
-    bs0 = births_of s0
 
     pub stand : StandBorn t.places t.commands t.of_a_script.each f0 (events_of s0) bs0
     stand = run_births s0 lawful0

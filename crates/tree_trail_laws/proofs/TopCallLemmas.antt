@@ -7,12 +7,12 @@ use Rattle.node_rules.specs.Data.inputs
 use Rattle.node_rules.specs.Data.stmts
 use Rattle.node_rules.specs.declared.session.PendingCall.{PendingCall}
 use Rattle.node_rules.specs.declared.session.PendingCall.TheVariants as pending
-use Rattle.node_rules.specs.NodeState.{NodeState, Branch, Deed, live_id, live_at, branch_at}
+use Rattle.node_rules.specs.NodeState.{NodeState, Branch, TurnDraft, live_id, live_at, branch_at}
 use Rattle.node_rules.specs.Names.{way_of}
 use Rattle.node_rules.specs.Sessions.{session_at, with_call}
 use Rattle.node_rules.specs.Prepare.{collecting, with_comment, first_act, without_read_keys}
 use Rattle.node_rules.specs.Client.{begun, begun_by, statement_by, statement_call, call_turn, commit_by, commit_call, rollback_by, statement_given_up, commit_given_up, give_up_by, give_up_turn, root_by, root_at}
-use Rattle.node_rules.specs.Turn.{outcome_of}
+use Rattle.node_rules.specs.Turn.{output_of}
 use Rattle.node_rules.proofs.StandLemmas.{live_so}
 use Rattle.run_rules.specs.Runs.{is_of_rows, answered_by}
 use Rattle.run_rules.specs.Trail.{is_refused, begins_collect, input_drops}
@@ -35,7 +35,7 @@ rows_drop n m s (stmts.Select list table cs for_update) rows = refl
 rows_drop n m s _ rows = absurd cc
 
 module _ (p : Place) (k : NodeState) (n : ℕ) (x : Branch) (found : branch_at k x.live.me ≡ Some x) (has : (session_at k.sessions n).root ≡ Some x.live.me) where
-  abbrev After : Deed → (Live → Type 0) → Type 0
+  abbrev After : TurnDraft → (Live → Type 0) → Type 0
   After d P = (l : Live) → live_at d.after x.live.me ≡ Some l → P l
 
   root_is : root_at k n ≡ Some x
@@ -76,13 +76,13 @@ module _ (p : Place) (k : NodeState) (n : ℕ) (x : Branch) (found : branch_at k
       let l0 : Live = collecting (with_comment x.live c) true in
       collected_busy p k x found l0 l c true refl
       (act_live (without_read_keys (record k { sessions = with_call k.sessions n pending.Commit }) x.live.me) l0 true (first_act l0 true) l
-      (subst (λ (d : Deed). live_at d.after x.live.me ≡ Some l) (commit_is given None is) at))
+      (subst (λ (d : TurnDraft). live_at d.after x.live.me ≡ Some l) (commit_is given None is) at))
 
   pub commit_same : (given : Option (List ℕ)) (c : ℕ) → (session_at k.sessions n).code ≡ Some c → After (commit_call k n given) (λ l. l ≡ x.live)
-  commit_same given c is l at = same_live l (subst (λ (d : Deed). live_at d.after x.live.me ≡ Some l) (commit_is given (Some c) is) at)
+  commit_same given c is l at = same_live l (subst (λ (d : TurnDraft). live_at d.after x.live.me ≡ Some l) (commit_is given (Some c) is) at)
 
-  pub commit_refused : (given : Option (List ℕ)) (c : ℕ) → (session_at k.sessions n).code ≡ Some c → is_refused (answered_by (Some (outcome_of (commit_call k n given)))) ≡ true
-  commit_refused given c is = ap (λ d. is_refused (answered_by (Some (outcome_of d)))) (commit_is given (Some c) is)
+  pub commit_refused : (given : Option (List ℕ)) (c : ℕ) → (session_at k.sessions n).code ≡ Some c → is_refused (answered_by (Some (output_of (commit_call k n given)))) ≡ true
+  commit_refused given c is = ap (λ d. is_refused (answered_by (Some (output_of d)))) (commit_is given (Some c) is)
 
   -- ---- ROLLBACK, and a call that is given up
 

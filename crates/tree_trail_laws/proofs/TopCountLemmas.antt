@@ -4,25 +4,25 @@ use Rattle.std.specs.List.{AllByRecursion}
 use Rattle.std.specs.Prelude.{IfSome}
 use Rattle.std.proofs.lemmas.Bool.{eq-eqb, ne_eqb, and_from, and_left, and_right, cases_eq}
 use Rattle.tran_ids.proofs.NumberedLemmas.{set_or_before}
-use Rattle.node_rules.specs.Data.{BranchId, Stmt, Place, Input}
+use Rattle.node_rules.specs.Data.{BranchId, Stmt, Input}
 use Rattle.node_rules.specs.Data.inputs
 use Rattle.node_rules.specs.Data.stmts
 use Rattle.node_rules.specs.declared.session.Session.{Session}
 use Rattle.node_rules.specs.Words.{same, set_numbered}
 use Rattle.node_rules.specs.Inputs.{IsCall, IsSession}
-use Rattle.node_rules.specs.NodeState.{NodeState, Deed}
+use Rattle.node_rules.specs.NodeState.{NodeState, TurnDraft}
 use Rattle.node_rules.specs.Sessions.{session_at}
 use Rattle.node_rules.specs.Client.{new_root}
-use Rattle.node_rules.specs.Turn.{turn_of, heard, deed_of}
+use Rattle.node_rules.specs.Turn.{turn_of, heard, draft_of}
 use Rattle.node_rules.proofs.Steps.{IsOfRows}
 use Rattle.node_rules.proofs.SessionLemmas.{seqs, seq_at, session_seq}
 use Rattle.node_rules.proofs.HeardLemmas.{sessions_heard}
 use Rattle.run_rules.specs.Births.{Born, births_of, born_id}
 use Rattle.run_base_laws.specs.BirthLaws.{Began}
-use Rattle.run_rules.specs.Branches.{Seen, Trail}
+use Rattle.run_rules.specs.Branches.{Seen}
 use Rattle.run_rules.specs.Data.{Turn, Happening}
 use Rattle.run_rules.specs.Data.happenings
-use Rattle.run_rules.specs.Facts.{Facts, place_at, node_at, records_at, kept_after, facts_after}
+use Rattle.run_rules.specs.Facts.{node_at, records_at, kept_after}
 use Rattle.run_rules.specs.Lawful.{MayTurn, boots, History, IsLawfulRun}
 use Rattle.run_rules.specs.Runs.{is_of_rows}
 use Rattle.run_base_laws.specs.RunEvents.{events_of}
@@ -44,8 +44,10 @@ use Rattle.tree_trail_laws.proofs.TopSeqLemmas.{seqs_on, births_high}
 use Rattle.tree_trail_laws.proofs.TopListLemmas.{is_of, count_map, count_none, count_last, count_more, Ordered}
 use Rattle.tree_trail_laws.proofs.TopBirthLemmas as births
 use Rattle.tree_trail_laws.proofs.TopBirthLemmas.{IsBorn, Counts, Booted}
+use Rattle.tree_laws.proofs.AtTurn.{at_turn}
+use Rattle.tree_trail_laws.proofs.AtTrail.{at_trail}
 
-rows_so : (s : Stmt) → IsOfRows s → is_of_rows s ≡ true
+pub rows_so : (s : Stmt) → IsOfRows s → is_of_rows s ≡ true
 rows_so (stmts.Insert table columns given) rows = refl
 rows_so (stmts.Update table sets cs) rows = refl
 rows_so (stmts.Delete table cs) rows = refl
@@ -55,32 +57,14 @@ rows_so _ rows = absurd rows
 module _ (t : History) (whole : IsLawfulRun t) where
   module _ (hs : List Happening) (u : Turn) (rest : List Happening) (is : hs ++ happenings.Turn u ∷ rest ≡ t.trace)
       (sees : SeesRoots (f_at t hs) (tr_at t hs)) (counts : Counts t whole (f_at t hs) (tr_at t hs)) (born : AllByRecursion (λ s. IsBorn t whole hs s.me) (tr_at t hs).seen) where
-    abbrev hs1 : List Happening
-    hs1 = hs ++ happenings.Turn u ∷ []
-
-    abbrev s1 : History
-    s1 = so_far t hs1
-
-    abbrev f0 : Facts
-    f0 = f_at t hs
-
-    abbrev f1 : Facts
-    f1 = facts_after t.places t.commands f0 (happenings.Turn u)
-
-    abbrev tr0 : Trail
-    tr0 = tr_at t hs
-
-    abbrev tr1 : Trail
-    tr1 = trail_after t.places f0 tr0 (happenings.Turn u)
+    open at_turn t whole hs u rest is use {after as hs1, s_after as s1, f as f0, g as f1, p}
+    open at_trail t hs u use {tr as tr0, tr_on as tr1}
 
     abbrev k : NodeState
     k = (births.may t whole hs u rest is sees counts born).0
 
-    abbrev p : Place
-    p = place_at t.places u.node
-
-    abbrev d : Deed
-    d = deed_of p k u.input
+    abbrev d : TurnDraft
+    d = draft_of p k u.input
 
     abbrev stand : StandBorn t.places t.commands t.of_a_script.each f0 (events_of (so_far t hs)) (births_of (so_far t hs))
     stand = births.stand t whole hs u rest is sees counts born
@@ -187,7 +171,7 @@ module _ (t : History) (whole : IsLawfulRun t) where
           ∙ (counts u.node k may_turn.up session range ∙ sym (quiet_seq (λ n s call rows none. nobody n s call)))
       here_count cut ys (births.Root_begins n s call rows its none are) is_ys =
           let r : Seen = root_seen (new_root p k n) in
-          let so : Fresh p k n d = subst (λ i. Fresh p k n (deed_of p k i)) (sym call) (fresh_so p k n (births.not_live t whole hs u rest is sees counts born (new_root p k n) (births.root_unborn t whole hs u rest is sees counts born n s call rows none)) (births.fit t whole hs u rest is sees counts born) its none s rows) in
+          let so : Fresh p k n d = subst (λ i. Fresh p k n (draft_of p k i)) (sym call) (fresh_so p k n (births.not_live t whole hs u rest is sees counts born (new_root p k n) (births.root_unborn t whole hs u rest is sees counts born n s call rows none)) (births.fit t whole hs u rest is sees counts born) its none s rows) in
           let all : begun_in tr1 u.node (boots (records_at f0 u.node)) session ≡ length (filter (is_of u.node (boots (records_at f0 u.node)) session) (tr0.seen ++ r ∷ []))
           = counted u.node (boots (records_at f0 u.node)) session ∙ ap (λ zs. length (filter (is_of u.node (boots (records_at f0 u.node)) session) (tr0.seen ++ zs))) (is_ys ∙ are) in
           elim (next_seq n its so.next) [

@@ -4,7 +4,7 @@ use Rattle.std.proofs.Common.{◌≡◌, ◌≢◌, ℕ, zero, suc, ◌+◌, ◌
 use Rattle.std.specs.List.{AllByRecursion, list_any}
 use Rattle.std.proofs.lemmas.Bool.{and_parts, not-true}
 use Rattle.tran_ids.proofs.BranchLemmas.{equal_from_same}
-use Rattle.agreement.specs.Events.{Forest, Event, Decide, Exit, Sealed, Decided, Quiet, Dropped, Send_vote, first, exit, only_at, Has, Heard, Lawful, site_of}
+use Rattle.agreement.specs.Events.{Event, Decide, Exit, Sealed, Decided, Quiet, Dropped, Send_vote, first, exit, only_at, Has, Heard, Lawful, site_of}
 use Rattle.agreement.proofs.AgreementLaws.{covered}
 use Rattle.agreement.proofs.EventLemmas.{only_at_same, exit_new}
 use Rattle.node_rules.specs.Data.{BranchId, Edge, Kind, Live, Vote}
@@ -16,20 +16,16 @@ use Rattle.node_rules.specs.Inputs.{Came}
 use Rattle.node_rules.specs.NodeState.{NodeState, live_id, live_at}
 use Rattle.node_rules.specs.Prepare.{is_awaited, answers_first, has_voted, voted, all_answered}
 use Rattle.node_rules.proofs.Steps.{Answers, vote_kind}
-use Rattle.reco.specs.declared.post.Post.{Post}
 use Rattle.session_tree.specs.Live.{children_of}
 use Rattle.session_tree.specs.Tree.{step}
 use Rattle.session_tree.specs.declared.act.Walk.TheVariants as walks
 use Rattle.run_rules.specs.Births.{Born, births_of}
 use Rattle.run_base_laws.specs.BirthLaws.{Began}
 use Rattle.run_rules.specs.Data.{Turn}
-use Rattle.run_rules.specs.Facts.{Facts}
 use Rattle.run_base_laws.specs.FreezeLaws.{was_asked}
 use Rattle.run_branch_laws.specs.HeardLaws.{VoteIs, EdgeIs, AnswersAre, QuietIs}
-use Rattle.run_base_laws.specs.InTurnLaws.{said_in}
 use Rattle.run_rules.specs.Lawful.{MayTurn, History, IsLawfulRun, facts_at}
 use Rattle.run_branch_laws.specs.PhaseLaws.{IsNoAbort, PhaseFits}
-use Rattle.run_base_laws.specs.RunEvents.{events_of}
 use Rattle.run_branch_laws.specs.WalkLaws.{is_below, was_sent}
 use Rattle.run_base_laws.proofs.BirthsStandLemmas.{came_so}
 use Rattle.run_base_laws.proofs.EventsStandLemmas.{run_stands, nodes_are_as_events}
@@ -40,7 +36,7 @@ use Rattle.run_branch_laws.proofs.PhaseLemmas.{phases_fit}
 use Rattle.run_base_laws.proofs.SaidLemmas.{came_said}
 use Rattle.run_branch_laws.proofs.TreeJustLemmas.{runs_by_trees_are_just}
 use Rattle.tree_laws.specs.AnswerLaws.{EdgeTold, AnswersTold, ReadyIs}
-use Rattle.tree_laws.specs.Forests.{told_below, comes_to, asked_by, forest_of}
+use Rattle.tree_laws.specs.Forests.{told_below, comes_to, asked_by}
 use Rattle.tree_laws.proofs.AgreeLemmas.{runs_go_by_forest}
 use Rattle.tree_laws.proofs.AnswerRunLemmas.{answers_are_as_told}
 use Rattle.tree_laws.proofs.AskLemmas.{voted_step}
@@ -50,29 +46,20 @@ use Rattle.tree_laws.proofs.ForestLemmas as trees
 use Rattle.tree_laws.proofs.ForestLemmas.{told_sent}
 use Rattle.tree_laws.proofs.ForestRunLemmas.{runs_have_forests}
 use Rattle.tree_laws.proofs.SettleRunLemmas.{known}
-use Rattle.tree_site_laws.proofs.FrozenLemmas.{path_down}
-use Rattle.tree_site_laws.proofs.MemberLemmas.{IsIn}
+use Rattle.tree_laws.proofs.FrozenLemmas.{path_down}
+use Rattle.tree_laws.proofs.MemberLemmas.{IsIn}
+use Rattle.tree_laws.proofs.AtPart.{at_end}
 
 module _ (t : History) (whole : IsLawfulRun t) (u : Turn) (k : NodeState) (may : MayTurn t.places (facts_at t) u k) (z : Live) (z_live : live_at k z.me ≡ Some z) (from : BranchId) (v : Vote) (sb : Bool)
-    (answers : Answers u.input z from v sb) (no_abort : v ≢ votes.Abort) (all : all_answered (voted z from v) ≡ true) (at_end : step (voted z from v) ≡ walks.Nowhere)
+    (answers : Answers u.input z from v sb) (no_abort : v ≢ votes.Abort) (all : all_answered (voted z from v) ≡ true) (walk_over : step (voted z from v) ≡ walks.Nowhere)
     (top : (x : Born) × Began (births_of t) x × (x.me ≡ z.me) × (x.parent ≡ None) × (x.root ≡ z.me)) where
-  abbrev e : List Event
-  e = events_of t
-
-  abbrev p : Forest
-  p = forest_of t
-
-  abbrev f : Facts
-  f = facts_at t
-
-  abbrev said : List Post
-  said = said_in (facts_at t)
+  open at_end t use {e, forest as p, f, said}
 
   abbrev r : BranchId
   r = z.me
 
   nowhere : step z ≡ walks.Nowhere
-  nowhere = sym (voted_step z from v) ∙ at_end
+  nowhere = sym (voted_step z from v) ∙ walk_over
 
   busy : z.phase ≢ phases.Working
   busy working = (let collecting = answers.collecting in absurd (cc (collecting, working)))

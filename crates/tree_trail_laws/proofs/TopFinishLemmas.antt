@@ -1,6 +1,5 @@
 -- A root that ends without a site has a plan without one, where what is told of its tree at its COMMIT is what its nodes kept.
-use Rattle.std.proofs.Common.{◌≡◌, ◌≢◌, ℕ, zero, suc, ◌≤◌, Bool, true, is_none, is_some, slice_get, length, unwrap_or, List, [], ◌∷◌, ◌++◌, map, Option, Some, None, refl, sym, ap, subst, ◌∙◌, append-nil, arith}
-use Rattle.std.proofs.lemmas.Bool.{lt-ltb}
+use Rattle.std.proofs.Common.{◌≡◌, ◌≢◌, ℕ, zero, suc, ◌≤◌, Bool, true, is_none, is_some, slice_get, unwrap_or, List, [], ◌∷◌, ◌++◌, map, Option, Some, None, refl, sym, ap, subst, ◌∙◌, append-nil, arith}
 use Rattle.std.proofs.lemmas.List.{append_assoc}
 use Rattle.tran_ids.proofs.ListedLemmas.{item_is}
 use Rattle.dtx_values.specs.Limits.{depth_limit}
@@ -8,7 +7,7 @@ use Rattle.session_tree.specs.Live.{children_of as kept_children}
 use Rattle.session_tree.specs.Tree.{place_of_greatest, walk_by, step}
 use Rattle.session_tree.specs.declared.act.Walk.TheVariants as walks
 use Rattle.agreement.specs.Events.{Exit, Dropped, exit}
-use Rattle.node_rules.specs.Data.{BranchId, Change, Edge, Live, Vote, Place}
+use Rattle.node_rules.specs.Data.{BranchId, Edge, Live, Vote, Place}
 use Rattle.node_rules.specs.Data.votes
 use Rattle.node_rules.proofs.Steps.{Answers}
 use Rattle.node_rules.specs.Data.phases
@@ -22,7 +21,7 @@ use Rattle.node_rules.specs.Prepare.{with_prepare_sent, collecting, with_comment
 use Rattle.node_rules.proofs.StandLemmas.{live_so}
 use Rattle.run_rules.specs.Births.{Born, births_of}
 use Rattle.run_base_laws.specs.BirthLaws.{Began, LiveIs}
-use Rattle.run_rules.specs.Branches.{Seen, Trail, Plan, no_trail, seen_at, own_at, children_of, children_at, root_at, plan_at}
+use Rattle.run_rules.specs.Branches.{Seen, Trail, CommitPlan, no_trail, seen_at, own_at, children_of, children_at, root_at, plan_at}
 use Rattle.run_key_laws.specs.ChangedLaws.{changes_at, has_changes as are_some}
 use Rattle.run_rules.specs.Data.{Turn, Happening}
 use Rattle.run_rules.specs.Data.happenings
@@ -48,16 +47,16 @@ use Rattle.tree_laws.proofs.AskRunLemmas.{edges_asked}
 use Rattle.tree_laws.proofs.ForestLemmas as trees
 use Rattle.tree_laws.proofs.PrefixLemmas.{so_far, f_at}
 use Rattle.tree_laws.proofs.SettleRunLemmas.{known}
-use Rattle.tree_site_laws.specs.DecideLaws.{live_in, InTree, Is_root, SeesTree}
-use Rattle.tree_site_laws.specs.RestLaws.{SameTree}
-use Rattle.tree_site_laws.proofs.DecideLemmas.{root_member}
-use Rattle.tree_site_laws.proofs.FindLemmas.{WasFound, commit_came}
-use Rattle.tree_site_laws.proofs.FrozenLemmas.{State, Here, Left, Member, same_step, strength_at}
-use Rattle.tree_site_laws.proofs.MemberLemmas.{IsIn}
-use Rattle.tree_site_laws.proofs.SeenLemmas.{Low, step_seen}
-use Rattle.tree_site_laws.proofs.StrengthLemmas.{lives_have_strength}
-use Rattle.tree_site_laws.proofs.TimeLemmas.{Part, part_of, part_lawful, may_of, born_end}
-use Rattle.tree_site_laws.proofs.WeighLemmas.{placed_of}
+use Rattle.tree_laws.specs.DecideLaws.{live_in, InTree, Is_root, SeesTree}
+use Rattle.tree_laws.specs.RestLaws.{SameTree}
+use Rattle.tree_laws.proofs.DecideLemmas.{root_member}
+use Rattle.tree_laws.proofs.FindLemmas.{WasFound, commit_came}
+use Rattle.tree_laws.proofs.FrozenLemmas.{State, Here, Left, Member, same_step, strength_at}
+use Rattle.tree_laws.proofs.MemberLemmas.{IsIn}
+use Rattle.tree_laws.proofs.SeenLemmas.{Low, step_seen}
+use Rattle.tree_laws.proofs.StrengthLemmas.{lives_have_strength}
+use Rattle.tree_laws.proofs.TimeLemmas.{Part, part_lawful, may_of, born_end}
+use Rattle.tree_laws.proofs.WeighLemmas.{placed_of}
 use Rattle.tree_trail_laws.specs.SeenLaws.{TellsTops, TellsOwns, SeesRoots}
 use Rattle.tree_trail_laws.proofs.CallLemmas.{call_free, seen_root}
 use Rattle.tree_trail_laws.proofs.LowerRunLemmas.{lower_at}
@@ -66,7 +65,9 @@ use Rattle.tree_trail_laws.proofs.PlanLemmas.{plan_stays, plan_here}
 use Rattle.tree_trail_laws.proofs.RootLemmas.{IsLiveIn, live_there}
 use Rattle.tree_trail_laws.proofs.SeenLemmas.{planned}
 use Rattle.tree_trail_laws.proofs.TopCoveredLemmas.{asked_left}
-use Rattle.tree_trail_laws.proofs.TopStepLemmas.{Finishes, At_once, On_answer}
+use Rattle.tree_laws.proofs.TopStepLemmas.{Finishes, At_once, On_answer}
+use Rattle.tree_laws.proofs.AtTurn.{at_happening, at_turn}
+use Rattle.tree_trail_laws.proofs.SiteLemmas.{some_first}
 
 -- ---- a plan without a site
 
@@ -79,12 +80,8 @@ unfolding plan told.walk
 no_site_planned places tr b nowhere = none_walked depth_limit places tr b nowhere
 
 -- it stays the plan of its root
-pub siteless_stays : (o : Option Plan) (p : Plan) → o ≡ Some p → p.site ≡ None → has_no_site o ≡ true
+pub siteless_stays : (o : Option CommitPlan) (p : CommitPlan) → o ≡ Some p → p.site ≡ None → has_no_site o ≡ true
 siteless_stays o p is none = ap has_no_site is ∙ ap is_none none
-
-some_first : (cs : List Change) → is_some (slice_get cs 0) ≡ are_some cs
-some_first [] = refl
-some_first (c ∷ cs) = sym (lt-ltb 0 (length (c ∷ cs)) (omega arith))
 
 -- what is told of roots, before each happening
 abbrev pub Earlier : History → Type 0
@@ -94,11 +91,7 @@ module _ (t : History) (whole : IsLawfulRun t) (owns : AtEach (λ places f tr h.
   -- ---- a moment, where roots are told
 
   module _ (hs : List Happening) (h : Happening) (rest : List Happening) (is : hs ++ h ∷ rest ≡ t.trace) (tops : TellsTops (f_at t hs) (tr_at t hs)) where
-    part : Part t whole hs
-    part = part_of t whole hs h rest is
-
-    lawful : IsLawfulRun (so_far t hs)
-    lawful = part_lawful t whole hs part
+    open at_happening t whole hs h rest is use {part, lawful}
 
     -- each live branch is told with its children
     told_children : (n : ℕ) (k : NodeState) → node_at (f_at t hs) n ≡ Some k → (l : Live) → live_at k l.me ≡ Some l → children_at (tr_at t hs) l.me ≡ kept_children l
@@ -167,17 +160,7 @@ module _ (t : History) (whole : IsLawfulRun t) (owns : AtEach (λ places f tr h.
   -- ---- a root that ends
 
   module _ (hs : List Happening) (u : Turn) (rest : List Happening) (is : hs ++ happenings.Turn u ∷ rest ≡ t.trace) (tops : TellsTops (f_at t hs) (tr_at t hs)) (sees : SeesRoots (f_at t hs) (tr_at t hs)) (earlier : Earlier (so_far t hs)) where
-    abbrev s0 : History
-    s0 = so_far t hs
-
-    lawful0 : IsLawfulRun s0
-    lawful0 = part_lawful t whole hs (part_of t whole hs (happenings.Turn u) rest is)
-
-    abbrev may0 : MayHappen t.places t.commands (f_at t hs) (happenings.Turn u)
-    may0 = may_of t whole hs (happenings.Turn u) rest is
-
-    abbrev k : NodeState
-    k = may0.0
+    open at_turn t whole hs u rest is use {s as s0, lawful as lawful0, may as may0, k}
 
     abbrev pl : Trail
     pl = planned t.places (f_at t hs) (tr_at t hs) u

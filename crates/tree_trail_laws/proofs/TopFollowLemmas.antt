@@ -11,7 +11,7 @@ use Rattle.run_rules.specs.Lawful.{History, IsLawfulRun}
 use Rattle.run_rules.specs.Branches.{no_trail}
 use Rattle.run_rules.specs.Trail.{trail_after, trail_of}
 use Rattle.tree_laws.proofs.PrefixLemmas.{so_far}
-use Rattle.tree_site_laws.proofs.TimeLemmas.{Part, part_of, keep_on}
+use Rattle.tree_laws.proofs.TimeLemmas.{Part, part_of, keep_on}
 use Rattle.tree_trail_laws.specs.SeenLaws.{TellsTops, TellsOwns, SeesRoots}
 use Rattle.tree_trail_laws.specs.TopLaws.{TopsFollow}
 use Rattle.tree_trail_laws.proofs.TopFinishLemmas.{Earlier, ends_siteless_planned}

@@ -12,7 +12,7 @@ use Rattle.node_rules.specs.Data.stmts
 use Rattle.node_rules.specs.declared.session.Session.{Session}
 use Rattle.node_rules.specs.Words.{is_item_of, set_numbered}
 use Rattle.node_rules.specs.Inputs.{IsSession}
-use Rattle.node_rules.specs.NodeState.{NodeState, Branch, Deed, live_id, live_at, post}
+use Rattle.node_rules.specs.NodeState.{NodeState, Branch, TurnDraft, live_id, live_at, post}
 use Rattle.node_rules.specs.Names.{Way, Runs_here, Over, Through, Nowhere_to, way_of, passed_on}
 use Rattle.node_rules.specs.Sessions.{session_at}
 use Rattle.node_rules.specs.Statement.{ran, after_run}
@@ -27,7 +27,7 @@ use Rattle.tree_trail_laws.proofs.ChildStepLemmas.{called_by, still_calls}
 use Rattle.tree_trail_laws.proofs.PlanLemmas.{find_last}
 
 -- What such a turn leaves of the root.
-pub record Fresh (p : Place) (k : NodeState) (n : ℕ) (d : Deed) : Type 0 where
+pub record Fresh (p : Place) (k : NodeState) (n : ℕ) (d : TurnDraft) : Type 0 where
   pub live : Live
   pub found : live_at d.after (new_root p k n) ≡ Some live
   pub working : live.phase ≡ phases.Working
@@ -52,7 +52,7 @@ module _ (p : Place) (k : NodeState) (n : ℕ) (unused : live_at k (new_root p k
   next1 = set_seqs k.sessions n (record (session_at k.sessions n) { seq = b.seq; root = Some b })
 
   -- where nothing is done
-  stays : (d : Deed) → d.after ≡ k1 → d.says ≡ [] → Fresh p k n d
+  stays : (d : TurnDraft) → d.after ≡ k1 → d.says ≡ [] → Fresh p k n d
   stays d after says = record {
     live = l;
     found = ap (λ (j : NodeState). live_at j b) after ∙ found1;

@@ -6,7 +6,7 @@ use Rattle.tran_ids.proofs.BranchLemmas.{equal_from_same, same_from_equal}
 use Rattle.tran_ids.proofs.ListedLemmas.{item_is}
 use Rattle.agreement.specs.Events.{exit}
 use Rattle.session_tree.specs.Live.{children_of}
-use Rattle.node_rules.specs.Data.{BranchId, Live, Msg, Stmt, Input, Place}
+use Rattle.node_rules.specs.Data.{BranchId, Live, Msg, Stmt, Input}
 use Rattle.node_rules.specs.Data.inputs
 use Rattle.node_rules.specs.Data.phases
 use Rattle.node_rules.specs.Data.stmts
@@ -14,22 +14,22 @@ use Rattle.node_rules.specs.declared.session.PendingCall.{PendingCall}
 use Rattle.node_rules.specs.declared.session.PendingCall.TheVariants as pending
 use Rattle.node_rules.specs.Words.{same, is_item_of, item_at}
 use Rattle.node_rules.specs.Inputs.{IsCall}
-use Rattle.node_rules.specs.NodeState.{NodeState, Branch, Deed, live_id, live_at, branch_at, work_at, with_work}
+use Rattle.node_rules.specs.NodeState.{NodeState, Branch, TurnDraft, live_id, live_at, branch_at, work_at, with_work}
 use Rattle.node_rules.specs.Sessions.{session_at}
 use Rattle.node_rules.specs.Client.{new_root}
-use Rattle.node_rules.specs.Turn.{turn_of, heard, deed_of, kind_turn, stand_of}
+use Rattle.node_rules.specs.Turn.{turn_of, heard, draft_of, kind_turn, status_of}
 use Rattle.run_rules.specs.Births.{Born, births_by, births_at, births_of, born_at}
 use Rattle.run_base_laws.specs.BirthLaws.{Began, LiveIs}
-use Rattle.run_rules.specs.Branches.{Seen, Trail, Plan, is_among, is_live_at, is_root_of, is_plan_of, seen_id, seen_at, plan_at}
+use Rattle.run_rules.specs.Branches.{Seen, CommitPlan, is_among, is_live_at, is_root_of, is_plan_of, seen_id, seen_at, plan_at}
 use Rattle.run_base_laws.specs.CallLaws.{IsRootOf, RootWaits}
 use Rattle.run_rules.specs.Data.{Turn, Happening}
 use Rattle.run_rules.specs.Data.happenings
-use Rattle.run_rules.specs.Facts.{Facts, place_at, node_at, outcome_at, kept_after, facts_after}
+use Rattle.run_rules.specs.Facts.{node_at, outcome_at, kept_after}
 use Rattle.run_rules.specs.Lawful.{MayHappen, History, IsLawfulRun}
 use Rattle.run_branch_laws.specs.PhaseLaws.{PhaseFits}
 use Rattle.run_rules.specs.Runs.{is_of_rows, answered_by}
 use Rattle.run_base_laws.specs.RunEvents.{events_of, lives_at}
-use Rattle.run_rules.specs.Trail.{root_seen, is_refused, begins_collect, begun_in_turn, children_after, voted_after, input_drops, trail_after}
+use Rattle.run_rules.specs.Trail.{root_seen, is_refused, begins_collect, begun_in_turn, children_after, voted_after, input_drops}
 use Rattle.run_rules.proofs.AtNodeLemmas.{turn_here}
 use Rattle.run_base_laws.proofs.BirthRunLemmas.{born_are_live_or_left, nodes_name_the_born}
 use Rattle.run_base_laws.proofs.EventsStandLemmas.{run_stands, ids_name_their_node}
@@ -40,15 +40,14 @@ use Rattle.run_base_laws.proofs.OwnLemmas.{all_found}
 use Rattle.run_branch_laws.proofs.PhaseLemmas.{phases_fit}
 use Rattle.run_base_laws.proofs.RestRunLemmas.{roots_wait}
 use Rattle.run_base_laws.proofs.RootLemmas.{SessionsFit}
-use Rattle.tree_site_laws.proofs.FateLemmas.{among_found}
-use Rattle.tree_laws.proofs.PrefixLemmas.{so_far, f_at, e_at}
-use Rattle.tree_site_laws.proofs.TimeLemmas.{Part, part_on, part_lawful, exit_end}
+use Rattle.tree_laws.proofs.FateLemmas.{among_found}
+use Rattle.tree_laws.proofs.PrefixLemmas.{f_at, e_at}
+use Rattle.tree_laws.proofs.TimeLemmas.{exit_end}
 use Rattle.tree_trail_laws.specs.LowerLaws.{AreVoted, IsToldLive}
 use Rattle.tree_trail_laws.specs.SeenLaws.{TellsTops, SeesRoots}
 use Rattle.tree_trail_laws.proofs.CallLemmas.{call_free}
 use Rattle.tree_trail_laws.proofs.ChildStepLemmas.{Grows, called_by, stamped_calls}
 use Rattle.tree_trail_laws.proofs.ChildTurnLemmas as kids
-use Rattle.tree_trail_laws.proofs.ChildTurnLemmas.{all_behind, Tells}
 use Rattle.tree_trail_laws.proofs.HeardTrailLemmas.{Heard, heard_so}
 use Rattle.tree_trail_laws.proofs.MomentLemmas.{tr_at}
 use Rattle.tree_trail_laws.proofs.PlanLemmas.{find_last, accepted}
@@ -60,39 +59,14 @@ use Rattle.tree_trail_laws.proofs.TopTrailLemmas.{told_so, none_planned, or_not,
 use Rattle.tree_trail_laws.proofs.UntouchedLemmas.{Concerns_root, Is_commit, stays_on}
 use Rattle.tree_trail_laws.proofs.TopWhoLemmas.{Who, Message_to, Rows_of, Commits, Rolls_back, Is_given_up, Others, one_call, who, either, ByCall, by_call}
 use Rattle.tree_trail_laws.proofs.TopToldLemmas as turns
+use Rattle.tree_laws.proofs.AtTurn.{at_turn}
+use Rattle.tree_trail_laws.proofs.AtTrail.{at_trail}
 
 module _ (t : History) (whole : IsLawfulRun t) (hs : List Happening) (u : Turn) (rest : List Happening) (is : hs ++ happenings.Turn u ∷ rest ≡ t.trace)
     (tops : TellsTops (f_at t hs) (tr_at t hs)) (sees : SeesRoots (f_at t hs) (tr_at t hs)) (counts : Counts t whole (f_at t hs) (tr_at t hs)) (born : AllByRecursion (λ s. IsBorn t whole hs s.me) (tr_at t hs).seen)
     (plans : AllByRecursion (λ x. IsBorn t whole hs x.root) (tr_at t hs).plans) where
-  abbrev hs1 : List Happening
-  hs1 = hs ++ happenings.Turn u ∷ []
-
-  part0 : Part t whole hs
-  part0 = record { rest = happenings.Turn u ∷ rest; is = is }
-
-  abbrev s0 : History
-  s0 = so_far t hs
-
-  abbrev s1 : History
-  s1 = so_far t hs1
-
-  lawful0 : IsLawfulRun s0
-  lawful0 = part_lawful t whole hs part0
-
-  lawful1 : IsLawfulRun s1
-  lawful1 = part_lawful t whole hs1 (part_on t whole hs (happenings.Turn u) rest is)
-
-  abbrev f0 : Facts
-  f0 = f_at t hs
-
-  abbrev f1 : Facts
-  f1 = facts_after t.places t.commands f0 (happenings.Turn u)
-
-  abbrev tr0 : Trail
-  tr0 = tr_at t hs
-
-  abbrev tr1 : Trail
-  tr1 = trail_after t.places f0 tr0 (happenings.Turn u)
+  open at_turn t whole hs u rest is use {after as hs1, part as part0, s as s0, s_after as s1, lawful as lawful0, lawful_after as lawful1, f as f0, g as f1, p}
+  open at_trail t hs u use {tr as tr0, tr_on as tr1}
 
   abbrev may : MayHappen t.places t.commands f0 (happenings.Turn u)
   may = turns.may t whole hs u rest is tops sees counts born plans
@@ -100,11 +74,8 @@ module _ (t : History) (whole : IsLawfulRun t) (hs : List Happening) (u : Turn) 
   abbrev k : NodeState
   k = may.0
 
-  abbrev p : Place
-  p = place_at t.places u.node
-
-  abbrev d : Deed
-  d = deed_of p k u.input
+  abbrev d : TurnDraft
+  d = draft_of p k u.input
 
   abbrev fit : SessionsFit k
   fit = turns.fit t whole hs u rest is tops sees counts born plans
@@ -148,8 +119,8 @@ module _ (t : History) (whole : IsLawfulRun t) (hs : List Happening) (u : Turn) 
       abbrev t1 : Seen
       t1 = turned t.places f0 tr0 u s
 
-      after : (input : Input) → u.input ≡ input → live_at (deed_of p k input).after z.me ≡ Some l
-      after input came = subst (λ i. live_at (deed_of p k i).after z.me ≡ Some l) came (subst (λ c. live_at d.after c ≡ Some l) (sym me_z) live)
+      after : (input : Input) → u.input ≡ input → live_at (draft_of p k input).after z.me ≡ Some l
+      after input came = subst (λ i. live_at (draft_of p k i).after z.me ≡ Some l) came (subst (λ c. live_at d.after c ≡ Some l) (sym me_z) live)
 
       told : input_drops u.node s u.input ≡ false → (l.phase ≡ phases.Working → (t1.collects ≡ false) × (t1.voted ≡ [])) → (l.phase ≢ phases.Working → (t1.collects ≡ true) × AreVoted t1.voted l.edges)
           → (s : Seen) × (seen_at tr1 l.me ≡ Some s) × IsToldLive l s
@@ -267,7 +238,7 @@ module _ (t : History) (whole : IsLawfulRun t) (hs : List Happening) (u : Turn) 
               let rests : z.phase ≢ phases.Working → x1.work.going ≡ None = (λ busy. ((asked_stand_still s0 lawful0 u.node k may.1.up x found).1 busy).0) in
               let phase : PhaseFits z.parent z.edges z.phase = all_found (λ (e : Live). PhaseFits e.parent e.edges e.phase) live_id k.lives z.me z (phases_fit s0 lawful0 u.node k may.1.up) z_live in
               let to_z : y.to ≡ z.me = to ∙ sym me_z in
-              let turned_at : live_at (kind_turn p k1 y.from z.me y.kind (stand_of k1 z.me)).after z.me ≡ Some l = subst (λ b. live_at (kind_turn p k1 y.from b y.kind (stand_of k1 b)).after z.me ≡ Some l) to_z (after (inputs.Message y) came) in
+              let turned_at : live_at (kind_turn p k1 y.from z.me y.kind (status_of k1 z.me)).after z.me ≡ Some l = subst (λ b. live_at (kind_turn p k1 y.from b y.kind (status_of k1 b)).after z.me ≡ Some l) to_z (after (inputs.Message y) came) in
               subst (λ b. Heard s (record { from = y.from; to = b; scn = y.scn; kind = y.kind }) l) (sym to_z) (heard_so p k1 x1 found1 rests phase s (me ∙ sym me_z) was l y.from y.scn y.kind turned_at)
 
       pub old_told : Mine
@@ -310,7 +281,7 @@ module _ (t : History) (whole : IsLawfulRun t) (hs : List Happening) (u : Turn) 
         let c : ByCall p k u.input l.me = fresh_call new in
         let range = (call_free f0 k u.node u.input u.took c.session (Some c.statement) c.call may.1.comes).0 in
         let unborn : born_at (births_of s0) (new_root p k c.session) ≡ None = root_unborn t whole hs u rest is sees counts born c.session c.statement c.call c.rows c.none in
-        let so : Fresh p k c.session d = subst (λ i. Fresh p k c.session (deed_of p k i)) (sym c.call)
+        let so : Fresh p k c.session d = subst (λ i. Fresh p k c.session (draft_of p k i)) (sym c.call)
         (fresh_so p k c.session (not_live t whole hs u rest is sees counts born (new_root p k c.session) unborn) fit range c.none c.statement c.rows) in
         let both : Some so.live ≡ Some l = sym so.found ∙ subst (λ b. live_at d.after b ≡ Some l) (sym c.is_me) live in
         let it : so.live ≡ l = cc in
@@ -348,7 +319,7 @@ module _ (t : History) (whole : IsLawfulRun t) (hs : List Happening) (u : Turn) 
         its_begin c (Root_begins n st call rows range none are) =
             let same_one : c.session ≡ n = (one_call c.session n (Some c.statement) (Some st) (sym c.call ∙ call)).0 in are ∙ ap (λ b. root_seen b ∷ []) (ap (new_root p k) (sym same_one) ∙ c.is_me)
 
-        unplanned : (ps : List Plan) → AllByRecursion (λ x. IsBorn t whole hs x.root) ps → born_at (births_of s0) l.me ≡ None → find (is_plan_of l.me) ps ≡ None
+        unplanned : (ps : List CommitPlan) → AllByRecursion (λ x. IsBorn t whole hs x.root) ps → born_at (births_of s0) l.me ≡ None → find (is_plan_of l.me) ps ≡ None
         unplanned [] all unborn = refl
         unplanned (x ∷ ps) all unborn = by (same x.root l.me) refl (unplanned ps all.1 unborn)
           where

@@ -16,17 +16,17 @@ use Rattle.node_rules.specs.Words.{put_item, drop_item, numbered, set_numbered}
 use Rattle.node_rules.specs.Inputs.{Came, IsCall}
 use Rattle.node_rules.specs.Refusals.{dtx}
 use Rattle.session_tree.specs.Live.{new_edge, fresh_live}
-use Rattle.node_rules.specs.NodeState.{NodeState, Branch, Deed, live_id, live_at, branch_at}
+use Rattle.node_rules.specs.NodeState.{NodeState, Branch, TurnDraft, live_id, live_at, branch_at}
 use Rattle.node_rules.specs.Statement.{ran, after_run}
 use Rattle.node_rules.specs.Sessions.{fresh_session, session_at, with_call, needs_rollback, no_transaction, commit_ended}
 use Rattle.node_rules.specs.Calls.{answered_sessions, heard_sessions, next_child, strength_of, with_edge, hears_reply}
 use Rattle.node_rules.specs.Client.{new_root, fresh_root, begun_by, commit_by, commit_call, root_at}
 use Rattle.node_rules.specs.Commit.{decided_sessions}
 use Rattle.node_rules.specs.Prepare.{act_turn, collecting, with_comment, first_act, ready, is_alone, abandoned_sessions, without_read_keys}
-use Rattle.node_rules.specs.Turn.{heard, deed_of}
+use Rattle.node_rules.specs.Turn.{heard, draft_of}
 use Rattle.node_rules.specs.LiveBranches.{works_of}
 use Rattle.node_rules.proofs.Steps as steps
-use Rattle.node_rules.proofs.Steps.{HasRoot, Step, Asked, Acting, Collects, Drops, IsOfRows}
+use Rattle.node_rules.proofs.Steps.{HasRoot, Step, Asked, Acting, Collects, Drops}
 use Rattle.node_rules.proofs.StandLemmas.{RootSo, live_so, root_so}
 use Rattle.node_rules.proofs.StepLemmas.{branch_found}
 use Rattle.run_rules.proofs.AtNodeLemmas.{range_of}
@@ -35,6 +35,7 @@ use Rattle.run_base_laws.proofs.RestLemmas.{NodeRoots, Works, live_root, free_wa
 use Rattle.run_base_laws.proofs.RestStepLemmas.{going_of, commit_or_not}
 use Rattle.run_base_laws.proofs.RestRunLemmas.{NodeRests, heard_rests}
 use Rattle.tree_trail_laws.proofs.TopNodeLemmas.{RootGoes, ButOf, same_goes, put_goes, gone_goes, more_goes, session_put, all_alike, set_but, none_but, alike_set, ended_alike, ended_but, heard_alike}
+use Rattle.book_laws.proofs.WriteLemmas.{none_there as none_is}
 
 -- a message is no call
 pub no_call : {input : Input} {from to : BranchId} {kind : Kind} → Came input from to kind → (n : ℕ) (s : Stmt) → IsCall input n s → ⊥
@@ -90,10 +91,6 @@ module _ (ss : List Session) (k : NodeState) (l : Live) (other : l.phase ≢ pha
   acts_goes q acts.Decide = decided_goes (is_alone l)
   acts_goes q acts.Finish = ended_goes
   acts_goes q acts.Abandon = abandoned_goes l.parent
-
-none_is : (o : Option BranchId) → is_none o ≡ true → o ≡ None
-none_is None is = refl
-none_is (Some q) is = absurd cc
 
 -- ---- a root's own call
 
@@ -254,7 +251,7 @@ begun_brings input k p n s call brings = record {
 }
 
 module _ (p : Place) (input : Input) (quits : (n : ℕ) (c : Option (List ℕ)) → IsCall input n (stmts.Commit c) → ⊥) where
-  pub goes_on : {k : NodeState} {d : Deed} → Step p input k d → SessionsFit k → Brings input k → (((n : ℕ) (s : Stmt) → IsCall input n s → ⊥) → NodeRoots k) → RootGoes k.sessions k.lives → RootGoes d.after.sessions d.after.lives
+  pub goes_on : {k : NodeState} {d : TurnDraft} → Step p input k d → SessionsFit k → Brings input k → (((n : ℕ) (s : Stmt) → IsCall input n s → ⊥) → NodeRoots k) → RootGoes k.sessions k.lives → RootGoes d.after.sessions d.after.lives
   goes_on (steps.Begins {k = k} n s call rows range none step) fit brings roots now =
       goes_on step (begun_so k fit p n) (begun_brings input k p n s call brings) (λ no. absurd (no n s call)) (begun_goes k p n fit now none (brings.free n s call))
   goes_on (steps.Pends {k = k} n l given call has found code step) fit brings roots now = absurd (quits n given call)
@@ -345,8 +342,8 @@ heard_goes k (inputs.Call n s) now = now
 heard_goes k (inputs.GiveUp n) now = now
 heard_goes k inputs.Reco now = now
 
-pub turn_goes : (p : Place) (k : NodeState) (input : Input) → Step p input (heard k input) (deed_of p k input) → Brings input k → NodeRests k → RootGoes k.sessions k.lives → RootGoes (deed_of p k input).after.sessions (deed_of p k input).after.lives
+pub turn_goes : (p : Place) (k : NodeState) (input : Input) → Step p input (heard k input) (draft_of p k input) → Brings input k → NodeRests k → RootGoes k.sessions k.lives → RootGoes (draft_of p k input).after.sessions (draft_of p k input).after.lives
 turn_goes p k input step brings rests now = elim (commit_or_not input) [
-  | inl is ↦ subst (λ (i : Input). RootGoes (deed_of p k i).after.sessions (deed_of p k i).after.lives) (sym is.2) (commit_goes k rests.0 now is.0 is.1)
+  | inl is ↦ subst (λ (i : Input). RootGoes (draft_of p k i).after.sessions (draft_of p k i).after.lives) (sym is.2) (commit_goes k rests.0 now is.0 is.1)
   | inr not ↦ (let next : NodeRests (heard k input) = heard_rests k input rests in goes_on p input not step next.0 (heard_brings k input input brings) (λ no. next.1) (heard_goes k input now))
 ]

@@ -3,19 +3,19 @@ use Rattle.std.proofs.Common.{◌≡◌, Bool, true, false, if◌then◌else◌,
 use Rattle.std.specs.List.{AllByRecursion}
 use Rattle.node_rules.specs.Data.{Answer, Input}
 use Rattle.node_rules.specs.Data.inputs
-use Rattle.run_rules.specs.Branches.{Seen, Trail, is_root_of}
+use Rattle.run_rules.specs.Branches.{Seen, is_root_of}
 use Rattle.run_rules.specs.Data.{Turn, Happening}
 use Rattle.run_rules.specs.Data.happenings
-use Rattle.run_rules.specs.Facts.{Facts, outcome_at}
+use Rattle.run_rules.specs.Facts.{outcome_at}
 use Rattle.run_rules.specs.Lawful.{History, IsLawfulRun}
 use Rattle.run_rules.specs.Runs.{answered_by}
 use Rattle.run_rules.specs.Tree.{plan}
 use Rattle.run_rules.specs.Trail.{commits, planned_by, called_root, trail_after}
 use Rattle.run_rules.proofs.ListLemmas.{all_weaker, all_append}
-use Rattle.tree_laws.proofs.PrefixLemmas.{f_at}
-use Rattle.tree_trail_laws.proofs.MomentLemmas.{tr_at}
-use Rattle.tree_trail_laws.proofs.SeenLemmas.{begun, turned}
+use Rattle.tree_trail_laws.proofs.SeenLemmas.{turned}
 use Rattle.tree_trail_laws.proofs.TopBirthLemmas.{IsBorn, born_more}
+use Rattle.tree_laws.proofs.AtTurn.{at_turn}
+use Rattle.tree_trail_laws.proofs.AtTrail.{at_trail}
 
 -- what is so of all is so of one that is found
 pub found_so : (P : Seen → Type 0) (q : Seen → Bool) (xs : List Seen) (s : Seen) → find q xs ≡ Some s → AllByRecursion P xs → P s
@@ -31,20 +31,8 @@ unmapped P g [] all = tt
 unmapped P g (x ∷ xs) all = (all.0, unmapped P g xs all.1)
 
 module _ (t : History) (whole : IsLawfulRun t) (hs : List Happening) (u : Turn) (rest : List Happening) (is : hs ++ happenings.Turn u ∷ rest ≡ t.trace) where
-  abbrev hs1 : List Happening
-  hs1 = hs ++ happenings.Turn u ∷ []
-
-  abbrev f0 : Facts
-  f0 = f_at t hs
-
-  abbrev tr0 : Trail
-  tr0 = tr_at t hs
-
-  abbrev tr1 : Trail
-  tr1 = trail_after t.places f0 tr0 (happenings.Turn u)
-
-  abbrev b0 : Trail
-  b0 = begun t.places f0 tr0 u
+  open at_turn t whole hs u rest is use {after as hs1, f as f0}
+  open at_trail t hs u use {tr as tr0, tr_on as tr1, begun_tr as b0}
 
   module _ (born : AllByRecursion (λ s. IsBorn t whole hs1 s.me) tr1.seen) where
     begun_born : AllByRecursion (λ s. IsBorn t whole hs1 s.me) b0.seen

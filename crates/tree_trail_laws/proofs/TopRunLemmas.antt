@@ -7,7 +7,7 @@ use Rattle.node_rules.specs.Words.{numbered}
 use Rattle.node_rules.specs.NodeState.{NodeState}
 use Rattle.node_rules.specs.Sessions.{session_at}
 use Rattle.node_rules.specs.Turn.{start_of, made}
-use Rattle.run_rules.specs.Branches.{Plan, plan_at, Seen, Trail, seen_at}
+use Rattle.run_rules.specs.Branches.{CommitPlan, plan_at, Seen, Trail, seen_at}
 use Rattle.run_rules.specs.Data.{Turn, Happening}
 use Rattle.run_rules.specs.Data.happenings
 use Rattle.run_rules.specs.Facts.{Facts, first_facts, flat, node_at, records_at, facts_after, facts_of}
@@ -16,7 +16,7 @@ use Rattle.run_rules.specs.Trail.{begun_in, trail_after, trail_of}
 use Rattle.run_base_laws.proofs.EventsStandLemmas.{first_node}
 use Rattle.run_rules.proofs.ListLemmas.{all_weaker}
 use Rattle.tree_laws.proofs.PrefixLemmas.{f_at, one_on}
-use Rattle.tree_site_laws.proofs.TimeLemmas.{part_of}
+use Rattle.tree_laws.proofs.TimeLemmas.{part_of}
 use Rattle.tree_trail_laws.proofs.MomentLemmas.{tr_at, trail_one_on}
 use Rattle.tree_trail_laws.proofs.StartLemmas.{none_made}
 use Rattle.tree_trail_laws.proofs.TopBackLemmas.{IsBack, Back, Siteless}
@@ -59,7 +59,7 @@ module _ (t : History) (whole : IsLawfulRun t) where
         item_of : List Seen → BranchId → Option Seen
         item_of xs b = seen_at (record { moment = 0; seen = xs; origins = []; plans = [] }) b
 
-        plan_of : List Plan → BranchId → Option Plan
+        plan_of : List CommitPlan → BranchId → Option CommitPlan
         plan_of xs b = plan_at (record { moment = 0; seen = []; origins = []; plans = xs }) b
 
         back_same : (f : Facts) → ((n : ℕ) → node_at f n ≡ node_at (f_at t hs) n) → f.node_to_stop ≡ (f_at t hs).node_to_stop → (b : BranchId) → IsBack (f_at t hs) b → IsBack f b

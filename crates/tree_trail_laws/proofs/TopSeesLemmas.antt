@@ -11,7 +11,7 @@ use Rattle.node_rules.specs.Sessions.{session_at}
 use Rattle.node_rules.specs.Client.{new_root}
 use Rattle.run_rules.specs.Branches.{Seen, Trail, is_live, is_live_at, is_root_of, seen_id, seen_at, root_at}
 use Rattle.run_rules.specs.Data.{Happening}
-use Rattle.run_rules.specs.Facts.{Facts, place_at, node_at, records_at}
+use Rattle.run_rules.specs.Facts.{place_at, node_at, records_at}
 use Rattle.run_rules.specs.Lawful.{boots, History, IsLawfulRun}
 use Rattle.run_base_laws.specs.RunEvents.{events_of}
 use Rattle.run_rules.specs.Trail.{begun_in, next_root}
@@ -22,8 +22,7 @@ use Rattle.run_base_laws.proofs.OwnLemmas.{all_found}
 use Rattle.run_base_laws.proofs.RestRunLemmas.{roots_wait}
 use Rattle.run_base_laws.proofs.RootLemmas.{roots_are_of_sessions}
 use Rattle.run_base_laws.proofs.TurnEventLemmas.{all_both, number_is}
-use Rattle.tree_laws.proofs.PrefixLemmas.{so_far, f_at}
-use Rattle.tree_site_laws.proofs.TimeLemmas.{Part, part_lawful}
+use Rattle.tree_laws.proofs.TimeLemmas.{Part, part_lawful}
 use Rattle.tree_trail_laws.specs.SeenLaws.{IsSeenRoot, TellsTops, SeesRoots}
 use Rattle.tree_trail_laws.specs.TopLaws.{NamesNext}
 use Rattle.tree_trail_laws.proofs.LowerRunLemmas.{lower_at}
@@ -34,6 +33,7 @@ use Rattle.tree_trail_laws.proofs.TopBirthLemmas.{Counts}
 use Rattle.tree_trail_laws.proofs.TopListLemmas.{Alone, Ordered}
 use Rattle.tree_trail_laws.proofs.TopNodeLemmas.{RootGoes}
 use Rattle.tree_trail_laws.proofs.TopPlanLemmas.{found_so}
+use Rattle.tree_laws.proofs.AtPart.{at_part}
 
 -- where none is found each that is told fails
 none_so : (q : Seen → Bool) (xs : List Seen) (b : BranchId) (s : Seen) → find q xs ≡ None → item_at seen_id xs b ≡ Some s → q s ≡ false
@@ -46,14 +46,10 @@ none_so q (x ∷ xs) b s none at = by (q x) refl none (same x.me b) at (none_so 
     by false not_so none false at later = later none at
 
 module _ (t : History) (whole : IsLawfulRun t) (hs : List Happening) (part : Part t whole hs) where
-  abbrev s0 : History
-  s0 = so_far t hs
+  open at_part t hs use {s as s0, f}
 
   lawful0 : IsLawfulRun s0
   lawful0 = part_lawful t whole hs part
-
-  abbrev f : Facts
-  f = f_at t hs
 
   abbrev tr : Trail
   tr = tr_at t hs

@@ -13,7 +13,7 @@ use Rattle.node_rules.specs.declared.session.Session.{Session}
 use Rattle.node_rules.specs.Words.{set_numbered}
 use Rattle.node_rules.specs.Inputs.{IsCall, IsSession}
 use Rattle.session_tree.specs.Live.{new_edge}
-use Rattle.node_rules.specs.NodeState.{NodeState, Deed}
+use Rattle.node_rules.specs.NodeState.{NodeState, TurnDraft}
 use Rattle.node_rules.specs.Sessions.{session_at, with_call, no_transaction}
 use Rattle.node_rules.specs.Statement.{ran, after_run}
 use Rattle.node_rules.specs.Calls.{with_edge, hears_reply, heard_sessions}
@@ -62,7 +62,7 @@ module _ (p : Place) (input : Input) where
       let here : s ≡ stmts.Commit given = cc in
       absurd (subst IsOfRows here rows)
 
-  pub seqs_on : {k : NodeState} {d : Deed} → Step p input k d → SessionsFit k → (seqs d.after.sessions ≡ seqs k.sessions) ⊎ BeginsAt input k.sessions d.after.sessions
+  pub seqs_on : {k : NodeState} {d : TurnDraft} → Step p input k d → SessionsFit k → (seqs d.after.sessions ≡ seqs k.sessions) ⊎ BeginsAt input k.sessions d.after.sessions
   seqs_on {d = d} (steps.Begins {k = k} n s call rows range none step) fit = elim (seqs_on step (begun_so k fit p n)) [
     | inl same ↦ inr (record {
       session = n;

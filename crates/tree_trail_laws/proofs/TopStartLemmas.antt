@@ -17,7 +17,7 @@ use Rattle.run_rules.proofs.BootLemmas.{boots_started}
 use Rattle.run_base_laws.proofs.EventsStandLemmas.{run_stands}
 use Rattle.run_rules.proofs.ListLemmas.{all_weaker}
 use Rattle.tree_laws.proofs.PrefixLemmas.{so_far, f_at, one_on}
-use Rattle.tree_site_laws.proofs.TimeLemmas.{part_of, part_lawful, may_of}
+use Rattle.tree_laws.proofs.TimeLemmas.{part_of, part_lawful, may_of}
 use Rattle.tree_trail_laws.specs.SeenLaws.{TellsTops}
 use Rattle.tree_trail_laws.proofs.MomentLemmas.{tr_at, trail_one_on}
 use Rattle.tree_trail_laws.proofs.TopBackLemmas.{IsBack, Back}

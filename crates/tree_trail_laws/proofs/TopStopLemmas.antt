@@ -16,7 +16,7 @@ use Rattle.run_base_laws.proofs.EventsStandLemmas.{run_stands, ids_name_their_no
 use Rattle.run_rules.proofs.ListLemmas.{all_weaker, all_map}
 use Rattle.run_base_laws.proofs.OwnLemmas.{all_found}
 use Rattle.tree_laws.proofs.PrefixLemmas.{so_far, f_at, one_on}
-use Rattle.tree_site_laws.proofs.TimeLemmas.{Part, part_of, part_lawful, may_of}
+use Rattle.tree_laws.proofs.TimeLemmas.{Part, part_of, part_lawful, may_of}
 use Rattle.tree_trail_laws.specs.SeenLaws.{TellsTops}
 use Rattle.tree_trail_laws.proofs.LowerRunLemmas.{stopped_other, not_stopped, stop_still}
 use Rattle.tree_trail_laws.proofs.MomentLemmas.{tr_at, trail_one_on}
@@ -25,13 +25,7 @@ use Rattle.tree_trail_laws.proofs.TopBackLemmas.{IsBack, Back}
 use Rattle.tree_trail_laws.proofs.TopBirthLemmas.{IsBorn, Booted, born_more}
 use Rattle.tree_trail_laws.proofs.TopListLemmas.{Alone, alone_map, is_of, count_map, Ordered}
 use Rattle.tree_trail_laws.proofs.TopTurnLemmas.{Tops, tops_so}
-
-stopped_me : (n : ℕ) (s : Seen) → (stopped_by n s).me ≡ s.me
-stopped_me n s = by (is_live_at n s)
-  where
-    by : (q : Bool) → (if q then record s { exit = Some Dropped } else s).me ≡ s.me
-    by true = refl
-    by false = refl
+use Rattle.tree_trail_laws.proofs.SeenLemmas.{stopped_me}
 
 module _ (t : History) (whole : IsLawfulRun t) where
   -- a node stops

@@ -1,5 +1,5 @@
 -- A turn leaves what is told of live roots as their nodes keep it.
-use Rattle.std.proofs.Common.{◌≡◌, ◌≢◌, ℕ, ◌==◌, ◌&&◌, Bool, true, false, is_none, List, [], ◌∷◌, ◌++◌, map, Option, Some, None, refl, sym, ap, subst, ◌∙◌}
+use Rattle.std.proofs.Common.{◌≡◌, ◌≢◌, ℕ, ◌==◌, ◌&&◌, Bool, true, false, is_none, List, ◌∷◌, ◌++◌, map, Option, Some, None, refl, sym, ap, subst, ◌∙◌}
 use Rattle.std.specs.List.{AllByRecursion, list_any}
 use Rattle.std.proofs.lemmas.Bool.{and_left, ne_eqb}
 use Rattle.tran_ids.proofs.BranchLemmas.{equal_from_same}
@@ -7,25 +7,25 @@ use Rattle.tran_ids.proofs.ListedLemmas.{item_is}
 use Rattle.reco.specs.declared.post.Post.{Post}
 use Rattle.agreement.specs.Events.{Exit, Quiet, exit}
 use Rattle.session_tree.specs.Live.{children_of}
-use Rattle.node_rules.specs.Data.{BranchId, Live, Msg, Input, Place}
+use Rattle.node_rules.specs.Data.{BranchId, Live, Msg, Input}
 use Rattle.node_rules.specs.Data.inputs
 use Rattle.node_rules.specs.Data.phases
 use Rattle.node_rules.specs.Data.stmts
 use Rattle.node_rules.specs.Words.{same, is_item_of}
 use Rattle.node_rules.specs.Inputs.{IsCall}
-use Rattle.node_rules.specs.NodeState.{NodeState, Deed, live_id, live_at}
-use Rattle.node_rules.specs.Turn.{turn_of, outcome_of, deed_of, stamped}
-use Rattle.run_rules.specs.Branches.{Seen, Trail, is_live_at, is_root_of, seen_id, seen_at, plan_at}
+use Rattle.node_rules.specs.NodeState.{NodeState, live_id, live_at}
+use Rattle.node_rules.specs.Turn.{turn_of, output_of, draft_of, stamped}
+use Rattle.run_rules.specs.Branches.{Seen, is_live_at, is_root_of, seen_id, seen_at, plan_at}
 use Rattle.run_rules.specs.Data.{Took, Turn, Happening}
 use Rattle.run_rules.specs.Data.happenings
-use Rattle.run_rules.specs.Facts.{Facts, place_at, node_at, served, outcome_at, facts_after}
+use Rattle.run_rules.specs.Facts.{node_at, served, outcome_at}
 use Rattle.run_branch_laws.specs.HeardLaws.{QuietIs}
 use Rattle.run_base_laws.specs.InTurnLaws.{post_of, packet_post, said_in}
 use Rattle.run_rules.specs.Lawful.{MayHappen, Comes, IsOwed, History, IsLawfulRun, facts_at}
 use Rattle.run_branch_laws.specs.PhaseLaws.{PhaseFits}
 use Rattle.run_rules.specs.Runs.{answered_by}
 use Rattle.run_base_laws.specs.RunEvents.{with_record, events_of}
-use Rattle.run_rules.specs.Trail.{is_refused, children_after, recorded_exit, is_quiet, trail_after}
+use Rattle.run_rules.specs.Trail.{is_refused, children_after, recorded_exit, is_quiet}
 use Rattle.run_rules.proofs.AtNodeLemmas.{turn_elsewhere}
 use Rattle.run_base_laws.proofs.EventsStandLemmas.{run_stands, nodes_are_as_events, ids_name_their_node}
 use Rattle.run_branch_laws.proofs.HeardStandLemmas.{quiets_are_gone}
@@ -36,8 +36,8 @@ use Rattle.run_base_laws.proofs.OwnLemmas.{all_found}
 use Rattle.run_branch_laws.proofs.PhaseLemmas.{phases_fit}
 use Rattle.run_base_laws.proofs.RootLemmas.{SessionsFit, sessions_keep}
 use Rattle.run_base_laws.proofs.SaidPostLemmas.{said_after}
-use Rattle.tree_laws.proofs.PrefixLemmas.{so_far, f_at, e_at, one_on, more_on}
-use Rattle.tree_site_laws.proofs.TimeLemmas.{Part, part_on, part_lawful, may_of}
+use Rattle.tree_laws.proofs.PrefixLemmas.{f_at, e_at, one_on, more_on}
+use Rattle.tree_laws.proofs.TimeLemmas.{may_of}
 use Rattle.tree_trail_laws.specs.LowerLaws.{AreVoted, IsToldLive}
 use Rattle.tree_trail_laws.specs.SeenLaws.{TellsTops, SeesRoots}
 use Rattle.tree_trail_laws.proofs.ChildRunLemmas.{tells_at}
@@ -50,62 +50,28 @@ use Rattle.tree_trail_laws.proofs.SeenLemmas.{begun, turned}
 use Rattle.tree_trail_laws.proofs.TopBirthLemmas.{IsBorn, Counts}
 use Rattle.tree_trail_laws.proofs.TopTrailLemmas.{told_so, none_drops, same_voted, same_collects, none_planned}
 use Rattle.tree_trail_laws.proofs.UntouchedLemmas.{Concerns_root}
+use Rattle.tree_laws.proofs.AtTurn.{at_turn}
+use Rattle.tree_trail_laws.proofs.AtTrail.{at_trail}
 
 -- ---- a turn
 
 module _ (t : History) (whole : IsLawfulRun t) (hs : List Happening) (u : Turn) (rest : List Happening) (is : hs ++ happenings.Turn u ∷ rest ≡ t.trace)
     (tops : TellsTops (f_at t hs) (tr_at t hs)) (sees : SeesRoots (f_at t hs) (tr_at t hs)) (counts : Counts t whole (f_at t hs) (tr_at t hs)) (born : AllByRecursion (λ s. IsBorn t whole hs s.me) (tr_at t hs).seen)
     (plans : AllByRecursion (λ x. IsBorn t whole hs x.root) (tr_at t hs).plans) where
-  abbrev hs1 : List Happening
-  hs1 = hs ++ happenings.Turn u ∷ []
-
-  part0 : Part t whole hs
-  part0 = record { rest = happenings.Turn u ∷ rest; is = is }
-
-  abbrev s0 : History
-  s0 = so_far t hs
-
-  abbrev s1 : History
-  s1 = so_far t hs1
-
-  lawful0 : IsLawfulRun s0
-  lawful0 = part_lawful t whole hs part0
-
-  lawful1 : IsLawfulRun s1
-  lawful1 = part_lawful t whole hs1 (part_on t whole hs (happenings.Turn u) rest is)
+  open at_turn t whole hs u rest is use {after as hs1, part as part0, s as s0, s_after as s1, lawful as lawful0, lawful_after as lawful1, f as f0, g as f1, k, p, d}
+  open at_trail t hs u use {tr as tr0, tr_on as tr1}
 
   pub tells : Tells t whole hs
   tells = tells_at t whole hs part0
 
-  abbrev f0 : Facts
-  f0 = f_at t hs
-
-  abbrev f1 : Facts
-  f1 = facts_after t.places t.commands f0 (happenings.Turn u)
-
-  abbrev tr0 : Trail
-  tr0 = tr_at t hs
-
-  abbrev tr1 : Trail
-  tr1 = trail_after t.places f0 tr0 (happenings.Turn u)
-
   abbrev pub may : MayHappen t.places t.commands f0 (happenings.Turn u)
   may = may_of t whole hs (happenings.Turn u) rest is
-
-  abbrev k : NodeState
-  k = may.0
-
-  abbrev p : Place
-  p = place_at t.places u.node
-
-  abbrev d : Deed
-  d = deed_of p k u.input
 
   pub fit : SessionsFit k
   fit = kept_alone SessionsFit sessions_keep s0 lawful0 u.node k may.1.up
 
   -- what the turn came to
-  pub outcome_is : (input : Input) → u.input ≡ input → outcome_at t.places f0 u ≡ Some (outcome_of (deed_of p k input))
+  pub outcome_is : (input : Input) → u.input ≡ input → outcome_at t.places f0 u ≡ Some (output_of (draft_of p k input))
   unfolding turn_of
   outcome_is input came = ap (λ i. served p i (node_at f0 u.node)) came ∙ ap (served p input) may.1.up
 

@@ -13,7 +13,7 @@ use Rattle.node_rules.specs.Data.phases
 use Rattle.node_rules.specs.Data.stmts
 use Rattle.node_rules.specs.Inputs.{IsCall}
 use Rattle.node_rules.specs.Words.{same}
-use Rattle.run_rules.specs.Branches.{Seen, Trail, Plan, is_among, is_live, is_live_at, is_root_of, is_plan_of, all_voted, seen_at, plan_at}
+use Rattle.run_rules.specs.Branches.{Seen, Trail, CommitPlan, is_among, is_live, is_live_at, is_root_of, is_plan_of, all_voted, seen_at, plan_at}
 use Rattle.run_rules.specs.Data.{Turn}
 use Rattle.run_rules.specs.Data.happenings
 use Rattle.run_rules.specs.Facts.{Facts, outcome_at}
@@ -130,7 +130,7 @@ module _ (places : List Place) (f : Facts) (tr : Trail) (u : Turn) where
 
   module _ (b : BranchId) (refused : (session : ℕ) (given : Option (List ℕ)) → IsCall u.input session (stmts.Commit given) → b.node ≡ u.node → b.session ≡ session → is_refused answer ≡ true) where
     -- no plan of this branch
-    abbrev Other : List Plan → Type 0
+    abbrev Other : List CommitPlan → Type 0
     Other ps = find (is_plan_of b) ps ≡ None
 
     commits_not : (s : Seen) (session : ℕ) (given : Option (List ℕ)) → IsCall u.input session (stmts.Commit given) → commits u.node answer s (inputs.Call session (Some (stmts.Commit given))) ≡ true → same s.me b ≡ false
@@ -163,7 +163,7 @@ module _ (places : List Place) (f : Facts) (tr : Trail) (u : Turn) where
     by_root (inputs.GiveUp session) came (Some s) = refl
     by_root inputs.Reco came (Some s) = refl
 
-    none_more : (ps qs : List Plan) → Other ps → Other qs → Other (ps ++ qs)
+    none_more : (ps qs : List CommitPlan) → Other ps → Other qs → Other (ps ++ qs)
     none_more [] qs one two = two
     none_more (x ∷ ps) qs one two = by (is_plan_of b x) one (λ rest. none_more ps qs rest two)
       where

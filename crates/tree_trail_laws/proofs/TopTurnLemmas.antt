@@ -3,12 +3,12 @@ use Rattle.std.proofs.Common.{◌≡◌, ℕ, Bool, true, false, List, [], ◌�
 use Rattle.std.specs.List.{AllByRecursion}
 use Rattle.std.proofs.lemmas.Bool.{cases_eq}
 use Rattle.node_rules.specs.NodeState.{NodeState}
-use Rattle.node_rules.specs.Turn.{deed_of}
+use Rattle.node_rules.specs.Turn.{draft_of}
 use Rattle.run_rules.specs.Branches.{Trail}
 use Rattle.run_rules.specs.Data.{Turn, Happening}
 use Rattle.run_rules.specs.Data.happenings
-use Rattle.run_rules.specs.Facts.{Facts, place_at, node_at, kept_after, facts_after}
-use Rattle.run_rules.specs.Lawful.{MayHappen, History, IsLawfulRun}
+use Rattle.run_rules.specs.Facts.{Facts, place_at, node_at, kept_after}
+use Rattle.run_rules.specs.Lawful.{History, IsLawfulRun}
 use Rattle.run_base_laws.specs.RunEvents.{events_of}
 use Rattle.run_rules.specs.Births.{births_of}
 use Rattle.run_rules.specs.Trail.{trail_after}
@@ -23,8 +23,8 @@ use Rattle.run_base_laws.proofs.RestRunLemmas.{NodeRests, run_roots, before_so, 
 use Rattle.std.specs.Prelude.{IfSome}
 use Rattle.node_rules.specs.Data.kinds
 use Rattle.node_rules.specs.Turn.{turn_of}
-use Rattle.tree_laws.proofs.PrefixLemmas.{so_far, f_at, one_on}
-use Rattle.tree_site_laws.proofs.TimeLemmas.{Part, part_of, part_lawful, may_of}
+use Rattle.tree_laws.proofs.PrefixLemmas.{f_at, one_on}
+use Rattle.tree_laws.proofs.TimeLemmas.{Part}
 use Rattle.tree_trail_laws.specs.SeenLaws.{TellsTops, SeesRoots}
 use Rattle.tree_trail_laws.proofs.MomentLemmas.{tr_at, trail_one_on}
 use Rattle.tree_trail_laws.proofs.TopBackLemmas.{Back, Siteless, back_on}
@@ -36,6 +36,7 @@ use Rattle.tree_trail_laws.proofs.TopNodeStepLemmas.{Brings, turn_goes}
 use Rattle.tree_trail_laws.proofs.TopPlanLemmas.{plans_on}
 use Rattle.tree_trail_laws.proofs.TopSeesLemmas.{sees_roots}
 use Rattle.tree_trail_laws.proofs.TopHereLemmas.{tops_on}
+use Rattle.tree_laws.proofs.AtTurn.{at_turn}
 
 module _ (t : History) (whole : IsLawfulRun t) where
   -- what each happening keeps
@@ -73,29 +74,10 @@ module _ (t : History) (whole : IsLawfulRun t) where
   -- ---- a turn
 
   module _ (hs : List Happening) (u : Turn) (rest : List Happening) (is : hs ++ happenings.Turn u ∷ rest ≡ t.trace) (now : Tops hs) where
-    abbrev s0 : History
-    s0 = so_far t hs
-
-    part0 : Part t whole hs
-    part0 = part_of t whole hs (happenings.Turn u) rest is
-
-    lawful0 : IsLawfulRun s0
-    lawful0 = part_lawful t whole hs part0
-
-    abbrev f0 : Facts
-    f0 = f_at t hs
-
-    abbrev f1 : Facts
-    f1 = facts_after t.places t.commands f0 (happenings.Turn u)
+    open at_turn t whole hs u rest is use {s as s0, part as part0, lawful as lawful0, f as f0, g as f1, may, k}
 
     pub sees : SeesRoots f0 (tr_at t hs)
     sees = seen_roots hs part0 now
-
-    may : MayHappen t.places t.commands f0 (happenings.Turn u)
-    may = may_of t whole hs (happenings.Turn u) rest is
-
-    abbrev k : NodeState
-    k = may.0
 
     before : Before u.input k
     before = before_so t.places t.commands t.of_a_script.each f0 (events_of s0) (births_of s0) (run_births s0 lawful0) (run_roots s0 lawful0) u k may.1
@@ -112,7 +94,7 @@ module _ (t : History) (whole : IsLawfulRun t) where
     rests : NodeRests k
     rests = subst (λ o. IfSome o NodeRests) may.1.up (run_roots s0 lawful0 u.node)
 
-    goes_after : RootGoes (deed_of (place_at t.places u.node) k u.input).after.sessions (deed_of (place_at t.places u.node) k u.input).after.lives
+    goes_after : RootGoes (draft_of (place_at t.places u.node) k u.input).after.sessions (draft_of (place_at t.places u.node) k u.input).after.lives
     goes_after = turn_goes (place_at t.places u.node) k u.input (serves t.places f0 u k may.1).step brings rests (now.goes u.node k may.1.up)
 
     here_after : node_at f1 u.node ≡ kept_after u.cut (Some (turn_of (place_at t.places u.node) k u.input))
@@ -127,7 +109,7 @@ module _ (t : History) (whole : IsLawfulRun t) where
       where
         by : (cut : Bool) → kept_after cut (Some (turn_of (place_at t.places u.node) k u.input)) ≡ Some j → RootGoes j.sessions j.lives
         by true there = absurd cc
-        by false there = (let it : (deed_of (place_at t.places u.node) k u.input).after ≡ j = cc in subst (λ (i : NodeState). RootGoes i.sessions i.lives) it goes_after)
+        by false there = (let it : (draft_of (place_at t.places u.node) k u.input).after ≡ j = cc in subst (λ (i : NodeState). RootGoes i.sessions i.lives) it goes_after)
 
     pub turn_tops : Siteless t whole hs u rest is now.tops sees now.counts now.born now.alone now.goes → Tops (hs ++ happenings.Turn u ∷ [])
     turn_tops siteless =

@@ -15,10 +15,7 @@ use Rattle.node_rules.proofs.Steps.{IsOfRows}
 use Rattle.run_rules.specs.Births.{Born, root_born, roots_by, births_by_open, births_by_kind, births_by, born_at}
 use Rattle.run_rules.specs.Runs.{is_of_rows}
 use Rattle.tree_trail_laws.proofs.UntouchedLemmas.{Concerns_root, Of_rows, Is_commit, Is_rollback, Gives_up}
-
-bool_cases : (q : Bool) → (P : Type 0) → (q ≡ true → P) → (q ≡ false → P) → P
-bool_cases true P at_true at_false = at_true refl
-bool_cases false P at_true at_false = at_false refl
+use Rattle.tree_trail_laws.proofs.LowerLivesLemmas.{bool_cases}
 
 -- Whom an input concerns, as a root sees it.
 pub data Who (input : Input) (b : BranchId) : Type 0 where

@@ -12,7 +12,7 @@ use Rattle.node_rules.specs.Words.{same, is_item_of, item_at, put_item, drop_ite
 use Rattle.node_rules.specs.Data.inputs
 use Rattle.node_rules.specs.Data.stmts
 use Rattle.node_rules.specs.Inputs.{Came, IsCall}
-use Rattle.node_rules.specs.NodeState.{NodeState, Branch, Deed, live_id, live_at}
+use Rattle.node_rules.specs.NodeState.{NodeState, Branch, TurnDraft, live_id, live_at}
 use Rattle.node_rules.specs.Statement.{ran, after_run}
 use Rattle.node_rules.specs.Calls.{next_child, strength_of, with_edge, hears_reply}
 use Rattle.node_rules.specs.Client.{new_root, fresh_root}
@@ -88,7 +88,7 @@ module _ (p : Place) (input : Input) (b : BranchId) (not_to : (from : BranchId) 
     act_leaves l q acts.Finish other = left l.me other
     act_leaves l q acts.Abandon other = left l.me other
 
-  pub stays_on : {k : NodeState} {d : Deed} → Step p input k d → SessionsFit k → live_at k b ≡ Some z → live_at d.after b ≡ Some z
+  pub stays_on : {k : NodeState} {d : TurnDraft} → Step p input k d → SessionsFit k → live_at k b ≡ Some z → live_at d.after b ≡ Some z
   stays_on (steps.Begins {k = k} n s call rows range none step) ss live = stays_on step (begun_so k ss p n) (more k ss live (fresh_root p k (new_root p k n)))
   stays_on (steps.Pends {k = k} n l given call has found code step) ss live = stays_on step (pends_so k ss n pending.Commit) live
   stays_on (steps.Lets_reads_go l comment q found begins step) ss live = stays_on step (record { roots = ss.roots; above = ss.above }) live

@@ -4,12 +4,12 @@ use Rattle.std.proofs.lemmas.Bool.{eq-eqb, eqb-true}
 use Rattle.tran_ids.proofs.NumberedLemmas.{set_found, set_leaves}
 use Rattle.block_disk.specs.MemDisk.{DiskState}
 use Rattle.block_disk.specs.Orders.{ordered, plan_of, with_order}
-use Rattle.block_disk.specs.Plan.{Plan}
-use Rattle.block_disk.specs.declared.order.Order.{Order}
-use Rattle.block_disk.specs.declared.order.Order.TheVariants as orders
-use Rattle.block_disk.specs.declared.order.Stop.{Stop}
+use Rattle.block_disk.specs.Plan.{FaultPlan}
+use Rattle.block_disk.specs.declared.fault.DiskFault.{DiskFault}
+use Rattle.block_disk.specs.declared.fault.DiskFault.TheVariants as orders
+use Rattle.block_disk.specs.declared.fault.Stop.{Stop}
 use Rattle.node_rules.specs.Words.{numbered, set_numbered}
-use Rattle.block_disk.specs.declared.order.How.{How}
+use Rattle.block_disk.specs.declared.fault.How.{How}
 use Rattle.run_rules.specs.Data.{How as HowByRules}
 use Rattle.run_rules.specs.Data.{Command}
 use Rattle.run_rules.specs.Data.commands
@@ -32,12 +32,12 @@ use Rattle.world.proofs.SlotLemmas.{get_at, same_of, set_at}
 use Rattle.world_parts.proofs.StartOrders.{some_plan}
 
 -- a disk with one order more
-armed_by : (order : Order) (before after : DiskState) (d : DiskOrders) → plan_of after.orders ≡ with_order (plan_of before.orders) order → IsToCome order → HasOrders d before → HasOrders (armed order d) after
+armed_by : (order : DiskFault) (before after : DiskState) (d : DiskOrders) → plan_of after.orders ≡ with_order (plan_of before.orders) order → IsToCome order → HasOrders d before → HasOrders (armed order d) after
 armed_by (orders.Stop stop) before after d is comes has =
-    let stops : after.orders.stop ≡ Some stop = ap (λ (p : Plan). p.stop) is in
-    let faults : after.orders.fault ≡ before.orders.fault = ap (λ (p : Plan). p.fault) is in
+    let stops : after.orders.stop ≡ Some stop = ap (λ (p : FaultPlan). p.stop) is in
+    let faults : after.orders.fault ≡ before.orders.fault = ap (λ (p : FaultPlan). p.fault) is in
     record {
-      running = ap (λ (p : Plan). p.stopped) is ∙ has.running;
+      running = ap (λ (p : FaultPlan). p.stopped) is ∙ has.running;
       left = record {
         are = ap (λ (s : Option Stop). record { stop = option_map stop_as s; fault = after.orders.fault }) stops
             ∙ ap (λ (f : Option ℕ). record { stop = Some (stop_as stop); fault = f }) (faults ∙ ap (λ (x : DiskOrders). x.fault) has.left.are);
@@ -46,10 +46,10 @@ armed_by (orders.Stop stop) before after d is comes has =
       };
     }
 armed_by (orders.Fault call) before after d is comes has =
-    let stops : after.orders.stop ≡ before.orders.stop = ap (λ (p : Plan). p.stop) is in
-    let faults : after.orders.fault ≡ Some call = ap (λ (p : Plan). p.fault) is in
+    let stops : after.orders.stop ≡ before.orders.stop = ap (λ (p : FaultPlan). p.stop) is in
+    let faults : after.orders.fault ≡ Some call = ap (λ (p : FaultPlan). p.fault) is in
     record {
-      running = ap (λ (p : Plan). p.stopped) is ∙ has.running;
+      running = ap (λ (p : FaultPlan). p.stopped) is ∙ has.running;
       left = record {
         are = ap (λ (f : Option ℕ). record { stop = option_map stop_as after.orders.stop; fault = f }) faults
             ∙ ap (λ (o : Option Stop_order). record { stop = o; fault = Some call }) (ap (λ (s : Option Stop). option_map stop_as s) stops ∙ ap (λ (x : DiskOrders). x.stop) has.left.are);
@@ -58,11 +58,11 @@ armed_by (orders.Fault call) before after d is comes has =
       };
     }
 
-pub armed_has : (order : Order) (before after : DiskState) (d : DiskOrders) → Some (plan_of after.orders) ≡ ordered (Some (plan_of before.orders)) order → IsToCome order → HasOrders d before → HasOrders (armed order d) after
+pub armed_has : (order : DiskFault) (before after : DiskState) (d : DiskOrders) → Some (plan_of after.orders) ≡ ordered (Some (plan_of before.orders)) order → IsToCome order → HasOrders d before → HasOrders (armed order d) after
 armed_has order before after d is comes has = armed_by order before after d (some_plan (plan_of after.orders) (with_order (plan_of before.orders) order) is) comes has
 
 -- nothing has changed
-pub unarmed : (n : ℕ) (order : Order) (slots : List NodeSlot) → numbered slots n ≡ None → ArmedAt n order slots slots
+pub unarmed : (n : ℕ) (order : DiskFault) (slots : List NodeSlot) → numbered slots n ≡ None → ArmedAt n order slots slots
 unarmed n order slots none comes m slot now d there here has = by (n == m) refl
   where
     same : HasOrders d (site_disk now)
@@ -73,7 +73,7 @@ unarmed n order slots none comes m slot now d there here has = by (n == m) refl
     by false is = same
 
 -- one site is set
-pub armed_set : (n : ℕ) (order : Order) (slots : List NodeSlot) (old new : NodeSlot) → numbered slots n ≡ Some old → Some (plan_of (site_disk new).orders) ≡ ordered (Some (plan_of (site_disk old).orders)) order
+pub armed_set : (n : ℕ) (order : DiskFault) (slots : List NodeSlot) (old new : NodeSlot) → numbered slots n ≡ Some old → Some (plan_of (site_disk new).orders) ≡ ordered (Some (plan_of (site_disk old).orders)) order
     → (after : List NodeSlot) → after ≡ set_numbered slots n new → ArmedAt n order slots after
 armed_set n order slots old new at plan after is comes m slot now d there here has = by (n == m) refl
   where
@@ -155,7 +155,7 @@ begun_orders w v command linked orders range count ordered told m now here =
     (ordered range m old.0 now (orders_at t m) old.1 here (orders m old.0 old.1))
 
 -- an order for the node whose site is at this place, and one for a node that is not there
-pub armed_at_place : (slots : List NodeSlot) (n i : ℕ) (order : Order) (old new : NodeSlot) → n ≡ i + 1 → slice_get slots i ≡ Some old → Some (plan_of (site_disk new).orders) ≡ ordered (Some (plan_of (site_disk old).orders)) order
+pub armed_at_place : (slots : List NodeSlot) (n i : ℕ) (order : DiskFault) (old new : NodeSlot) → n ≡ i + 1 → slice_get slots i ≡ Some old → Some (plan_of (site_disk new).orders) ≡ ordered (Some (plan_of (site_disk old).orders)) order
     → ArmedAt n order slots (slice_set slots i new)
 armed_at_place slots n i order old new is at plan =
     let low : 1 ≤ n = omega (arith, is) in
@@ -168,7 +168,7 @@ past_end [] i high = refl
 past_end (s ∷ ss) zero high = absurd (omega (arith, high))
 past_end (s ∷ ss) (suc i) high = past_end ss i (omega (arith, high))
 
-pub armed_nowhere : (slots : List NodeSlot) (n i : ℕ) (order : Order) → n ≡ i + 1 → length slots ≤ i → ArmedAt n order slots slots
+pub armed_nowhere : (slots : List NodeSlot) (n i : ℕ) (order : DiskFault) → n ≡ i + 1 → length slots ≤ i → ArmedAt n order slots slots
 armed_nowhere slots n i order is high =
     let low : 1 ≤ n = omega (arith, is) in
     let place : n - 1 ≡ i = omega (arith, is) in

@@ -5,13 +5,13 @@ use Rattle.std.specs.Prelude.{OnOk, Result}
 use Rattle.std.proofs.lemmas.Result.{on_ok_weaker}
 use Rattle.block_disk.specs.MemDisk.{DiskState}
 use Rattle.block_disk.specs.Orders.{powered}
-use Rattle.block_disk.specs.declared.orders.Orders.{Orders}
+use Rattle.block_disk.specs.declared.faults.DiskFaults.{DiskFaults}
 use Rattle.record_log.specs.Held.{HoldRecords}
 use Rattle.node_points.specs.Passing.{passes_as}
 use Rattle.node_points.specs.declared.places.Passes.{Passes}
 use Rattle.node_rules.specs.Data.{RedoRecord}
 use Rattle.node_rules.specs.Words.{numbered, set_numbered}
-use Rattle.node_rules.specs.NodeState.{NodeState, Outcome}
+use Rattle.node_rules.specs.NodeState.{NodeState, TurnOutput}
 use Rattle.node_rules.specs.Turn.{turn_of}
 use Rattle.node_disk.specs.declared.err.CutTurn.{CutTurn}
 use Rattle.run_rules.specs.Cuts.{Cut_by, cut_by}
@@ -46,8 +46,8 @@ use Rattle.world.proofs.TurnLemmas.{HasTurned, Turns, caller_of, cut_is, none_to
 -- a disk whose power is on again has the orders that were left
 powered_has : (d : DiskOrders) (before after : DiskState) → after.orders ≡ powered before.orders → OrdersLeft d before.orders → HasOrders d after
 powered_has d before after is left = record {
-  running = ap (λ (x : Orders). x.stopped) is;
-  left = subst (λ (x : Orders). OrdersLeft d x) (sym is) (record { are = left.are; write = left.write; call = left.call });
+  running = ap (λ (x : DiskFaults). x.stopped) is;
+  left = subst (λ (x : DiskFaults). OrdersLeft d x) (sym is) (record { are = left.are; write = left.write; call = left.call });
 }
 
 -- one site has stopped
@@ -62,7 +62,7 @@ stops_set n slots old new found stopped powered after set = record {
 }
 
 -- What a cut turn leaves of the world.
-pub record CutLeaves (begun : Begun) (k : NodeState) (u : Turn) (o : Outcome) (w v : World) : Type 0 where
+pub record CutLeaves (begun : Begun) (k : NodeState) (u : Turn) (o : TurnOutput) (w v : World) : Type 0 where
   pub running : v.running ≡ w.running
   pub to_stop : v.to_stop ≡ Some begun.node
   pub boots : v.boots.items ≡ w.boots.items
@@ -76,7 +76,7 @@ module _ (w : World) (begun : Begun) (c : CutTurn) (k : NodeState) (by : Cut_by)
   abbrev p : Past
   p = past_of w.trace
 
-  abbrev o : Outcome
+  abbrev o : TurnOutput
   o = turn_of (place_at w.trace.places begun.node) k c.input
 
   -- what cuts it is what the definitions of a run say

@@ -20,3 +20,4 @@ mod ArmLemmas
 mod LeftLemmas
 mod RanLemmas
 mod NeedLemmas
+mod PendingLemmas

@@ -3,7 +3,7 @@
 use Rattle.std.proofs.Common.{◌≡◌, ◌-◌, ℕ, Option, Some, None, IfSome, refl, sym, subst, arith}
 use Rattle.node_rules.specs.Data.{Input, Stmt}
 use Rattle.node_rules.specs.Data.inputs
-use Rattle.node_rules.specs.NodeState.{NodeState, Outcome}
+use Rattle.node_rules.specs.NodeState.{NodeState, TurnOutput}
 use Rattle.node_rules.specs.Turn.{turn_of}
 use Rattle.node_core.specs.Able.{BringsCommit, MayTake}
 use Rattle.node_disk.specs.Spellable.{IsSpellable}
@@ -31,7 +31,7 @@ run_of r script = history_of r script.of_a_script
 
 -- ---- turns
 
-turn_spellable : (o : Outcome) → TurnHasBytes o → IsSpellable o
+turn_spellable : (o : TurnOutput) → TurnHasBytes o → IsSpellable o
 turn_spellable o has = record { wrote = has.wrote; sent = all_mailed o.sent has.sent }
 
 statement_spelled : (session : ℕ) (s : Option Stmt) → IfSome s IsPrintable → CallIsSpelled (inputs.Call session s)

@@ -10,11 +10,12 @@ use Rattle.run_rules.specs.Lines.{told}
 use Rattle.run_trace.specs.Recorded.{RunSoFar, IsRunOfScript, past_of}
 use Rattle.world.specs.declared.ran.Ended.{Ended}
 use Rattle.world.specs.declared.ran.Ended.TheVariants.{AllRun, OutOfMemory}
-use Rattle.world.specs.declared.ran.Ran.{Ran}
+use Rattle.world.specs.declared.ran.EndedRun.{EndedRun}
 use Rattle.world.specs.declared.world.World.{World}
 use Rattle.world.specs.Left.{StillReports, ReportsBetween}
 use Rattle.world.specs.Linked.{IsLinked}
 use Rattle.world.specs.Needs.{due_in}
+use Rattle.world.specs.Pending.{pending_in}
 use Rattle.world.specs.Ran.{IsLeftBy, IsRan, as_ending, run_of}
 use Rattle.world_parts.specs.Shown.{IsOnce, ShowDisks, Shown, disk_reported, history_of, places_in}
 use Rattle.world_parts.proofs.PlaceLemmas.{numbered_told, run_numbered}
@@ -60,15 +61,17 @@ same_run r places asked hs p a h =
     ∙ (ap (λ (cs : List Command). record { places = places; asked = cs; happenings = r.happenings }) (sym a)
     ∙ ap (λ (gs : List Happening). record { places = places; asked = asked; happenings = gs }) (sym h))
 
-pub is_ran : (w : World) (ran : Ran) → ran.recorded.places ≡ w.trace.places → ran.recorded.asked ≡ w.trace.asked → ran.recorded.happenings ≡ w.trace.happenings → ran.recorded.book ≡ book_of w.trace.happenings
-    → IsRunOfScript w.trace → ran.answers ≡ map (disk_reported w.shown) w.run_report.lines → IsLeftBy ran.ended w → IsRan ran
-is_ran w ran places asked happenings book run answers left =
+pub is_ran : (w : World) (ran : EndedRun) → ran.recorded.places ≡ w.trace.places → ran.recorded.asked ≡ w.trace.asked → ran.recorded.happenings ≡ w.trace.happenings → ran.recorded.book ≡ book_of w.trace.happenings
+    → IsRunOfScript w.trace → ran.answers ≡ map (disk_reported w.shown) w.run_report.lines → IsLeftBy ran.ended w
+    → (ran.ended ≡ AllRun → ran.pending ≡ pending_in (past_of w.trace).facts) → IsRan ran
+is_ran w ran places asked happenings book run answers left pending =
     let same : w.trace ≡ run_of ran.recorded = same_run w.trace ran.recorded.places ran.recorded.asked ran.recorded.happenings places asked happenings in
     record {
       due = subst (λ (r : RunSoFar). IsRunOfScript r) same run;
       booked = book ∙ ap book_of (sym happenings);
       told = subst (λ (r : RunSoFar). (script : AreOfAScript r.places r.asked) → IsReported (history_of r script) ran.answers (as_ending ran.ended)) same
           (λ script. subst (λ (ls : List AnswerLine). IsReported (history_of w.trace script) ls (as_ending ran.ended)) (sym answers) (left_told w script ran.ended left));
+      pending = subst (λ (r : RunSoFar). ran.ended ≡ AllRun → ran.pending ≡ pending_in (past_of r).facts) same pending;
     }
 
 -- ---- the end of a script

@@ -11,12 +11,12 @@ use Rattle.node_points.specs.Passing.{passes_as}
 use Rattle.node_points.specs.declared.places.Passes.{Passes as PassesByNode}
 use Rattle.node_rules.specs.Data.{BranchId, Input, Live, Msg, RedoRecord, Place}
 use Rattle.node_rules.specs.Words.{same}
-use Rattle.node_rules.specs.NodeState.{NodeState, Outcome, live_at}
+use Rattle.node_rules.specs.NodeState.{NodeState, TurnOutput, live_at}
 use Rattle.node_rules.specs.Points.{Passes, Point, is_ready, passes, points_of, reaches, ready_points, sent_points}
 use Rattle.node_points.specs.declared.point.Side.TheVariants as sides
 use Rattle.node_rules.specs.Turn.{turn_of}
 use Rattle.node_core.specs.Able.{MayTake}
-use Rattle.node_disk.specs.declared.effects.Effects.{Effects}
+use Rattle.node_disk.specs.declared.effects.DurableTurn.{DurableTurn}
 use Rattle.node_disk.specs.declared.err.CutTurn.{CutTurn}
 use Rattle.node_disk.specs.declared.err.CutAt.{CutAt}
 use Rattle.node_disk.specs.declared.err.CutAt.TheVariants as cuts
@@ -91,7 +91,7 @@ module _ (place : Place) (k : NodeState) (incoming : Incoming) where
 -- ---- what a turn leaves
 
 -- the cut of a turn that passes these places
-cut_by_places : (t : RunReport) (n : ℕ) (k : NodeState) (input : Input) (o : Outcome) (wrote : Option RedoRecord) (x : Option Passes) (by : Cut_by) → o.wrote ≡ wrote → passes k input o ≡ x → cut_before t n wrote x ≡ by → cut_by t n k input o ≡ by
+cut_by_places : (t : RunReport) (n : ℕ) (k : NodeState) (input : Input) (o : TurnOutput) (wrote : Option RedoRecord) (x : Option Passes) (by : Cut_by) → o.wrote ≡ wrote → passes k input o ≡ x → cut_before t n wrote x ≡ by → cut_by t n k input o ≡ by
 unfolding cut_by
 cut_by_places t n k input o wrote x by is are cut = ap (λ (r : Option RedoRecord). cut_before t n r (passes k input o)) is ∙ (ap (λ (y : Option Passes). cut_before t n wrote y) are ∙ cut)
 
@@ -150,12 +150,12 @@ none_sent points k (m ∷ ms) x is reached = by (is_ready m.kind) is
     by true is_so = none_ready points (live_at k m.from) x is_so reached
     by false is_so = absurd cc
 
-none_after : (points : List Point) (k : NodeState) (input : Input) (o : Outcome) (x : Passes) → o.wrote ≡ None → passes k input o ≡ Some x → reaches points x.root x.after ≡ true → ⊥
+none_after : (points : List Point) (k : NodeState) (input : Input) (o : TurnOutput) (x : Passes) → o.wrote ≡ None → passes k input o ≡ Some x → reaches points x.root x.after ≡ true → ⊥
 unfolding passes
 none_after points k input o x none is reached = none_sent points k o.sent x (sym (ap (λ (w : Option RedoRecord). points_of k input o.sent w) none) ∙ is) reached
 
 -- What a whole turn was, of a node that kept this.
-pub record WasWhole (t : RunReport) (n : ℕ) (place : Place) (k : NodeState) (incoming : Incoming) (rs : List RedoRecord) (e : Effects) (slot : NodeSlot) : Type 0 where
+pub record WasWhole (t : RunReport) (n : ℕ) (place : Place) (k : NodeState) (incoming : Incoming) (rs : List RedoRecord) (e : DurableTurn) (slot : NodeSlot) : Type 0 where
   pub input : IsReadAs incoming e.input
   pub tells : ReportsAll (turn_of place k e.input) e
   pub passed : TellsPasses k (turn_of place k e.input) e
@@ -184,12 +184,12 @@ module _ (t : RunReport) (n : ℕ) (place : Place) (k : NodeState) (incoming : I
     outcome_is input = ap (λ (x : Place). turn_of x (kept_of before) input) at ∙ ap (λ (x : NodeState). turn_of place x input) same
 
     passes_are : (input : Input) → passes (kept_of before) input (turn_of (place_of before) (kept_of before) input) ≡ passes k input (turn_of place k input)
-    passes_are input = ap (λ (x : NodeState). passes x input (turn_of (place_of before) (kept_of before) input)) same ∙ ap (λ (x : Outcome). passes k input x) (outcome_is input)
+    passes_are input = ap (λ (x : NodeState). passes x input (turn_of (place_of before) (kept_of before) input)) same ∙ ap (λ (x : TurnOutput). passes k input x) (outcome_is input)
 
-    node_whole : (e : Effects) → NodeServed before after incoming points e → WasWhole t n place k incoming rs e (Up after)
+    node_whole : (e : DurableTurn) → NodeServed before after incoming points e → WasWhole t n place k incoming rs e (Up after)
     node_whole e s =
-        let o : Outcome = turn_of place k e.input in
-        let tells = subst (λ (x : Outcome). Tells x (kept_of after) e) (outcome_is e.input) s.tells in
+        let o : TurnOutput = turn_of place k e.input in
+        let tells = subst (λ (x : TurnOutput). Tells x (kept_of after) e) (outcome_is e.input) s.tells in
         let passed = s.passed ∙ passes_are e.input in
         record {
           input = s.input;
@@ -207,7 +207,7 @@ module _ (t : RunReport) (n : ℕ) (place : Place) (k : NodeState) (incoming : I
 
     module _ (c : CutTurn) (input : IsReadAs incoming c.input) (tried : c.tried ≡ (turn_of place k c.input).wrote) (passed : option_map passes_as c.passes ≡ passes k c.input (turn_of place k c.input))
         (starts : CanBeStarted bytes_of images_of (disk_of after)) where
-      abbrev o : Outcome
+      abbrev o : TurnOutput
       o = turn_of place k c.input
 
       abbrev Was : Cut_by → Type 0
@@ -284,11 +284,11 @@ module _ (t : RunReport) (n : ℕ) (place : Place) (k : NodeState) (incoming : I
 
     node_cut : (c : CutTurn) → NodeFailed before after incoming points (errs.Cut c) → (by : Cut_by) × WasCut t n place k incoming rs c (Up after) by
     node_cut c f =
-        by_place c f.is_cut.input (f.is_cut.tried ∙ ap (λ (x : Outcome). x.wrote) (outcome_is c.input)) (f.is_cut.passed ∙ passes_are c.input) f.starts c.at
+        by_place c f.is_cut.input (f.is_cut.tried ∙ ap (λ (x : TurnOutput). x.wrote) (outcome_is c.input)) (f.is_cut.passed ∙ passes_are c.input) f.starts c.at
         (subst (λ (xs : List Point). Stops xs c.at c.passes) are f.stops) f.tried f.stored f.goes f.stands
 
   -- a whole turn of a site's node
-  pub site_whole : (old new : NodeSlot) (e : Effects) → RunsAt place old → site_kept old ≡ Some k → HoldRecords rs (bytes_of (site_disk old)) → HasOrders (orders_at t n) (site_disk old) → HasServed old new incoming points e
+  pub site_whole : (old new : NodeSlot) (e : DurableTurn) → RunsAt place old → site_kept old ≡ Some k → HoldRecords rs (bytes_of (site_disk old)) → HasOrders (orders_at t n) (site_disk old) → HasServed old new incoming points e
       → WasWhole t n place k incoming rs e new
   site_whole (Up before) (Up after) e runs kept holds orders served = node_whole before after runs.1 (same_of (kept_of before) k kept) holds orders e served
   site_whole (Up before) (Down disk) e runs kept holds orders served = absurd served

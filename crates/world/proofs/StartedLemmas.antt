@@ -3,9 +3,9 @@
 use Rattle.std.proofs.Common.{◌≡◌, ℕ, Bool, true, false, if◌then◌else◌, List, [], ◌∷◌, ◌++◌, is_some, is_none, option_map, ◌≤◌, IfSome, Option, Some, None, refl, sym, ap, subst, ◌∙◌}
 use Rattle.block_disk.specs.MemDisk.{DiskState}
 use Rattle.block_disk.specs.Orders.{plan_of, powered}
-use Rattle.block_disk.specs.Plan.{Plan, free}
-use Rattle.block_disk.specs.declared.order.Stop.{Stop}
-use Rattle.block_disk.specs.declared.orders.Orders.{Orders}
+use Rattle.block_disk.specs.Plan.{FaultPlan, free}
+use Rattle.block_disk.specs.declared.fault.Stop.{Stop}
+use Rattle.block_disk.specs.declared.faults.DiskFaults.{DiskFaults}
 use Rattle.redo_log.specs.Cells.{bodies, bodies_within}
 use Rattle.redo_log.specs.Plans.{CallsGoByPlan, append_calls, begin_calls, load_calls}
 use Rattle.redo_log.specs.Stands.{stands_after}
@@ -46,18 +46,18 @@ down_by None k is = absurd cc
 down_by (Some s) k is = refl
 
 -- with the power on again a disk has the orders that are left
-pub powered_has : {d : DiskOrders} (o : Orders) (disk : DiskState) → disk.orders ≡ powered o → OrdersLeft d o → HasOrders d disk
+pub powered_has : {d : DiskOrders} (o : DiskFaults) (disk : DiskState) → disk.orders ≡ powered o → OrdersLeft d o → HasOrders d disk
 powered_has {d} o disk is left = record {
-  running = ap (λ (x : Orders). x.stopped) is;
+  running = ap (λ (x : DiskFaults). x.stopped) is;
   left = record {
     are = ap orders_as is ∙ left.are;
-    write = subst (λ (x : Orders). IfSome x.stop (λ s. 1 ≤ s.write)) (sym is) left.write;
-    call = subst (λ (x : Orders). IfSome x.fault (λ c. 1 ≤ c)) (sym is) left.call;
+    write = subst (λ (x : DiskFaults). IfSome x.stop (λ s. 1 ≤ s.write)) (sym is) left.write;
+    call = subst (λ (x : DiskFaults). IfSome x.fault (λ c. 1 ≤ c)) (sym is) left.call;
   };
 }
 
 module _ (place : Place) (disk : DiskState) (d : DiskOrders) (rs : List RedoRecord) (has : HasOrders d disk) (holds : HoldRecords rs (bytes_of disk)) where
-  goes_by : (after : Orders) (fails : Bool) → CallsGoByPlan (load_calls (bytes_of disk) ++ append_calls) (Some (plan_of disk.orders)) (Some (plan_of after)) fails → GoAs 3 d after fails
+  goes_by : (after : DiskFaults) (fails : Bool) → CallsGoByPlan (load_calls (bytes_of disk) ++ append_calls) (Some (plan_of disk.orders)) (Some (plan_of after)) fails → GoAs 3 d after fails
   goes_by after fails goes =
       start_goes disk.orders after has.running d has.left fails
       (subst (λ (calls : List Bool). CallsGoByPlan (calls ++ append_calls) (Some (plan_of disk.orders)) (Some (plan_of after)) fails) (loads_by rs (bytes_of disk) holds) goes)
@@ -97,10 +97,10 @@ module _ (place : Place) (disk : DiskState) (d : DiskOrders) (rs : List RedoReco
 pub made_without : (disk : DiskState) → CallsGoByPlan (begin_calls ++ append_calls) (Some free) (Some (plan_of disk.orders)) false → HasOrders no_orders disk
 made_without disk goes =
     let is : plan_of disk.orders ≡ free = some_plan (plan_of disk.orders) free goes.0 in
-    let stop : disk.orders.stop ≡ None = ap (λ (p : Plan). p.stop) is in
-    let fault : disk.orders.fault ≡ None = ap (λ (p : Plan). p.fault) is in
+    let stop : disk.orders.stop ≡ None = ap (λ (p : FaultPlan). p.stop) is in
+    let fault : disk.orders.fault ≡ None = ap (λ (p : FaultPlan). p.fault) is in
     record {
-      running = ap (λ (p : Plan). p.stopped) is;
+      running = ap (λ (p : FaultPlan). p.stopped) is;
       left = record {
         are = ap (λ (s : Option Stop). record { stop = option_map stop_as s; fault = disk.orders.fault }) stop ∙ ap (λ (f : Option ℕ). record { stop = None; fault = f }) fault;
         write = subst (λ (s : Option Stop). IfSome s (λ x. 1 ≤ x.write)) (sym stop) tt;

@@ -7,10 +7,10 @@ use Rattle.node_rules.specs.Data.inputs
 use Rattle.node_rules.specs.Inputs.{IsFit}
 use Rattle.node_rules.specs.Words.{numbered, set_numbered}
 use Rattle.node_rules.specs.NodeState.{NodeState}
-use Rattle.node_rules.specs.Turn.{deed_of, turn_of}
+use Rattle.node_rules.specs.Turn.{draft_of, turn_of}
 use Rattle.node_rules.proofs.TurnLemmas.{step_of}
 use Rattle.node_core.specs.Able.{MayTake}
-use Rattle.node_disk.specs.declared.effects.Effects.{Effects}
+use Rattle.node_disk.specs.declared.effects.DurableTurn.{DurableTurn}
 use Rattle.node_disk.specs.declared.err.CutTurn.{CutTurn}
 use Rattle.node_disk.specs.declared.err.TurnErr.{TurnErr}
 use Rattle.node_disk.specs.declared.err.TurnErr.TheVariants as errs
@@ -45,7 +45,7 @@ use Rattle.world.proofs.TurnLeftLemmas.{same_still, tells_linked}
 -- a turn's record is no Boot
 boots_of_turn : (place : Place) (k : NodeState) (input : Input) (rs : List RedoRecord) → IsFit input → boots (rs ++ option_to_list (turn_of place k input).wrote) ≡ boots rs
 unfolding turn_of
-boots_of_turn place k input rs fit = boots_with rs (deed_of place k input).wrote (step_of_turn place input (step_of place k input fit))
+boots_of_turn place k input rs fit = boots_with rs (draft_of place k input).wrote (step_of_turn place input (step_of place k input fit))
 
 -- a message is no call
 no_message : (o : Option Msg) (session : ℕ) (statement : Option Stmt) → option_map inputs.Message o ≡ Some (inputs.Call session statement) → ⊥
@@ -161,7 +161,7 @@ module _ (w v : World) (begun : Begun) (incoming : Incoming) (ready : IsReadied 
   kept_old = kept_here w begun.node incoming ready.linked ready.turns ready.coming old found
 
   -- a whole turn is under way
-  pub whole_during : (e : Effects) → HasServed old new incoming w.run_report.points e → IsDuring begun e v
+  pub whole_during : (e : DurableTurn) → HasServed old new incoming w.run_report.points e → IsDuring begun e v
   whole_during e served =
       let was = site_whole past_now.run_report begun.node at keeps incoming (records_at past_now.facts begun.node) w.run_report.points (ap (λ t. t.points) ready.linked.held.parts.run_report)
       old new e is_old.runs kept_old is_old.holds (ready.orders begun.node old found) served in

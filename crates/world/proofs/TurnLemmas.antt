@@ -7,7 +7,7 @@ use Rattle.net_bag.specs.Net.{Net, lost_at_once, sent_on}
 use Rattle.node_rules.specs.Words.{numbered, set_numbered}
 use Rattle.node_disk.specs.Starts.{CanBeStarted}
 use Rattle.node_disk.specs.Effects.{mailed}
-use Rattle.node_disk.specs.declared.effects.Effects.{Effects}
+use Rattle.node_disk.specs.declared.effects.DurableTurn.{DurableTurn}
 use Rattle.node_disk.specs.declared.effects.Mailed.{Mailed}
 use Rattle.node_rules.specs.Data.{Stmt}
 use Rattle.node_rules.specs.Data.inputs
@@ -33,7 +33,7 @@ use Rattle.world.proofs.StepLemmas.{IsPushed, Leaves, Stands, shown_on, steps_on
 use Rattle.world_parts.proofs.OrderLemmas.{cut_elsewhere, cut_here}
 use Rattle.world_parts.proofs.ToStopLemmas.{turn_orders, turn_upright}
 use Rattle.node_rules.specs.Data.{RedoRecord, Place, Input, Msg}
-use Rattle.node_rules.specs.NodeState.{NodeState, Outcome}
+use Rattle.node_rules.specs.NodeState.{NodeState, TurnOutput}
 use Rattle.node_rules.specs.Turn.{turn_of}
 use Rattle.run_rules.specs.Data.{Command, Happening, Took}
 use Rattle.run_rules.specs.Data.happenings
@@ -72,7 +72,7 @@ module _ (places : List Place) (p : Past) where
       ∙ (ap (turn_at places p.run_report n input took) up ∙ ap (λ (c : Cut_by). Some (turn_by n input took (turn_of (place_at places n) k input) c)) cut)
 
 -- a turn that is cut has its record where that stands, and says nothing
-pub cut_is : (n : ℕ) (input : Input) (took : Option Took) (o : Outcome) (by : Cut_by) → (by ≡ By_nothing → ⊥)
+pub cut_is : (n : ℕ) (input : Input) (took : Option Took) (o : TurnOutput) (by : Cut_by) → (by ≡ By_nothing → ⊥)
     → turn_by n input took o by ≡ happenings.Turn (record { node = n; input = input; took = took; wrote = stood (stands_by by) o.wrote; sent = []; cut = true })
 cut_is n input took o By_nothing not = absurd (not refl)
 cut_is n input took o (By_strike true) not = refl
@@ -112,7 +112,7 @@ boots_stay lists (suc i) wrote same = by lists i same
     by (x ∷ xs) (suc j) same = ap (λ (bs : List ℕ). boots x ∷ bs) (by xs j same)
 
 -- What a turn leaves of the world beside its sites.
-pub record Turns (k : NodeState) (u : Turn) (o : Outcome) (w v : World) : Type 0 where
+pub record Turns (k : NodeState) (u : Turn) (o : TurnOutput) (w v : World) : Type 0 where
   pub running : v.running ≡ w.running
   pub to_stop : v.to_stop ≡ to_stop_after u
   pub boots : v.boots.items ≡ w.boots.items
@@ -137,7 +137,7 @@ module _ (w v : World) (begun : Begun) (input : Input) (k : NodeState) (by : Cut
   abbrev place : Place
   place = place_at w.trace.places begun.node
 
-  abbrev o : Outcome
+  abbrev o : TurnOutput
   o = turn_of place k input
 
   module _ (is : turn_by begun.node input begun.took o by ≡ happenings.Turn u) (pushed : IsPushed w.trace v.trace (happenings.Turn u)) (node : u.node ≡ begun.node) (input_is : u.input ≡ input)
@@ -157,7 +157,7 @@ module _ (w v : World) (begun : Begun) (input : Input) (k : NodeState) (by : Cut
     next_is : next w.trace.places w.trace.asked p (happenings.Turn u) ≡ q
     unfolding next
     next_is =
-        ap (λ (x : Option Outcome). turned p u x) outcome_is
+        ap (λ (x : Option TurnOutput). turned p u x) outcome_is
         ∙ ap (λ (x : Option NodeState). record { facts = facts_turned p.facts u (Some o); run_report = report_turned p.facts.command x p.run_report u (Some o) }) up
 
     due_next : IsNext w.trace (happenings.Turn u)
@@ -275,18 +275,18 @@ without_bytes [] = refl
 without_bytes (m ∷ ms) = ap (λ (xs : List Msg). m ∷ xs) (without_bytes ms)
 
 -- a whole turn, by what its node told
-pub whole_is : (n : ℕ) (input : Input) (took : Option Took) (o : Outcome) (wrote : Option RedoRecord) (sent : List Msg) → wrote ≡ o.wrote → sent ≡ o.sent
+pub whole_is : (n : ℕ) (input : Input) (took : Option Took) (o : TurnOutput) (wrote : Option RedoRecord) (sent : List Msg) → wrote ≡ o.wrote → sent ≡ o.sent
     → turn_by n input took o By_nothing ≡ happenings.Turn (record { node = n; input = input; took = took; wrote = wrote; sent = sent; cut = false })
 whole_is n input took o wrote sent is are =
     ap (λ (x : Option RedoRecord). happenings.Turn (record { node = n; input = input; took = took; wrote = x; sent = o.sent; cut = false })) (sym is)
     ∙ ap (λ (xs : List Msg). happenings.Turn (record { node = n; input = input; took = took; wrote = wrote; sent = xs; cut = false })) (sym are)
 
 -- a whole turn is the happening that comes next
-pub whole_next : (w : World) (begun : Begun) (e : Effects) (k : NodeState) → IsDuringAt begun e w k → (sent : List Msg) → sent ≡ (turn_of (place_at w.trace.places begun.node) k e.input).sent
+pub whole_next : (w : World) (begun : Begun) (e : DurableTurn) (k : NodeState) → IsDuringAt begun e w k → (sent : List Msg) → sent ≡ (turn_of (place_at w.trace.places begun.node) k e.input).sent
     → IsNext w.trace (happenings.Turn (record { node = begun.node; input = e.input; took = begun.took; wrote = e.wrote; sent = sent; cut = false }))
 whole_next w begun e k during sent are =
     let under = during.under_way in
-    let out : Outcome = turn_of (place_at w.trace.places begun.node) k e.input in
+    let out : TurnOutput = turn_of (place_at w.trace.places begun.node) k e.input in
     turn_comes_next w.trace.places (past_of w.trace) w.trace.asked begun.node e.input begun.took k By_nothing under.due under.took under.up under.cut
     ∙ ap (λ (h : Happening). Some h) (whole_is begun.node e.input begun.took out e.wrote sent during.tells.wrote are)
 

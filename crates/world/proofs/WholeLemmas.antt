@@ -8,9 +8,9 @@ use Rattle.net_bag.specs.Net.{lost_at_once, sent_on}
 use Rattle.node_points.specs.Passing.{passes_as}
 use Rattle.node_rules.specs.Data.{Msg, RedoRecord}
 use Rattle.node_rules.specs.Words.{numbered}
-use Rattle.node_rules.specs.NodeState.{NodeState, Outcome}
+use Rattle.node_rules.specs.NodeState.{NodeState, TurnOutput}
 use Rattle.node_rules.specs.Turn.{turn_of}
-use Rattle.node_disk.specs.declared.effects.Effects.{Effects}
+use Rattle.node_disk.specs.declared.effects.DurableTurn.{DurableTurn}
 use Rattle.node_disk.specs.Effects.{call_of}
 use Rattle.run_rules.specs.Cuts.{By_nothing}
 use Rattle.run_rules.specs.Data.{Turn}
@@ -33,11 +33,11 @@ use Rattle.world.specs.Turns.{IsDuringAt, IsReported}
 use Rattle.world.proofs.StopLemmas.{pushed_in}
 use Rattle.world.proofs.TurnLemmas.{HasTurned, Turns, caller_of, none_to_stop, turn_moves, turn_orders_are, whole_is}
 
-module _ (w : World) (begun : Begun) (e : Effects) (k : NodeState) (during : IsDuringAt begun e w k) (sent : List Msg) where
+module _ (w : World) (begun : Begun) (e : DurableTurn) (k : NodeState) (during : IsDuringAt begun e w k) (sent : List Msg) where
   abbrev p : Past
   p = past_of w.trace
 
-  abbrev o : Outcome
+  abbrev o : TurnOutput
   o = turn_of (place_at w.trace.places begun.node) k e.input
 
   abbrev u : Turn

@@ -12,4 +12,5 @@ pub mod Starts
 pub mod Started
 pub mod Halts
 pub mod Left
+pub mod Pending
 pub mod Ran

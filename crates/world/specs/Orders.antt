@@ -1,6 +1,6 @@
 -- The disks of the world have the orders that the run so far leaves them.
 use Rattle.std.specs.Prelude.{◌≡◌, ◌≢◌, ◌==◌, ℕ, List, if◌then◌else◌, Some}
-use Rattle.block_disk.specs.declared.order.Order.{Order}
+use Rattle.block_disk.specs.declared.fault.DiskFault.{DiskFault}
 use Rattle.script_read.specs.Sound.{IsInRange}
 use Rattle.node_rules.specs.Words.{numbered}
 use Rattle.run_rules.specs.Data.{Command}
@@ -25,6 +25,6 @@ abbrev pub OrderedBy : Command → List NodeSlot → List NodeSlot → Type 0
 OrderedBy command before after = IsInRange command → (m : ℕ) (slot now : NodeSlot) (d : DiskOrders) → numbered before m ≡ Some slot → numbered after m ≡ Some now → HasOrders d (site_disk slot) → HasOrders (ordered_at command m d) (site_disk now)
 
 -- one disk has an order more, and the others have theirs
-abbrev pub ArmedAt : ℕ → Order → List NodeSlot → List NodeSlot → Type 0
+abbrev pub ArmedAt : ℕ → DiskFault → List NodeSlot → List NodeSlot → Type 0
 ArmedAt n order before after = IsToCome order → (m : ℕ) (slot now : NodeSlot) (d : DiskOrders) → numbered before m ≡ Some slot → numbered after m ≡ Some now → HasOrders d (site_disk slot)
     → HasOrders (if n == m then armed order d else d) (site_disk now)

@@ -7,7 +7,7 @@ use Rattle.redo_log.specs.Plans.{CallsGoByPlan}
 use Rattle.node_rules.specs.Data.{Input}
 use Rattle.node_rules.specs.Points.{Point}
 use Rattle.node_core.specs.Able.{MayTake}
-use Rattle.node_disk.specs.declared.effects.Effects.{Effects}
+use Rattle.node_disk.specs.declared.effects.DurableTurn.{DurableTurn}
 use Rattle.node_disk.specs.declared.err.TurnErr.{TurnErr}
 use Rattle.node_disk.specs.declared.incoming.Incoming.{Incoming}
 use Rattle.node_disk.specs.declared.node.Node.{Node}
@@ -34,7 +34,7 @@ CanServe (Up node) incoming = NodeCanServe node incoming
 CanServe (Down disk) incoming = ⊥
 
 -- What a node has done whose turn was whole.
-pub record NodeServed (before after : Node DiskState) (incoming : Incoming) (points : List Point) (e : Effects) : Type 0 where
+pub record NodeServed (before after : Node DiskState) (incoming : Incoming) (points : List Point) (e : DurableTurn) : Type 0 where
   pub input : IsReadAs incoming e.input
   pub tells : Tells (turn_at before e.input) (kept_of after) e
   pub passed : TellsPasses (kept_of before) (turn_at before e.input) e
@@ -47,7 +47,7 @@ pub record NodeServed (before after : Node DiskState) (incoming : Incoming) (poi
   pub starts : CanBeStarted bytes_of images_of (disk_of after)
 
 -- the node of a site has
-abbrev pub HasServed : NodeSlot → NodeSlot → Incoming → List Point → Effects → Type 0
+abbrev pub HasServed : NodeSlot → NodeSlot → Incoming → List Point → DurableTurn → Type 0
 HasServed (Up before) (Up after) incoming points e = NodeServed before after incoming points e
 HasServed _ _ incoming points e = ⊥
 

@@ -5,9 +5,9 @@ use Rattle.node_rules.specs.Data.{Input, RedoRecord}
 use Rattle.node_rules.specs.Data.inputs
 use Rattle.node_rules.specs.Words.{numbered}
 use Rattle.node_rules.specs.Sessions.{session_at}
-use Rattle.node_rules.specs.NodeState.{NodeState, Outcome}
+use Rattle.node_rules.specs.NodeState.{NodeState, TurnOutput}
 use Rattle.node_rules.specs.Turn.{turn_of}
-use Rattle.node_disk.specs.declared.effects.Effects.{Effects}
+use Rattle.node_disk.specs.declared.effects.DurableTurn.{DurableTurn}
 use Rattle.node_disk.specs.declared.err.CutTurn.{CutTurn}
 use Rattle.node_disk.specs.declared.incoming.Incoming.{Incoming}
 use Rattle.node_disk.specs.declared.incoming.Incoming.TheVariants as comings
@@ -84,7 +84,7 @@ CallerOf k (inputs.Call session statement) s = s ≡ session_at k.sessions sessi
 CallerOf k _ s = Unit {0}
 
 -- What a whole turn tells: its record, its messages with their bytes, and the calls that end.
-pub record ReportsAll (o : Outcome) (e : Effects) : Type 0 where
+pub record ReportsAll (o : TurnOutput) (e : DurableTurn) : Type 0 where
   pub wrote : e.wrote ≡ o.wrote
   pub sent : e.sent ≡ map mailed o.sent
   pub ended : map call_of e.ended ≡ o.ended
@@ -108,7 +108,7 @@ pub record IsUnderWay (begun : Begun) (input : Input) (k : NodeState) (w : World
   pub cut : cut_by (past_of w.trace).run_report begun.node k input (turn_of (place_at w.trace.places begun.node) k input) ≡ by
 
 -- The site of a node whose turn came to this and was whole.
-pub record IsTurned (w : World) (n : ℕ) (o : Outcome) (slot : NodeSlot) : Type 0 where
+pub record IsTurned (w : World) (n : ℕ) (o : TurnOutput) (slot : NodeSlot) : Type 0 where
   pub kept : site_kept slot ≡ Some o.after
   pub runs : RunsAt (place_at w.trace.places n) slot
   pub holds : HoldRecords (records_at (past_of w.trace).facts n ++ option_to_list o.wrote) (bytes_of (site_disk slot))
@@ -116,7 +116,7 @@ pub record IsTurned (w : World) (n : ℕ) (o : Outcome) (slot : NodeSlot) : Type
   pub orders : HasOrders (orders_if (is_some o.wrote) (orders_at (past_of w.trace).run_report n)) (site_disk slot)
 
 -- The node did this, and its record stands on its disk.
-pub record IsDuringAt (begun : Begun) (e : Effects) (w : World) (k : NodeState) : Type 0 where
+pub record IsDuringAt (begun : Begun) (e : DurableTurn) (w : World) (k : NodeState) : Type 0 where
   pub under_way : IsUnderWay begun e.input k w By_nothing
   pub tells : ReportsAll (turn_of (place_at w.trace.places begun.node) k e.input) e
   pub passed : TellsPasses k (turn_of (place_at w.trace.places begun.node) k e.input) e
@@ -131,7 +131,7 @@ pub record IsReported (u : Turn) (facts : TurnFacts) (before after : World) : Ty
   pub few : length after.trace.happenings ≤ happening_limit
 
 -- a whole turn whose node is done
-abbrev pub IsDuring : Begun → Effects → World → Type 0
+abbrev pub IsDuring : Begun → DurableTurn → World → Type 0
 IsDuring begun e w = (k : NodeState) × IsDuringAt begun e w k
 
 -- the record of a cut turn, where it stands
@@ -141,7 +141,7 @@ stood false tried = None
 
 -- The site of a node whose turn would have come to this, and was cut: the record stands on its disk where the definitions of a run
 -- say so. An order may have stopped the disk.
-pub record IsCutOff (w : World) (n : ℕ) (o : Outcome) (by : Cut_by) (slot : NodeSlot) : Type 0 where
+pub record IsCutOff (w : World) (n : ℕ) (o : TurnOutput) (by : Cut_by) (slot : NodeSlot) : Type 0 where
   pub holds : HoldRecords (records_at (past_of w.trace).facts n ++ option_to_list (stood (stands_by by) o.wrote)) (bytes_of (site_disk slot))
   pub starts : CanBeStarted bytes_of images_of (site_disk slot)
   pub orders : OrdersLeft (cut_orders (is_some o.wrote) by (orders_at (past_of w.trace).run_report n)) (site_disk slot).orders

@@ -13,7 +13,7 @@ ghost use Rattle.world.specs.Steps.{StepsOn};
 
 use crate::World;
 use crate::slots::{has_transaction, is_up};
-use block_disk::{Order, Stop};
+use block_disk::{DiskFault, Stop};
 use book::Happening;
 use dtx_values::Duplicate;
 use run_report::BeginFacts;
@@ -140,18 +140,18 @@ impl World {
             Command::Crash { node, write, how } => {
                 let how = left_by(alloc, how)?;
                 let stop = Stop { write: *write, how };
-                self.arm(*node, Order::Stop(stop));
+                self.arm(*node, DiskFault::Stop(stop));
                 Ok(())
             }
             Command::Fault { node, call } => {
-                self.arm(*node, Order::Fault(*call));
+                self.arm(*node, DiskFault::Fault(*call));
                 Ok(())
             }
             _ => Ok(()),
         }
     }
 
-    fn arm(&mut self, node: u8, order: Order)
+    fn arm(&mut self, node: u8, order: DiskFault)
         ensures stands { OrdersStand self.old self.new }
         ensures armed { ArmedAt node order self.old.slots.items self.new.slots.items }
         ensures same { self.new ≡ record self.old { slots = self.new.slots } }

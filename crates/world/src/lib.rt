@@ -11,6 +11,7 @@ mod due;
 mod laws;
 mod mail;
 mod network;
+mod pending;
 mod ran;
 mod serving;
 mod showing;
@@ -21,5 +22,5 @@ mod stopping;
 mod turning;
 mod world;
 
-pub use ran::{Ended, Ran, run};
+pub use ran::{Ended, EndedRun, run};
 pub use world::World;

@@ -6,22 +6,26 @@ ghost use Rattle.world.specs.NodeSlot.{site_kept};
 ghost use Rattle.world.specs.Turns.{CallerIs};
 
 use crate::slot::NodeSlot;
-use node_disk::{Effects, Incoming, TurnErr};
+use node_disk::{DurableTurn, Incoming, TurnErr};
 use node_rules::{PendingCall, Session};
 use run_report_parts::Point;
 
 /// The turn of a node that is up and can take what comes.
+#[tactic(auto, using(node_disk::proofs::CutLaws::end_parts))]
 pub(crate) fn serve(
     slot: &mut NodeSlot,
     incoming: Incoming,
     points: &[Point],
-) -> Result<Effects, TurnErr>
+) -> Result<DurableTurn, TurnErr>
     requires { CanServe slot.old incoming }
     ensures served { IfOk result (HasServed slot.old slot.new incoming points.now) }
     ensures failed { IfErr result (HasFailed slot.old slot.new incoming points.now) }
 {
     match slot {
-        NodeSlot::Up(node) => node.turn(incoming, points),
+        NodeSlot::Up(node) => match node.turn(incoming, points) {
+            Ok(effects) => Ok(effects),
+            Err(err) => Err(err),
+        },
         NodeSlot::Down(_disk) => unreachable!(),
     }
 }

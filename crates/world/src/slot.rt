@@ -15,7 +15,7 @@ ghost use Rattle.world_parts.specs.Orders.{HasOrders};
 ghost use Rattle.world.specs.Started.{CanStart, TriedFrom};
 ghost use Rattle.world.specs.NodeSlot.{site_kept, site_disk, bytes_of, images_of, RunsAt};
 
-use block_disk::{Armable, MemDisk, Order};
+use block_disk::{Armable, DiskFault, MemDisk};
 use node_disk::{MakeErr, MakeWhy, Node};
 use redo_record::Place;
 use std::alloc::{AllocError, Global};
@@ -79,7 +79,7 @@ impl NodeSlot {
     }
 
     /// Gives the disk an order, in place of an earlier one of its kind.
-    pub fn arm(&mut self, order: Order)
+    pub fn arm(&mut self, order: DiskFault)
         ensures kept { site_kept self.new ≡ site_kept self.old }
         ensures runs { (place : PlaceBy) → RunsAt place self.old → RunsAt place self.new }
         ensures bytes { bytes_of (site_disk self.new) ≡ bytes_of (site_disk self.old) }

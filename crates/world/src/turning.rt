@@ -24,7 +24,7 @@ use crate::serving::{caller, serve};
 use crate::slot::NodeSlot;
 use book::{Happening, Took, Turn};
 use dtx_values::Listing;
-use node_disk::{CutTurn, Effects, Finished, Incoming, Mailed, TurnErr};
+use node_disk::{CutTurn, DurableTurn, Finished, Incoming, Mailed, TurnErr};
 use node_rules::{Ended, Session};
 use run_report::{Cut, TurnFacts};
 use std::alloc::{AllocError, Global};
@@ -149,7 +149,7 @@ impl World {
     }
 
     // The node takes its turn: it is whole, or cut, or there was no memory for it.
-    fn take_turn(&mut self, begun: Begun, incoming: Incoming) -> Result<Effects, TurnErr>
+    fn take_turn(&mut self, begun: Begun, incoming: Incoming) -> Result<DurableTurn, TurnErr>
         requires readied { IsReadied begun incoming self.old }
         requires there { IsNode (length self.old.slots.items) begun.node }
         ensures whole { IfOk result (λ effects. IsDuring begun effects self.new) }
@@ -168,7 +168,7 @@ impl World {
         &mut self,
         alloc: Global,
         begun: Begun,
-        effects: Effects,
+        effects: DurableTurn,
     ) -> Result<(), AllocError>
         requires during { IsDuring begun effects self.old }
         ensures steps { OnOk result (StepsOn self.old self.new) }
@@ -176,7 +176,7 @@ impl World {
         ensures extends { Extends self.old.trace self.new.trace }
         ensures left { StillReports self.old → StillReports self.new }
     {
-        let Effects {
+        let DurableTurn {
             input,
             wrote,
             sent,

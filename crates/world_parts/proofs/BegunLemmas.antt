@@ -3,7 +3,7 @@ use Rattle.std.proofs.Common.{◌≡◌, ◌⊎◌, inl, inr, ◌+◌, ◌<◌, 
 use Rattle.std.proofs.lemmas.Bool.{ltb-true}
 use Rattle.std.specs.Prelude.{nat_lt}
 use Rattle.node_rules.specs.Data.{Place, Input}
-use Rattle.node_rules.specs.NodeState.{NodeState, Outcome}
+use Rattle.node_rules.specs.NodeState.{NodeState, TurnOutput}
 use Rattle.node_rules.specs.Turn.{turn_of}
 use Rattle.run_rules.specs.Data.{Command, Happening, Packet, Took}
 use Rattle.run_rules.specs.Data.happenings
@@ -169,7 +169,7 @@ module _ (places : List Place) (asked : List Command) where
   abbrev IsBegun : ℕ → Option Happening → Type 0
   IsBegun c o = o ≡ Some (happenings.Begun c)
 
-  by_no_turn : (n : ℕ) (input : Input) (took : Option Took) (o : Outcome) (by : Cut_by) (c : ℕ) → turn_by n input took o by ≡ happenings.Begun c → ⊥
+  by_no_turn : (n : ℕ) (input : Input) (took : Option Took) (o : TurnOutput) (by : Cut_by) (c : ℕ) → turn_by n input took o by ≡ happenings.Begun c → ⊥
   by_no_turn n input took o By_nothing c is = absurd cc
   by_no_turn n input took o (By_strike stands) c is = absurd cc
   by_no_turn n input took o (By_point root numbers stands) c is = absurd cc

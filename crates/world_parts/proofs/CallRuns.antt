@@ -2,10 +2,10 @@
 -- an append among them stands.
 use Rattle.std.proofs.Common.{◌≡◌, ◌+◌, ◌-◌, ◌==◌, ◌||◌, if◌then◌else◌, nat_lt, ℕ, zero, suc, take, Bool, true, false, List, [], ◌∷◌, option_map, Option, Some, None, refl, ◌∙◌, ap, arith}
 use Rattle.std.proofs.lemmas.Bool.Decides.{nat_tests}
-use Rattle.block_disk.specs.Plan.{Plan, after_call, is_next, counted_down, write_of, stop_counted_down, left_of, left_by_stop}
-use Rattle.block_disk.specs.declared.order.How.{How}
-use Rattle.block_disk.specs.declared.order.How.TheVariants.{Keep, Leave}
-use Rattle.block_disk.specs.declared.order.Stop.{Stop}
+use Rattle.block_disk.specs.Plan.{FaultPlan, after_call, is_next, counted_down, write_of, stop_counted_down, left_of, left_by_stop}
+use Rattle.block_disk.specs.declared.fault.How.{How}
+use Rattle.block_disk.specs.declared.fault.How.TheVariants.{Keep, Leave}
+use Rattle.block_disk.specs.declared.fault.Stop.{Stop}
 use Rattle.redo_log.specs.Plans.{plan_after, strikes_any}
 use Rattle.redo_log.specs.Stands.{is_open, opens_gate as opens_by_plan, body_calls, stands_by, stands_after}
 use Rattle.run_rules.specs.Disks.{DiskOrders, is_open as is_open_by, opens_gate, stop_left, fault_left}
@@ -124,7 +124,7 @@ made_at f faults stops (false ∷ calls) k w = if_at f (faults k) (k + 1) (count
 made_at f faults stops (true ∷ calls) k w = if_at f (stops w || faults k) (k + 1) (counts faults stops calls (k + 1) (w + 1)) (made (λ m v. f m) faults stops calls (k + 1) (w + 1)) (made_at f faults stops calls (k + 1) (w + 1))
 
 -- the orders of a plan
-abbrev pub orders_in : Plan → DiskOrders
+abbrev pub orders_in : FaultPlan → DiskOrders
 orders_in plan = record { stop = option_map stop_as plan.stop; fault = plan.fault }
 
 -- the calls of a start before its append
@@ -134,7 +134,7 @@ looks = false ∷ false ∷ false ∷ []
 -- ---- the plan after calls
 
 module _ (stop : Option Stop) (fault : Option ℕ) where
-  abbrev pub after_calls : ℕ → ℕ → Plan
+  abbrev pub after_calls : ℕ → ℕ → FaultPlan
   after_calls k w = record { stopped = false; stop = stop_after w stop; fault = fault_left k fault }
 
   abbrev pub fails_at : ℕ → Bool
@@ -156,8 +156,8 @@ module _ (stop : Option Stop) (fault : Option ℕ) where
 
   pub struck_is : (calls : List Bool) (k w : ℕ) → strikes_any calls (after_calls k w) ≡ hits fails_at stops_at calls k w
   struck_is [] k w = refl
-  struck_is (false ∷ calls) k w = ap (λ (p : Plan). fails_at k || strikes_any calls p) (looked k w) ∙ ap (λ (b : Bool). fails_at k || b) (struck_is calls (k + 1) w)
-  struck_is (true ∷ calls) k w = ap (λ (p : Plan). (stops_at w || fails_at k) || strikes_any calls p) (wrote k w) ∙ by (stops_at w) (struck_is calls (k + 1) (w + 1)) where
+  struck_is (false ∷ calls) k w = ap (λ (p : FaultPlan). fails_at k || strikes_any calls p) (looked k w) ∙ ap (λ (b : Bool). fails_at k || b) (struck_is calls (k + 1) w)
+  struck_is (true ∷ calls) k w = ap (λ (p : FaultPlan). (stops_at w || fails_at k) || strikes_any calls p) (wrote k w) ∙ by (stops_at w) (struck_is calls (k + 1) (w + 1)) where
     by : (b : Bool) → strikes_any calls (after_calls (k + 1) (w + 1)) ≡ hits fails_at stops_at calls (k + 1) (w + 1)
         → ((b || fails_at k) || strikes_any calls (record (after_calls (k + 1) (w + 1)) { stopped = b })) ≡ ((b || fails_at k) || hits fails_at stops_at calls (k + 1) (w + 1))
     by true rest = refl
@@ -165,12 +165,12 @@ module _ (stop : Option Stop) (fault : Option ℕ) where
 
   pub left_is : (calls : List Bool) (k w : ℕ) → orders_in (plan_after calls (after_calls k w)) ≡ made left_after fails_at stops_at calls k w
   left_is [] k w = refl
-  left_is (false ∷ calls) k w = ap (λ (p : Plan). orders_in (if fails_at k then p else plan_after calls p)) (looked k w) ∙ by (fails_at k) (left_is calls (k + 1) w) where
+  left_is (false ∷ calls) k w = ap (λ (p : FaultPlan). orders_in (if fails_at k then p else plan_after calls p)) (looked k w) ∙ by (fails_at k) (left_is calls (k + 1) w) where
     by : (b : Bool) → orders_in (plan_after calls (after_calls (k + 1) w)) ≡ made left_after fails_at stops_at calls (k + 1) w
         → orders_in (if b then after_calls (k + 1) w else plan_after calls (after_calls (k + 1) w)) ≡ (if b then left_after (k + 1) w else made left_after fails_at stops_at calls (k + 1) w)
     by true rest = refl
     by false rest = rest
-  left_is (true ∷ calls) k w = ap (λ (p : Plan). orders_in (if stops_at w || fails_at k then p else plan_after calls p)) (wrote k w) ∙ by (stops_at w) (fails_at k) (left_is calls (k + 1) (w + 1)) where
+  left_is (true ∷ calls) k w = ap (λ (p : FaultPlan). orders_in (if stops_at w || fails_at k then p else plan_after calls p)) (wrote k w) ∙ by (stops_at w) (fails_at k) (left_is calls (k + 1) (w + 1)) where
     by : (b c : Bool) → orders_in (plan_after calls (after_calls (k + 1) (w + 1))) ≡ made left_after fails_at stops_at calls (k + 1) (w + 1)
         → orders_in (if b || c then record (after_calls (k + 1) (w + 1)) { stopped = b } else plan_after calls (record (after_calls (k + 1) (w + 1)) { stopped = b }))
         ≡ (if b || c then left_after (k + 1) (w + 1) else made left_after fails_at stops_at calls (k + 1) (w + 1))
@@ -179,20 +179,20 @@ module _ (stop : Option Stop) (fault : Option ℕ) where
     by false false rest = rest
 
   -- the plan after calls of which none is struck
-  abbrev pub ends : List Bool → ℕ → ℕ → Plan
+  abbrev pub ends : List Bool → ℕ → ℕ → FaultPlan
   ends [] k w = after_calls k w
   ends (false ∷ calls) k w = ends calls (k + 1) w
   ends (true ∷ calls) k w = ends calls (k + 1) (w + 1)
 
   pub passed : (calls : List Bool) (k w : ℕ) → hits fails_at stops_at calls k w ≡ false → plan_after calls (after_calls k w) ≡ ends calls k w
   passed [] k w none = refl
-  passed (false ∷ calls) k w none = ap (λ (p : Plan). if fails_at k then p else plan_after calls p) (looked k w) ∙ by (fails_at k) none (passed calls (k + 1) w) where
+  passed (false ∷ calls) k w none = ap (λ (p : FaultPlan). if fails_at k then p else plan_after calls p) (looked k w) ∙ by (fails_at k) none (passed calls (k + 1) w) where
     by : (b : Bool) → (b || hits fails_at stops_at calls (k + 1) w) ≡ false → (hits fails_at stops_at calls (k + 1) w ≡ false → plan_after calls (after_calls (k + 1) w) ≡ ends calls (k + 1) w)
         → (if b then after_calls (k + 1) w else plan_after calls (after_calls (k + 1) w)) ≡ ends calls (k + 1) w
     by true none rest = absurd cc
     by false none rest = rest none
   passed (true ∷ calls) k w none =
-      ap (λ (p : Plan). if stops_at w || fails_at k then p else plan_after calls p) (wrote k w) ∙ by (stops_at w) (fails_at k) none (passed calls (k + 1) (w + 1)) where
+      ap (λ (p : FaultPlan). if stops_at w || fails_at k then p else plan_after calls p) (wrote k w) ∙ by (stops_at w) (fails_at k) none (passed calls (k + 1) (w + 1)) where
         by : (b c : Bool) → ((b || c) || hits fails_at stops_at calls (k + 1) (w + 1)) ≡ false → (hits fails_at stops_at calls (k + 1) (w + 1) ≡ false → plan_after calls (after_calls (k + 1) (w + 1)) ≡ ends calls (k + 1) (w + 1))
             → (if b || c then record (after_calls (k + 1) (w + 1)) { stopped = b } else plan_after calls (record (after_calls (k + 1) (w + 1)) { stopped = b })) ≡ ends calls (k + 1) (w + 1)
         by true c none rest = absurd cc

@@ -3,7 +3,7 @@ use Rattle.std.proofs.Common.{◌≡◌, ℕ, Bool, true, false, if◌then◌els
 use Rattle.std.proofs.lemmas.List.{length-map}
 use Rattle.tran_ids.proofs.NumberedLemmas.{set_length}
 use Rattle.node_rules.specs.Data.{Input, Place}
-use Rattle.node_rules.specs.NodeState.{NodeState, Outcome}
+use Rattle.node_rules.specs.NodeState.{NodeState, TurnOutput}
 use Rattle.node_rules.specs.Words.{one}
 use Rattle.run_rules.specs.Commands.{orders_after}
 use Rattle.run_rules.specs.Cuts.{Cut_by, By_nothing, By_point, By_strike, appends, appends_if, cut_appends, cut_by, turn_appends}
@@ -36,14 +36,14 @@ module _ (places : List Place) (asked : List Command) where
   cut_count t n writes (By_strike stands) = if_count t n writes
   cut_count t n writes (By_point root numbers stands) = if_count t n stands
 
-  turn_count : (t : RunReport) (n : ℕ) (input : Input) (k : Option NodeState) (out : Option Outcome) → length (turn_appends t n input k out).orders ≡ length t.orders
+  turn_count : (t : RunReport) (n : ℕ) (input : Input) (k : Option NodeState) (out : Option TurnOutput) → length (turn_appends t n input k out).orders ≡ length t.orders
   turn_count t n input (Some k) (Some out) =
       let u = cut_appends t n (is_some out.wrote) (cut_by t n k input out) in
       ap (λ (os : List DiskOrders). length os) (arms_keep u.start_to_stop u.orders u.lines u n k input (refl, refl, refl)).1 ∙ cut_count t n (is_some out.wrote) (cut_by t n k input out)
   turn_count t n input (Some k) None = refl
   turn_count t n input None out = refl
 
-  turned_count : (running : ℕ) (k : Option NodeState) (t : RunReport) (u : Turn) (out : Option Outcome) → length (report_turned running k t u out).orders ≡ length t.orders
+  turned_count : (running : ℕ) (k : Option NodeState) (t : RunReport) (u : Turn) (out : Option TurnOutput) → length (report_turned running k t u out).orders ≡ length t.orders
   turned_count running k t u out =
       let left = turn_appends t u.node u.input k out in
       ap (λ (os : List DiskOrders). length os) (rest_keeps left.start_to_stop left.orders left.lines running left u out (refl, refl, refl)).1 ∙ turn_count t u.node u.input k out

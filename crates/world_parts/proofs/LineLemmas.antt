@@ -4,7 +4,7 @@ use Rattle.std.specs.List.{AllByRecursion}
 use Rattle.node_rules.specs.Data.{Place, Input, Stmt, BranchId}
 use Rattle.node_rules.specs.Data.stmts
 use Rattle.node_rules.specs.Data.inputs
-use Rattle.node_rules.specs.NodeState.{NodeState, Outcome}
+use Rattle.node_rules.specs.NodeState.{NodeState, TurnOutput}
 use Rattle.node_rules.specs.Points.{Point, point_of}
 use Rattle.node_rules.specs.Sessions.{session_at}
 use Rattle.run_rules.specs.Data.{AnswerLine, Command, Finished, Happening, Said, Took, Turn}
@@ -177,7 +177,7 @@ module _ (Q : ℕ → Type 0) (ls : List AnswerLine) where
       either (is_none (session_at k.sessions session).code) _ _ (point_armed t (session_at k.sessions session).root (call_at t n session) (point_of comment) tells) tells
   arms_of t n k _ tells = tells
 
-  appends_of : (t : RunReport) (n : ℕ) (input : Input) (k : Option NodeState) (o : Option Outcome) → Tells t → Tells (turn_appends t n input k o)
+  appends_of : (t : RunReport) (n : ℕ) (input : Input) (k : Option NodeState) (o : Option TurnOutput) → Tells t → Tells (turn_appends t n input k o)
   appends_of t n input (Some k) (Some o) tells = arms_of _ n k input (cut_of t n (is_some o.wrote) (cut_by t n k input o) tells)
   appends_of t n input _ _ tells = tells
 
@@ -188,12 +188,12 @@ module _ (Q : ℕ → Type 0) (ls : List AnswerLine) where
   following_of : (t : RunReport) (input : Input) → Tells t → Tells (without_following t input)
   following_of t input tells = either (is_call input) _ _ (like t _ refl refl refl tells) tells
 
-  ends_calls_of : (running : ℕ) (t : RunReport) (u : Turn) (cut : Bool) (o : Option Outcome) → Tells t → Tells (ends_calls running t u cut o)
+  ends_calls_of : (running : ℕ) (t : RunReport) (u : Turn) (cut : Bool) (o : Option TurnOutput) → Tells t → Tells (ends_calls running t u cut o)
   ends_calls_of running t u true o tells = tells
   ends_calls_of running t u false None tells = tells
   ends_calls_of running t u false (Some o) tells = after_of running _ u.node u.input (finished_of running t u.node o.ended tells)
 
-  turned_of : (running : ℕ) (k : Option NodeState) (t : RunReport) (u : Turn) (o : Option Outcome) → Tells t → Tells (report_turned running k t u o)
+  turned_of : (running : ℕ) (k : Option NodeState) (t : RunReport) (u : Turn) (o : Option TurnOutput) → Tells t → Tells (report_turned running k t u o)
   turned_of running k t u o tells =
       like _ _ refl refl refl (ends_calls_of running _ u u.cut o (following_of _ u.input (more_of _ u.took (appends_of t u.node u.input k o tells))))
 

@@ -4,11 +4,11 @@ use Rattle.std.specs.Prelude.{IfSome, nat_le, nat_lt}
 use Rattle.std.proofs.lemmas.Bool.Decides.{nat_tests}
 use Rattle.block_disk.specs.MemDisk.{DiskState}
 use Rattle.block_disk.specs.Orders.{plan_of}
-use Rattle.block_disk.specs.declared.orders.Orders.{Orders}
-use Rattle.block_disk.specs.Plan.{Plan, after_call, counted_down, left_of, stop_counted_down, strikes}
-use Rattle.block_disk.specs.declared.order.How.{How}
-use Rattle.block_disk.specs.declared.order.How.TheVariants.{Keep, Leave}
-use Rattle.block_disk.specs.declared.order.Stop.{Stop}
+use Rattle.block_disk.specs.declared.faults.DiskFaults.{DiskFaults}
+use Rattle.block_disk.specs.Plan.{FaultPlan, after_call, counted_down, left_of, stop_counted_down, strikes}
+use Rattle.block_disk.specs.declared.fault.How.{How}
+use Rattle.block_disk.specs.declared.fault.How.TheVariants.{Keep, Leave}
+use Rattle.block_disk.specs.declared.fault.Stop.{Stop}
 use Rattle.redo_log.specs.Plans.{CallsGoByPlan, append_calls, plan_after, strikes_any}
 use Rattle.redo_log.specs.Stands.{is_open, stands_by}
 use Rattle.run_rules.specs.Data.hows
@@ -16,7 +16,7 @@ use Rattle.run_rules.specs.Disks.{DiskOrders, Strike, after_append, opens_gate, 
 use Rattle.world_parts.specs.Orders.{HasOrders, OrdersLeft, how_as, stop_as}
 
 -- a plan that is not stopped, and its orders as the definitions have them
-abbrev plan : Option Stop → Option ℕ → Plan
+abbrev plan : Option Stop → Option ℕ → FaultPlan
 plan stop fault = record { stopped = false; stop = stop; fault = fault }
 
 abbrev told : Option Stop → Option ℕ → DiskOrders
@@ -162,7 +162,7 @@ agrees (Some s) fault write call = at_write s.how s.write write fault call
 -- ---- orders stay for calls to come
 
 -- Each order of a plan is for a write or a call to come.
-record Ahead (p : Plan) : Type 0 where
+record Ahead (p : FaultPlan) : Type 0 where
   write : IfSome p.stop (λ s. 1 ≤ s.write)
   call : IfSome p.fault (λ c. 1 ≤ c)
 
@@ -182,15 +182,15 @@ write_ahead (Some s) ahead = by (s.write == 1) refl
     by true is = tt
     by false is = let n = s.write in grind (arith, nat_tests)
 
-either_ahead : (b : Bool) (p q : Plan) → Ahead p → Ahead q → Ahead (if b then p else q)
+either_ahead : (b : Bool) (p q : FaultPlan) → Ahead p → Ahead q → Ahead (if b then p else q)
 either_ahead true p q first second = first
 either_ahead false p q first second = second
 
-after_ahead : (p : Plan) (is_write : Bool) → Ahead p → Ahead (after_call p is_write)
+after_ahead : (p : FaultPlan) (is_write : Bool) → Ahead p → Ahead (after_call p is_write)
 after_ahead p true ahead = either_ahead p.stopped p _ ahead (record { write = write_ahead p.stop ahead.write; call = call_ahead p.fault ahead.call })
 after_ahead p false ahead = either_ahead p.stopped p _ ahead (record { write = ahead.write; call = call_ahead p.fault ahead.call })
 
-all_ahead : (calls : List Bool) (p : Plan) → Ahead p → Ahead (plan_after calls p)
+all_ahead : (calls : List Bool) (p : FaultPlan) → Ahead p → Ahead (plan_after calls p)
 all_ahead [] p ahead = ahead
 all_ahead (is_write ∷ calls) p ahead = either_ahead (strikes p is_write) _ _ (after_ahead p is_write ahead) (all_ahead calls (after_call p is_write) (after_ahead p is_write ahead))
 
@@ -204,19 +204,19 @@ some_of : (o : Option Strike) (b : Bool) → is_some o ≡ true → stands_at o 
 some_of None b is stands = absurd cc
 some_of (Some s) b is stands = (s, refl, stands)
 
-plan_same : (a b : Plan) → Some a ≡ Some b → a ≡ b
+plan_same : (a b : FaultPlan) → Some a ≡ Some b → a ≡ b
 plan_same a b is = cc
 
 -- the orders of a plan are those of the disk that shows it
-left_by : (d : DiskOrders) (orders : Orders) (p : Plan) → plan_of orders ≡ p → told p.stop p.fault ≡ d → Ahead p → OrdersLeft d orders
+left_by : (d : DiskOrders) (orders : DiskFaults) (p : FaultPlan) → plan_of orders ≡ p → told p.stop p.fault ≡ d → Ahead p → OrdersLeft d orders
 left_by d orders p is are ahead = record {
-  are = ap (λ (x : Plan). told x.stop x.fault) is ∙ are;
-  write = subst (λ (x : Plan). IfSome x.stop (λ s. 1 ≤ s.write)) (sym is) ahead.write;
-  call = subst (λ (x : Plan). IfSome x.fault (λ c. 1 ≤ c)) (sym is) ahead.call;
+  are = ap (λ (x : FaultPlan). told x.stop x.fault) is ∙ are;
+  write = subst (λ (x : FaultPlan). IfSome x.stop (λ s. 1 ≤ s.write)) (sym is) ahead.write;
+  call = subst (λ (x : FaultPlan). IfSome x.fault (λ c. 1 ≤ c)) (sym is) ahead.call;
 }
 
 module _ (d : DiskOrders) (before after : DiskState) (has : HasOrders d before) where
-  abbrev p : Plan
+  abbrev p : FaultPlan
   p = plan before.orders.stop before.orders.fault
 
   plan_is : plan_of before.orders ≡ p
@@ -229,7 +229,7 @@ module _ (d : DiskOrders) (before after : DiskState) (has : HasOrders d before) 
   pub same_plan : Some (plan_of after.orders) ≡ Some (plan_of before.orders) → HasOrders d after
   same_plan same =
       let is : plan_of after.orders ≡ p = plan_same (plan_of after.orders) (plan_of before.orders) same ∙ plan_is in
-      record { running = ap (λ (x : Plan). x.stopped) is; left = left_by d after.orders p is has.left.are (record { write = has.left.write; call = has.left.call }) }
+      record { running = ap (λ (x : FaultPlan). x.stopped) is; left = left_by d after.orders p is has.left.are (record { write = has.left.write; call = has.left.call }) }
 
   struck_is : struck 0 d ≡ struck 0 (told before.orders.stop before.orders.fault)
   struck_is = ap (struck 0) (sym has.left.are)
@@ -258,7 +258,7 @@ module _ (d : DiskOrders) (before after : DiskState) (has : HasOrders d before) 
   pub spared : CallsGoByPlan append_calls (Some (plan_of before.orders)) (Some (plan_of after.orders)) false → HasOrders (after_append 0 d) after
   spared goes =
       let runs : (plan_after append_calls p).stopped ≡ false = sym (ap (λ (b : Bool). if b then false else (plan_after append_calls p).stopped) (strikes_so false goes)) ∙ both.runs in
-      record { running = ap (λ (x : Plan). x.stopped) (after_is goes.0) ∙ runs; left = left_over goes.0 }
+      record { running = ap (λ (x : FaultPlan). x.stopped) (after_is goes.0) ∙ runs; left = left_over goes.0 }
 
   -- an order strikes an append that fails, and the record stands or not
   pub one_strike : CallsGoByPlan append_calls (Some (plan_of before.orders)) (Some (plan_of after.orders)) true

@@ -2,20 +2,20 @@
 -- left, and the record stands in the same cases.
 use Rattle.std.proofs.Common.{◌≡◌, ◌+◌, ◌-◌, ◌≤◌, ◌==◌, ◌||◌, if◌then◌else◌, nat_lt, ℕ, Bool, true, false, List, [], ◌∷◌, ◌++◌, option_map, is_some, IfSome, Option, Some, None, refl, sym, ◌∙◌, ap, subst, arith}
 use Rattle.std.proofs.lemmas.Bool.Decides.{nat_tests}
-use Rattle.block_disk.specs.Plan.{Plan, is_next, write_of, left_by_stop}
-use Rattle.block_disk.specs.declared.order.Stop.{Stop}
+use Rattle.block_disk.specs.Plan.{FaultPlan, is_next, write_of, left_by_stop}
+use Rattle.block_disk.specs.declared.fault.Stop.{Stop}
 use Rattle.redo_log.specs.Plans.{plan_after, strikes_any, append_calls, CallsGoByPlan}
 use Rattle.redo_log.specs.Stands.{is_open, body_calls, stands_by, stands_after}
 use Rattle.run_rules.specs.Disks.{DiskOrders, Stop_order, struck, stop_left, fault_left, writes_by, calls_made, orders_left, after_append}
 use Rattle.world_parts.specs.Orders.{stop_as, orders_as, OrdersLeft}
 use Rattle.block_disk.specs.Orders.{plan_of}
-use Rattle.block_disk.specs.declared.orders.Orders.{Orders}
+use Rattle.block_disk.specs.declared.faults.DiskFaults.{DiskFaults}
 use Rattle.world_parts.specs.Orders.{stands_in}
 use Rattle.world_parts.proofs.CallRuns.{after_calls, counts, counts_same, either_same, ends_running, fails_at, gate_at, gate_left, hits, hits_same, left_after, left_is, looks, made, made_at, next_fault, next_stop, orders_in, passed, stands_after_is, stands_at, stands_is, stop_after, stop_left_as, stops_at, struck_is}
 
 -- ---- which calls are struck, in numbers
 
-pub some_plan : (p q : Plan) → Some p ≡ Some q → p ≡ q
+pub some_plan : (p q : FaultPlan) → Some p ≡ Some q → p ≡ q
 some_plan p q same = cc
 
 abbrev fault_test : Option ℕ → ℕ → Bool
@@ -108,7 +108,7 @@ stop_comes None o is low = tt
 stop_comes (Some s) o is low = subst (λ (x : Option Stop_order). IfSome x (λ y. 1 ≤ y.write)) (sym is) low
 
 -- orders after calls of which so many were writes
-orders_left_as : (orders after : Orders) (before calls : ℕ) → orders_as after ≡ orders_left before (orders_as orders) calls → OrdersLeft (orders_left before (orders_as orders) calls) after
+orders_left_as : (orders after : DiskFaults) (before calls : ℕ) → orders_as after ≡ orders_left before (orders_as orders) calls → OrdersLeft (orders_left before (orders_as orders) calls) after
 orders_left_as orders after before calls is = record {
   are = is;
   write = stop_comes after.stop (stop_left (writes_by before calls) (option_map stop_as orders.stop)) (ap (λ (d : DiskOrders). d.stop) is) (stop_to_come (writes_by before calls) (option_map stop_as orders.stop));
@@ -127,12 +127,12 @@ fault_waits None low = refl
 fault_waits (Some c) low = grind (arith, nat_tests)
 
 -- What calls that go by the plan come to, where an append is behind so many of them.
-pub record GoAs (before : ℕ) (d : DiskOrders) (after : Orders) (fails : Bool) : Type 0 where
+pub record GoAs (before : ℕ) (d : DiskOrders) (after : DiskFaults) (fails : Bool) : Type 0 where
   pub struck : is_some (struck before d) ≡ fails
   pub left : OrdersLeft (after_append before d) after
   pub running : fails ≡ false → after.stopped ≡ false
 
-module _ (orders after : Orders) (running : orders.stopped ≡ false) (d : DiskOrders) (left : OrdersLeft d orders) where
+module _ (orders after : DiskFaults) (running : orders.stopped ≡ false) (d : DiskOrders) (left : OrdersLeft d orders) where
   begun : plan_of orders ≡ after_calls orders.stop orders.fault 0 0
   begun =
       ap (λ (b : Bool). record { stopped = b; stop = orders.stop; fault = orders.fault }) running
@@ -156,15 +156,15 @@ module _ (orders after : Orders) (running : orders.stopped ≡ false) (d : DiskO
 
   hits_are : (calls : List Bool) → strikes_any calls (plan_of orders) ≡ hits faults stops calls 0 0
   hits_are calls =
-      ap (λ (p : Plan). strikes_any calls p) begun
+      ap (λ (p : FaultPlan). strikes_any calls p) begun
       ∙ struck_is orders.stop orders.fault calls 0 0
       ∙ hits_same (fails_at orders.stop orders.fault) (stops_at orders.stop orders.fault) faults stops faults_are stops_are calls 0 0
 
   goes_on : (calls : List Bool) → plan_of after ≡ plan_after calls (plan_of orders) → strikes_any calls (plan_of orders) ≡ false → after.stopped ≡ false
   goes_on calls now none =
-      ap (λ (p : Plan). p.stopped) now
-      ∙ ap (λ (p : Plan). (plan_after calls p).stopped) begun
-      ∙ ap (λ (p : Plan). p.stopped) (passed orders.stop orders.fault calls 0 0 (sym (struck_is orders.stop orders.fault calls 0 0) ∙ (sym (ap (λ (p : Plan). strikes_any calls p) begun) ∙ none)))
+      ap (λ (p : FaultPlan). p.stopped) now
+      ∙ ap (λ (p : FaultPlan). (plan_after calls p).stopped) begun
+      ∙ ap (λ (p : FaultPlan). p.stopped) (passed orders.stop orders.fault calls 0 0 (sym (struck_is orders.stop orders.fault calls 0 0) ∙ (sym (ap (λ (p : FaultPlan). strikes_any calls p) begun) ∙ none)))
       ∙ ends_running orders.stop orders.fault calls 0 0
 
   -- the orders are those after so many calls
@@ -174,8 +174,8 @@ module _ (orders after : Orders) (running : orders.stopped ≡ false) (d : DiskO
       → counts faults stops calls 0 0 ≡ calls_made before (struck before here)
       → plan_of after ≡ plan_after calls (plan_of orders) → orders_as after ≡ orders_left before here (calls_made before (struck before here))
   leaves before calls writes made_so now =
-      ap (λ (p : Plan). orders_in p) now
-      ∙ ap (λ (p : Plan). orders_in (plan_after calls p)) begun
+      ap (λ (p : FaultPlan). orders_in p) now
+      ∙ ap (λ (p : FaultPlan). orders_in (plan_after calls p)) begun
       ∙ left_is orders.stop orders.fault calls 0 0
       ∙ writes
       ∙ made_at (λ k. left_after orders.stop orders.fault k (writes_by before k)) (fails_at orders.stop orders.fault) (stops_at orders.stop orders.fault) calls 0 0
@@ -220,7 +220,7 @@ module _ (stop : Option Stop) (fault : Option ℕ) where
       ∙ ap (λ (b : Bool). if hits (fault_test fault) (stop_test (option_map stop_as stop)) body_calls k 0 then false
       else (if stop_test (option_map stop_as stop) 1 || fault_test fault (k + 1 + 1) then b else true)) (gate_same stop)
 
-module _ (orders : Orders) (running : orders.stopped ≡ false) (d : DiskOrders) (left : OrdersLeft d orders) where
+module _ (orders : DiskFaults) (running : orders.stopped ≡ false) (d : DiskOrders) (left : OrdersLeft d orders) where
   -- the record of an append stands where the definitions of a run say so
   pub append_stands : stands_by (plan_of orders) ≡ stands_in (struck 0 d)
   append_stands =
@@ -233,7 +233,7 @@ module _ (orders : Orders) (running : orders.stopped ≡ false) (d : DiskOrders)
   -- and the record of a start
   pub start_stands : stands_after looks (plan_of orders) ≡ stands_in (struck 3 d)
   start_stands =
-      ap (λ (p : Plan). stands_after looks p) (begun orders orders running d left)
+      ap (λ (p : FaultPlan). stands_after looks p) (begun orders orders running d left)
       ∙ stands_after_is orders.stop orders.fault
       ∙ ap (λ (b : Bool). if b then false else stands_at orders.stop orders.fault 3)
       (hits_same (fails_at orders.stop orders.fault) (stops_at orders.stop orders.fault) (fault_test orders.fault) (stop_test (option_map stop_as orders.stop)) (fails_same orders.fault) (stops_same orders.stop) looks 0 0)

@@ -4,7 +4,7 @@ use Rattle.std.proofs.Common.{◌≡◌, ◌==◌, ◌&&◌, ℕ, Bool, true, fa
 use Rattle.node_rules.specs.Data.{Input, Place, Stmt}
 use Rattle.node_rules.specs.Data.inputs
 use Rattle.node_rules.specs.Data.stmts
-use Rattle.node_rules.specs.NodeState.{NodeState, Outcome}
+use Rattle.node_rules.specs.NodeState.{NodeState, TurnOutput}
 use Rattle.node_rules.specs.Points.{Point, point_of}
 use Rattle.node_rules.specs.Sessions.{session_at}
 use Rattle.tran_ids.specs.declared.branch.BranchId.{BranchId}
@@ -100,24 +100,24 @@ module _ (o : Option ℕ) (d : List DiskOrders) (ls : List AnswerLine) where
   took_keeps t None has = has
   took_keeps t (Some took) has = has
 
-  ends_keep : (running : ℕ) (t : RunReport) (u : Turn) (cut : Bool) (out : Option Outcome) → Has t → Has (ends_calls running t u cut out)
+  ends_keep : (running : ℕ) (t : RunReport) (u : Turn) (cut : Bool) (out : Option TurnOutput) → Has t → Has (ends_calls running t u cut out)
   ends_keep running t u true out has = has
   ends_keep running t u false None has = has
   ends_keep running t u false (Some out) has = input_keeps running (finished running t u.node out.ended) u.node u.input (finished_keeps running t u.node out.ended has)
 
   -- what is left of a turn, behind its append and its points
-  pub rest_keeps : (running : ℕ) (t : RunReport) (u : Turn) (out : Option Outcome) → Has t → Has (acts (ends_calls running (without_following (delivered_more t u.took) u.input) u u.cut out))
+  pub rest_keeps : (running : ℕ) (t : RunReport) (u : Turn) (out : Option TurnOutput) → Has t → Has (acts (ends_calls running (without_following (delivered_more t u.took) u.input) u u.cut out))
   rest_keeps running t u out has =
       let took = took_keeps t u.took has in
       ends_keep running (without_following (delivered_more t u.took) u.input) u u.cut out (either (is_call u.input) _ _ took took)
 
   -- a turn, behind its append
-  pub turn_keeps : (running : ℕ) (k : NodeState) (t : RunReport) (u : Turn) (out : Outcome) → Has (cut_appends t u.node (is_some out.wrote) (cut_by t u.node k u.input out)) → Has (report_turned running (Some k) t u (Some out))
+  pub turn_keeps : (running : ℕ) (k : NodeState) (t : RunReport) (u : Turn) (out : TurnOutput) → Has (cut_appends t u.node (is_some out.wrote) (cut_by t u.node k u.input out)) → Has (report_turned running (Some k) t u (Some out))
   turn_keeps running k t u out has =
       let armed : Has (turn_appends t u.node u.input (Some k) (Some out)) = arms_keep (cut_appends t u.node (is_some out.wrote) (cut_by t u.node k u.input out)) u.node k u.input has in
       rest_keeps running (turn_appends t u.node u.input (Some k) (Some out)) u (Some out) armed
 
-module _ (running : ℕ) (k : NodeState) (t : RunReport) (u : Turn) (out : Outcome) where
+module _ (running : ℕ) (k : NodeState) (t : RunReport) (u : Turn) (out : TurnOutput) where
   abbrev left : RunReport
   left = cut_appends t u.node (is_some out.wrote) (cut_by t u.node k u.input out)
 
@@ -134,7 +134,7 @@ module _ (running : ℕ) (k : NodeState) (t : RunReport) (u : Turn) (out : Outco
   lines_stay = (turn_keeps left.start_to_stop left.orders left.lines running k t u out (refl, refl, refl)).2 ∙ (cut_left t u.node (is_some out.wrote) (cut_by t u.node k u.input out)).1
 
 -- whatever a turn was, the lines of the commands before stay
-pub turn_lines : (running : ℕ) (k : Option NodeState) (t : RunReport) (u : Turn) (out : Option Outcome) → (report_turned running k t u out).lines ≡ t.lines
+pub turn_lines : (running : ℕ) (k : Option NodeState) (t : RunReport) (u : Turn) (out : Option TurnOutput) → (report_turned running k t u out).lines ≡ t.lines
 turn_lines running (Some k) t u (Some out) = lines_stay running k t u out
 turn_lines running (Some k) t u None = (rest_keeps t.start_to_stop t.orders t.lines running t u None (refl, refl, refl)).2
 turn_lines running None t u out = (rest_keeps t.start_to_stop t.orders t.lines running t u out (refl, refl, refl)).2

@@ -1,12 +1,12 @@
 -- The orders of a node's disk, as the definitions of a run have them.
 use Rattle.std.specs.Prelude.{◌≡◌, ◌≤◌, ◌==◌, ℕ, Bool, true, false, if◌then◌else◌, option_map, Option, Some, None, IfSome}
 use Rattle.block_disk.specs.MemDisk.{DiskState}
-use Rattle.block_disk.specs.declared.order.How.{How}
-use Rattle.block_disk.specs.declared.order.How.TheVariants.{Keep, Leave}
-use Rattle.block_disk.specs.declared.order.Order.{Order}
-use Rattle.block_disk.specs.declared.order.Order.TheVariants as orders
-use Rattle.block_disk.specs.declared.order.Stop.{Stop}
-use Rattle.block_disk.specs.declared.orders.Orders.{Orders}
+use Rattle.block_disk.specs.declared.fault.How.{How}
+use Rattle.block_disk.specs.declared.fault.How.TheVariants.{Keep, Leave}
+use Rattle.block_disk.specs.declared.fault.DiskFault.{DiskFault}
+use Rattle.block_disk.specs.declared.fault.DiskFault.TheVariants as orders
+use Rattle.block_disk.specs.declared.fault.Stop.{Stop}
+use Rattle.block_disk.specs.declared.faults.DiskFaults.{DiskFaults}
 use Rattle.run_rules.specs.Data.{Command, How as HowByRules}
 use Rattle.run_rules.specs.Data.commands
 use Rattle.run_rules.specs.Data.hows
@@ -23,11 +23,11 @@ abbrev pub stop_as : Stop → Stop_order
 stop_as stop = record { write = stop.write; opens = opens_gate (how_as stop.how) }
 
 -- the orders
-abbrev pub orders_as : Orders → DiskOrders
+abbrev pub orders_as : DiskFaults → DiskOrders
 orders_as orders = record { stop = option_map stop_as orders.stop; fault = orders.fault }
 
--- Orders that are these, each for a write or a call to come.
-pub record OrdersLeft (d : DiskOrders) (orders : Orders) : Type 0 where
+-- DiskFaults that are these, each for a write or a call to come.
+pub record OrdersLeft (d : DiskOrders) (orders : DiskFaults) : Type 0 where
   pub are : orders_as orders ≡ d
   pub write : IfSome orders.stop (λ s. 1 ≤ s.write)
   pub call : IfSome orders.fault (λ c. 1 ≤ c)
@@ -53,12 +53,12 @@ stands_in None = true
 stands_in (Some s) = s.stands
 
 -- the orders of a disk with one more, in place of an earlier one of its kind
-abbrev pub armed : Order → DiskOrders → DiskOrders
+abbrev pub armed : DiskFault → DiskOrders → DiskOrders
 armed (orders.Stop stop) d = record d { stop = Some (stop_as stop) }
 armed (orders.Fault call) d = record d { fault = Some call }
 
 -- an order for a write or a call to come
-abbrev pub IsToCome : Order → Type 0
+abbrev pub IsToCome : DiskFault → Type 0
 IsToCome (orders.Stop stop) = 1 ≤ stop.write
 IsToCome (orders.Fault call) = 1 ≤ call
 

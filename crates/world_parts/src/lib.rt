@@ -1,7 +1,7 @@
 //! The parts of the world of a run that know no node: the words in which the world answers a command, what SHOW DISK has shown,
 //! the order that a command gives, how often each node has started, and the messages of the network by their numbers.
 //!
-//! Each call gives exactly what the definitions of a run say of its part. `specs/Orders.antt` says which orders of a disk are those
+//! Each call gives exactly what the definitions of a run say of its part. `specs/DiskFaults.antt` says which orders of a disk are those
 //! of these definitions. What allocates fails where memory runs out, and for no other reason.
 #![tactic(auto)]
 

@@ -13,4 +13,4 @@ turn-requires-clause-spellable c =
 pub returns-in-Ok-clause-alone : goal.returns-in-Ok-clause-alone
 returns-in-Ok-clause-alone c =
     still_alone c.messages_fit.ensures.turns c.turns_stay_ready.ensures.numbers c.args.bound c.args.asks c.args.node.now c.turn.new.self c.args.incoming c.in-Ok.effects c.requires.alone c.requires.few c.requires.coming c.requires.meets
-    c.in-Ok.ensures.input c.in-Ok.ensures.tells c.in-Ok.ensures.running c.in-Ok.ensures.ready c.turn.ensures.place c.turn.ensures.startable
+    c.in-Ok.ensures.told.input c.in-Ok.ensures.told.tells c.in-Ok.ensures.next.running c.in-Ok.ensures.next.ready c.turn.ensures.place c.turn.ensures.startable

@@ -1,7 +1,7 @@
 -- The Exec goes to the child, and the branch waits for its Reply.
 use Rattle.std.proofs.Common.{sym}
 use Rattle.node_memory.specs.Parts.{kept_in}
-use Rattle.node_calls.proofs.DeedLaws.{called_so}
+use Rattle.node_calls.proofs.DraftLaws.{called_so}
 use Rattle.node_calls.proofs.calling.call_over.Goals as goal
 
 pub returns-in-Ok-call_over-clause-gives : goal.returns-in-Ok-call_over-clause-gives

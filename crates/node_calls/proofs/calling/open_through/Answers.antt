@@ -1,7 +1,7 @@
 -- Open goes to the node of the link, and the branch waits for Opened.
 use Rattle.std.proofs.Common.{sym}
 use Rattle.node_memory.specs.Parts.{kept_in}
-use Rattle.node_calls.proofs.DeedLaws.{opened_so}
+use Rattle.node_calls.proofs.DraftLaws.{opened_so}
 use Rattle.node_calls.proofs.calling.open_through.Goals as goal
 
 pub returns-in-Ok-wait_for_opened-clause-gives : goal.returns-in-Ok-wait_for_opened-clause-gives

@@ -3,7 +3,7 @@ use Rattle.std.specs.Prelude.{IfOk}
 use Rattle.session_tree.specs.declared.act.Act.{Act}
 use Rattle.node_memory.specs.Parts.{kept_in}
 use Rattle.node_rules.specs.Prepare.{act_turn}
-use Rattle.node_deeds.specs.Gives.{Gives}
+use Rattle.node_drafts.specs.Gives.{Gives}
 use Rattle.node_commit.specs.Branches.{at_live}
 use Rattle.node_commit.proofs.PrepareLemmas.{for_each}
 use Rattle.node_commit.proofs.preparing.act_turn.Goals as goal
@@ -16,5 +16,5 @@ returns-in-Rest-clause-gives c =
 pub returns-in-SayReady-clause-gives : goal.returns-in-SayReady-clause-gives
 returns-in-SayReady-clause-gives c =
     let k = kept_in c.args.memory.now in
-    subst (λ (a : Act). IfOk c.says_ready.result (λ deed. Gives (at_live k c.args.branch.now (λ l. act_turn k l c.args.site_below a)) (kept_in c.says_ready.new.memory) deed)) (sym c.in-SayReady.is)
+    subst (λ (a : Act). IfOk c.says_ready.result (λ draft. Gives (at_live k c.args.branch.now (λ l. act_turn k l c.args.site_below a)) (kept_in c.says_ready.new.memory) draft)) (sym c.in-SayReady.is)
     (for_each c.says_ready.result _ c.args.site_below c.says_ready.ensures.gives)

@@ -1,5 +1,5 @@
 use Rattle.std.proofs.Common.{sym, subst}
-use Rattle.node_deeds.specs.Gives.{Gives}
+use Rattle.node_drafts.specs.Gives.{Gives}
 use Rattle.node_commit.proofs.PrepareLemmas.{rest_is}
 use Rattle.node_commit.proofs.preparing.rests.Goals as goal
 

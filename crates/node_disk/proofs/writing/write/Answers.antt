@@ -13,7 +13,7 @@ returns-in-Ok-clause-any_start g c s stands next =
 pub returns-in-Ok-clause-stands : goal.returns-in-Ok-clause-stands
 returns-in-Ok-clause-stands g c s t stands next stores =
     let d = g.D.Disk in
-    stands_next c.records_follow.ensures.acks (d.content (disk_of c.args.log.now)) (d.content (disk_of c.put.new.log)) s t c.args.effects.wrote stands next stores c.in-Ok.ensures.stored
+    stands_next c.records_follow.ensures.acks (d.content (disk_of c.args.log.now)) (d.content (disk_of c.put.new.log)) s t c.args.effects.wrote stands next stores c.in-Ok.ensures.written.stored
 
 pub returns-in-Err-Cut-clause-any_start : goal.returns-in-Err-Cut-clause-any_start
 returns-in-Err-Cut-clause-any_start g c s stands next =

@@ -1,6 +1,6 @@
 use Rattle.std.proofs.Common.{◌≡◌, ◌≤◌, ◌<◌, ◌++◌, if◌then◌else◌, take, drop, set, length, take-append-drop, sym, ap, subst, ◌∙◌, arith}
 use Rattle.std.proofs.lemmas.List.Edits.{map_over_more}
-use Rattle.redo_record.specs.Data.{Standing}
+use Rattle.redo_record.specs.Data.{KeptRow}
 use Rattle.redo_record.specs.Kept.{stands_at}
 use Rattle.redo_record.specs.Lists.{change_where}
 use Rattle.redo_record.specs.News.{with_news}
@@ -24,7 +24,7 @@ loop-place-init c =
 
 pub loop-place-preserved : goal.loop-place-preserved
 loop-place-preserved c =
-    let told = λ (row : Standing). if stands_at c.args.me.now row then with_news c.args.news row else row in
+    let told = λ (row : KeptRow). if stands_at c.args.me.now row then with_news c.args.news row else row in
     let more = c.loop-place-test.true in
     let within = c.place_of-place-end.ensures.within in
     let inside : c.loop-place.place < length c.args.kept.now = omega arith in (

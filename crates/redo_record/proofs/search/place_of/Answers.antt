@@ -2,7 +2,7 @@ use Rattle.std.proofs.Common.{◌≡◌, rules, true, false, not, get_or, arith}
 use Rattle.std.proofs.lemmas.List.Sorted.{IsPartitionPoint-from_clause}
 use Rattle.std.specs.List.Sorted.{IsPartitionedBy}
 use Rattle.tran_ids.specs.Branch.{branch_below}
-use Rattle.redo_record.specs.declared.durable.Standing.{Standing}
+use Rattle.redo_record.specs.declared.durable.KeptRow.{KeptRow}
 use Rattle.redo_record.proofs.InOrder.{in_order_at, not_before_front}
 use Rattle.redo_record.proofs.Searched.{point_is, not_true, not_false}
 use Rattle.redo_record.proofs.search.place_of.Goals as goal
@@ -11,8 +11,8 @@ pub returns-clause-first : goal.returns-clause-first
 returns-clause-first c =
     let me = c.args.me.now in
     let rows = c.args.rows.now in
-    let parted : IsPartitionedBy (λ (row : Standing). not (branch_below me row.me)) rows =
+    let parted : IsPartitionedBy (λ (row : KeptRow). not (branch_below me row.me)) rows =
     λ i j d le lt up. not_before_front me (get_or rows i d).me (get_or rows j d).me (in_order_at rows c.requires i j d le lt) up in
-    let point = IsPartitionPoint-from_clause (λ (row : Standing). not (branch_below me row.me)) rows c.partition_point.result c.partition_point.ensures.partitioned parted (λ a r q k. search rules) in
-    point_is (λ (row : Standing). branch_below me row.me) rows c.partition_point.result c.partition_point.ensures.bound
+    let point = IsPartitionPoint-from_clause (λ (row : KeptRow). not (branch_below me row.me)) rows c.partition_point.result c.partition_point.ensures.partitioned parted (λ a r q k. search rules) in
+    point_is (λ (row : KeptRow). branch_below me row.me) rows c.partition_point.result c.partition_point.ensures.bound
     (λ k d lt. not_true (branch_below me (get_or rows k d).me) (point.0 k d (omega arith) lt)) (λ k d ge lt. not_false (branch_below me (get_or rows k d).me) (point.1 k d ge lt))

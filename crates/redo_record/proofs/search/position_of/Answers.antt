@@ -1,6 +1,6 @@
 use Rattle.std.proofs.Common.{◌≡◌, ℕ, ◌+◌, Option, Some, None, position, take, drop, sym, ap, subst, ◌∙◌}
 use Rattle.std.specs.Option.{option_map}
-use Rattle.redo_record.specs.declared.durable.Standing.{Standing}
+use Rattle.redo_record.specs.declared.durable.KeptRow.{KeptRow}
 use Rattle.redo_record.specs.Order.{AreInOrder}
 use Rattle.redo_record.specs.Leaving.{leaves}
 use Rattle.redo_record.proofs.InOrder.{take_in_order}

@@ -1,6 +1,8 @@
 -- What is proved of the disk's content holds of the log's bodies, since the log was settled.
 use Rattle.std.proofs.Common.{◌∙◌, refl, arith}
 use Rattle.redo_log.proofs.Appended.{at_start, with_room, while_stored, stored, exact, settled_again, left}
+use Rattle.redo_log.specs.Plans.{append_calls}
+use Rattle.redo_log.proofs.Runs.{run_with_room, fault_with_room}
 use Rattle.redo_log.proofs.log.Log.append.Goals as goal
 
 pub returns-then-body-gt-MAX_BODY-clause-any_moment : goal.returns-then-body-gt-MAX_BODY-clause-any_moment
@@ -27,19 +29,32 @@ returns-clause-any_moment g c =
     λ intact. while_stored _ _ _ (c.requires.usable intact) _ _ _ (g.met.D.Disk.only_now _) _ _ _ c.room.ensures.images c.room.ensures.time
     c.room.ensures.content (c.deref.ensures.value ∙ c.in_ok-behind.ensures) (omega arith) c.store.ensures.any_moment
 
-pub returns-in-Ok-clause-stored : goal.returns-in-Ok-clause-stored
-returns-in-Ok-clause-stored g c =
-    stored _ _ _ (c.requires.usable c.if-self.false) _ _ _ _ c.room.ensures.content (c.deref.ensures.value ∙ c.in_ok-behind.ensures) (omega arith) c.in-Ok.ensures.stored
+pub returns-in-Ok-clause-acknowledged : goal.returns-in-Ok-clause-acknowledged
+returns-in-Ok-clause-acknowledged g c =
+    let is = c.requires.usable c.if-self.false in
+    let staged = c.deref.ensures.value ∙ c.in_ok-behind.ensures in
+    record {
+      grows = record {
+        fits = omega arith;
+        stored = stored _ _ _ is _ _ _ _ c.room.ensures.content staged (omega arith) c.in-Ok.ensures.stored;
+        exact = exact _ _ _ is _ _ _ _ c.room.ensures.content staged (omega arith) c.in-Ok.ensures.stored;
+      };
+      durable = c.in-Ok.ensures.durable;
+      run = run_with_room g.D.Disk _ _ _ append_calls c.room.ensures.faults c.room.ensures.calls c.room.ensures.writes c.room.ensures.plan c.in-Ok.ensures.run;
+    }
 
-pub returns-in-Ok-clause-usable : goal.returns-in-Ok-clause-usable
-returns-in-Ok-clause-usable g c =
-    λ intact. settled_again _ _ _ (c.requires.usable intact) _ _ _ _ c.room.ensures.content (c.deref.ensures.value ∙ c.in_ok-behind.ensures) (omega arith) c.in-Ok.ensures.stored
-    _ refl (omega (arith, c.in-Some.ensures)) c.in-Ok.ensures.durable
+pub returns-clause-failed : goal.returns-clause-failed
+returns-clause-failed g c =
+    λ failed intact. record {
+      run = fault_with_room g.D.Disk _ _ _ append_calls c.room.ensures.faults c.room.ensures.calls c.room.ensures.writes c.room.ensures.plan c.in-Err.ensures.failed;
+      left = left g.D.Disk.content g.D.Disk.images _ (c.requires.usable intact) _ _ _ _ _ _ c.room.ensures.plan c.room.ensures.content (c.deref.ensures.value ∙ c.in_ok-behind.ensures) (omega arith) c.in-Err.ensures.left;
+    }
 
-pub returns-in-Ok-clause-exact : goal.returns-in-Ok-clause-exact
-returns-in-Ok-clause-exact g c =
-    exact _ _ _ (c.requires.usable c.if-self.false) _ _ _ _ c.room.ensures.content (c.deref.ensures.value ∙ c.in_ok-behind.ensures) (omega arith) c.in-Ok.ensures.stored
-
-pub returns-clause-left : goal.returns-clause-left
-returns-clause-left g c =
-    λ failed intact. left g.D.Disk.content g.D.Disk.images _ (c.requires.usable intact) _ _ _ _ _ _ c.room.ensures.plan c.room.ensures.content (c.deref.ensures.value ∙ c.in_ok-behind.ensures) (omega arith) c.in-Err.ensures.left
+pub returns-in-Ok-clause-after : goal.returns-in-Ok-clause-after
+returns-in-Ok-clause-after g c = record {
+  usable = λ intact. settled_again _ _ _ (c.requires.usable intact) _ _ _ _ c.room.ensures.content (c.deref.ensures.value ∙ c.in_ok-behind.ensures) (omega arith) c.in-Ok.ensures.stored
+      _ refl (omega (arith, c.in-Some.ensures)) c.in-Ok.ensures.durable;
+  breaks = c.if-self.false;
+  stays_broken = λ is. absurd (cc);
+  untouched = λ is. absurd (cc);
+}

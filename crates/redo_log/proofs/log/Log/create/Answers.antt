@@ -5,9 +5,13 @@ use Rattle.redo_log.proofs.log.Log.create.Goals as goal
 
 pub returns-in-Ok-clause-made : goal.returns-in-Ok-clause-made
 returns-in-Ok-clause-made g c =
-    let content = g.D.Disk.content c.lay_gate.new.disk in
-    log_holds 0 [] content (is_log 0 [] (0 ∷ []) content c.in-Ok.ensures.laid (omega arith) tt refl)
-
-pub returns-in-Ok-clause-settled : goal.returns-in-Ok-clause-settled
-returns-in-Ok-clause-settled g c =
-    settled g.D.Disk.content g.D.Disk.images _ [] (is_log 0 [] (0 ∷ []) (g.D.Disk.content c.lay_gate.new.disk) c.in-Ok.ensures.laid (omega arith) tt refl) c.in-Ok.ensures.durable
+    let d = g.D.Disk in
+    let content = d.content c.lay_gate.new.disk in
+    let log = is_log 0 [] (0 ∷ []) content c.in-Ok.ensures.laid (omega arith) tt refl in
+    record {
+      made = log_holds 0 [] content log;
+      exact = c.in-Ok.ensures.laid;
+      settled = settled d.content d.images _ [] log c.in-Ok.ensures.durable;
+      intact = refl;
+      run = c.in-Ok.ensures.run;
+    }

@@ -1,5 +1,5 @@
 use Rattle.std.proofs.Common.{◌≡◌, Some, None, find, position, slice_get, sym, ap, subst, ◌∙◌}
-use Rattle.redo_record.specs.declared.durable.Standing.{Standing}
+use Rattle.redo_record.specs.declared.durable.KeptRow.{KeptRow}
 use Rattle.redo_record.specs.Kept.{stands_at}
 use Rattle.redo_record.proofs.Searched.{found_there, none_there}
 use Rattle.redo_record.proofs.kept_rows.KeptRows.find.Goals as goal

@@ -2,7 +2,7 @@ use Rattle.std.proofs.Common.{◌≡◌, List, Some, None, position, find, is_so
 use Rattle.std.proofs.lemmas.List.Quantifiers.{position-Some}
 use Rattle.std.proofs.lemmas.Option.{slice_get-get_or}
 use Rattle.tran_ids.specs.Listed.{put_item}
-use Rattle.redo_record.specs.Data.{Standing}
+use Rattle.redo_record.specs.Data.{KeptRow}
 use Rattle.redo_record.specs.Kept.{stands_at}
 use Rattle.redo_record.specs.Leaving.{row_id}
 use Rattle.redo_record.proofs.Searched.{found_there, none_there, still_in_order, put_back, stands_before, stands_after}
@@ -38,7 +38,7 @@ returns-in-Some-clause-place c =
     let rows = c.self.inside.rows.items in
     let at : position (stands_at b) rows ≡ Some c.in-Some.place = ap (position (stands_at b)) (sym c.deref.ensures.value) ∙ sym c.position_of.ensures ∙ c.in-Some.is in
     let mine = ap row_id c.replace.ensures.after ∙ c.empty_row.ensures in
-    λ row me. put_back b rows c.in-Some.place at c.replace.new.dest mine row me ∙ ap (λ (ks : List Standing). put_item row_id ks row) c.self.view_is
+    λ row me. put_back b rows c.in-Some.place at c.replace.new.dest mine row me ∙ ap (λ (ks : List KeptRow). put_item row_id ks row) c.self.view_is
 
 pub returns-in-Some-clause-kept : goal.returns-in-Some-clause-kept
 returns-in-Some-clause-kept c =
@@ -47,4 +47,4 @@ returns-in-Some-clause-kept c =
     let at : position (stands_at b) rows ≡ Some c.in-Some.place = ap (position (stands_at b)) (sym c.deref.ensures.value) ∙ sym c.position_of.ensures ∙ c.in-Some.is in
     let mine = ap row_id c.replace.ensures.after ∙ c.empty_row.ensures in
     stands_after b rows c.in-Some.place at c.replace.new.dest mine
-    ∙ sym (stands_before b rows c.in-Some.place at c.replace.new.dest mine) ∙ ap (λ (ks : List Standing). is_some (find (stands_at b) ks)) c.self.view_is
+    ∙ sym (stands_before b rows c.in-Some.place at c.replace.new.dest mine) ∙ ap (λ (ks : List KeptRow). is_some (find (stands_at b) ks)) c.self.view_is

@@ -1,6 +1,6 @@
 use Rattle.std.proofs.Common.{◌≡◌, List, Some, None, is_some, false, true, true≢false, position, find, refl, sym, ap, ◌∙◌}
 use Rattle.tran_ids.specs.Listed.{put_item}
-use Rattle.redo_record.specs.Data.{Standing}
+use Rattle.redo_record.specs.Data.{KeptRow}
 use Rattle.redo_record.specs.Kept.{stands_at}
 use Rattle.redo_record.specs.Leaving.{row_id}
 use Rattle.redo_record.proofs.Searched.{none_there, set_is_put, still_in_order}
@@ -18,7 +18,7 @@ returns-in-Some c =
     let row = c.args.row in
     let rows = c.self.inside.rows.items in
     let at : position (stands_at row.me) rows ≡ Some c.in-Some.place = ap (position (stands_at row.me)) (sym c.deref.ensures.value) ∙ sym c.position_of.ensures ∙ c.in-Some.is in
-    set_is_put row rows c.in-Some.place at ∙ ap (λ (ks : List Standing). put_item row_id ks row) c.self.view_is
+    set_is_put row rows c.in-Some.place at ∙ ap (λ (ks : List KeptRow). put_item row_id ks row) c.self.view_is
 
 pub returns-in_default : goal.returns-in_default
 returns-in_default c =

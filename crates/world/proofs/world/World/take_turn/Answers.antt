@@ -1,7 +1,7 @@
 use Rattle.std.proofs.Common.{◌-◌, ℕ, List, get_or, slice_set, refl, ap, subst, ◌∙◌}
 use Rattle.std.proofs.lemmas.Result.{IfOk-weaker, IfErr-weaker}
 use Rattle.node_rules.specs.Points.{Point}
-use Rattle.node_disk.specs.declared.effects.Effects.{Effects}
+use Rattle.node_disk.specs.declared.effects.DurableTurn.{DurableTurn}
 use Rattle.node_disk.specs.declared.err.TurnErr.{TurnErr}
 use Rattle.world.specs.Served.{HasFailed, HasServed}
 use Rattle.world.proofs.SlotLemmas.{read_at, set_at}
@@ -28,7 +28,7 @@ returns-clause-whole c =
     let found = read_at w.slots.items n slot there.0 there.1 (c.index_mut-slot.ensures.value ∙ ap (λ (k : ℕ). get_or w.slots.items (k - 1) slot) c.from.ensures) in
     let set = ap (λ (k : ℕ). slice_set w.slots.items (k - 1) c.serve.new.slot) c.from.ensures ∙ set_at w.slots.items n c.serve.new.slot there.0 in
     IfOk-weaker c.serve.result (HasServed slot c.serve.new.slot c.args.incoming c.points-points.result.now) _
-    (λ (e : Effects) (served : HasServed slot c.serve.new.slot c.args.incoming c.points-points.result.now e). whole_during w _ c.args.begun c.args.incoming ready slot c.serve.new.slot found refl set e (subst (λ (xs : List Point). HasServed slot c.serve.new.slot c.args.incoming xs e) c.points-points.ensures served)) c.serve.ensures.served
+    (λ (e : DurableTurn) (served : HasServed slot c.serve.new.slot c.args.incoming c.points-points.result.now e). whole_during w _ c.args.begun c.args.incoming ready slot c.serve.new.slot found refl set e (subst (λ (xs : List Point). HasServed slot c.serve.new.slot c.args.incoming xs e) c.points-points.ensures served)) c.serve.ensures.served
 
 pub returns-clause-cut : goal.returns-clause-cut
 returns-clause-cut c =

@@ -1,5 +1,0 @@
-use Rattle.book_row_laws.proofs.RowLemmas.{orders_agree}
-use Rattle.book_row_laws.proofs.orders_agree.Goals as goal
-
-pub returns : goal.returns
-returns c = orders_agree

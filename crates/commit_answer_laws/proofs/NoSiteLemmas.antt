@@ -1,0 +1,66 @@
+-- In every lawful run a root that ends without a site has a plan without one, for none of its session tree had changes.
+use Rattle.std.proofs.Common.{◌≡◌, true, List, ◌∷◌, ◌++◌, Option, Some, None, refl, sym, ap, subst, ◌∙◌}
+use Rattle.node_rules.specs.Data.{BranchId, Live}
+use Rattle.node_rules.specs.NodeState.{NodeState, live_at}
+use Rattle.run_rules.specs.Branches.{CommitPlan, no_trail, plan_at}
+use Rattle.run_rules.specs.Data.{Turn, Happening}
+use Rattle.run_rules.specs.Data.happenings
+use Rattle.run_rules.specs.Each.{AtEach}
+use Rattle.run_rules.specs.Facts.{first_facts, node_at, facts_after}
+use Rattle.run_rules.specs.Lawful.{History, IsLawfulRun}
+use Rattle.run_rules.specs.Trail.{has_no_site, trail_after, trail_of}
+use Rattle.tree_laws.proofs.PrefixLemmas.{so_far, f_at}
+use Rattle.tree_laws.proofs.TimeLemmas.{part_of, part_lawful, may_of}
+use Rattle.tree_trail_laws.specs.SeenLaws.{TellsTops, TellsOwns, SeesRoots, Sees}
+use Rattle.tree_trail_laws.proofs.MomentLemmas.{tr_at, trail_join, trail_keeps, at_moment, by_moment}
+use Rattle.tree_trail_laws.proofs.PlanLemmas.{plan_stays}
+use Rattle.tree_trail_laws.proofs.SeenRunLemmas.{all_is_seen}
+use Rattle.tree_trail_laws.proofs.TopFinishLemmas.{Earlier, same_plans, ends_siteless_planned}
+use Rattle.tree_laws.proofs.TopStepLemmas.{Finishes}
+use Rattle.commit_answer_laws.specs.UndecidedLaws.{HadNoSite}
+
+module _ (t : History) (whole : IsLawfulRun t) where
+  owns : AtEach (λ places f tr h. TellsOwns f tr) t
+  owns = by_moment t (λ places f tr h. TellsOwns f tr) (λ hs h rest is. (at_moment t (λ places f tr x. Sees f tr) (all_is_seen t whole) hs h rest is).owns)
+
+  module _ (hs : List Happening) (u : Turn) (rest : List Happening) (is : hs ++ happenings.Turn u ∷ rest ≡ t.trace) where
+    saw : Sees (f_at t hs) (tr_at t hs)
+    saw = at_moment t (λ places f tr h. Sees f tr) (all_is_seen t whole) hs (happenings.Turn u) rest is
+
+    lawful : IsLawfulRun (so_far t hs)
+    lawful = part_lawful t whole hs (part_of t whole hs (happenings.Turn u) rest is)
+
+    saw_earlier : (h1 : List Happening) (h : Happening) (r1 : List Happening) → h1 ++ h ∷ r1 ≡ hs → Sees (f_at t h1) (tr_at t h1)
+    saw_earlier h1 h r1 at = at_moment (so_far t hs) (λ places f tr x. Sees f tr) (all_is_seen (so_far t hs) lawful) h1 h r1 at
+
+    earlier : Earlier (so_far t hs)
+    earlier = by_moment (so_far t hs) (λ places f tr h. TellsTops f tr × SeesRoots f tr) (λ h1 h r1 at. ((saw_earlier h1 h r1 at).tops, (saw_earlier h1 h r1 at).roots))
+
+    -- a plan stays to the end
+    stays : (b : BranchId) (p : CommitPlan) → plan_at (trail_after t.places (f_at t hs) (tr_at t hs) (happenings.Turn u)) b ≡ Some p → plan_at (tr_at t t.trace) b ≡ Some p
+    unfolding trail_of
+    stays b p at =
+        subst (λ xs. plan_at (tr_at t xs) b ≡ Some p) is
+        (subst (λ tr. plan_at tr b ≡ Some p) (sym (trail_join t.places t.commands (first_facts t.places) no_trail hs (happenings.Turn u ∷ rest)))
+        (trail_keeps t.places t.commands (λ tr. plan_at tr b ≡ Some p) (λ f tr h now. plan_stays t.places f tr h b p now) (facts_after t.places t.commands (f_at t hs) (happenings.Turn u))
+        (trail_after t.places (f_at t hs) (tr_at t hs) (happenings.Turn u)) rest at))
+
+    siteless : (b : BranchId) (o : Option CommitPlan) → plan_at (trail_after t.places (f_at t hs) (tr_at t hs) (happenings.Turn u)) b ≡ o → has_no_site o ≡ true → HadNoSite t b
+    siteless b None at none = absurd cc
+    siteless b (Some p) at none = ap has_no_site (stays b p at) ∙ none
+
+    abbrev kept : NodeState
+    kept = (may_of t whole hs (happenings.Turn u) rest is).0
+
+    had_none : (z : Live) → live_at kept z.me ≡ Some z → z.parent ≡ None → Finishes u.input z.me z kept.sessions → HadNoSite t z.me
+    had_none z live top ends =
+        siteless z.me (plan_at (trail_after t.places (f_at t hs) (tr_at t hs) (happenings.Turn u)) z.me) refl
+        (ap has_no_site (sym (same_plans t whole owns hs u rest is saw.tops saw.roots earlier z.me)) ∙ ends_siteless_planned t whole owns hs u rest is saw.tops saw.roots earlier z live top ends)
+
+    pub had_no_site : (k : NodeState) → node_at (f_at t hs) u.node ≡ Some k → (g : BranchId) (z : Live) → z.me ≡ g → live_at k g ≡ Some z → z.parent ≡ None → Finishes u.input g z k.sessions → HadNoSite t g
+    had_no_site k up g z me live top ends =
+        let both : Some kept ≡ Some k = sym (may_of t whole hs (happenings.Turn u) rest is).1.up ∙ up in
+        let same : kept ≡ k = cc in
+        let live_there : live_at kept z.me ≡ Some z = subst (λ (j : NodeState). live_at j z.me ≡ Some z) (sym same) (subst (λ b. live_at k b ≡ Some z) (sym me) live) in
+        let ends_there : Finishes u.input z.me z kept.sessions = subst (λ (j : NodeState). Finishes u.input z.me z j.sessions) (sym same) (subst (λ b. Finishes u.input b z k.sessions) (sym me) ends) in
+        subst (HadNoSite t) me (had_none z live_there top ends_there)

@@ -1,5 +1,0 @@
-use Rattle.commit_stay_laws.proofs.GotLemmas.{collectors_got_prepare}
-use Rattle.commit_stay_laws.proofs.collectors_got_prepare.Goals as goal
-
-pub returns : goal.returns
-returns c = collectors_got_prepare

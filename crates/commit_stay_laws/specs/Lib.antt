@@ -1,3 +1,0 @@
-pub mod GotLaws
-pub mod StayLaws
-pub mod TriedStay

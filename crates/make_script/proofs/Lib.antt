@@ -1,0 +1,7 @@
+mod CalmLemmas
+mod RowLemmas
+mod LineLemmas
+mod ScriptLemmas
+mod LengthLemmas
+mod Appends
+mod LoopLemmas

@@ -1,0 +1,4 @@
+use Rattle.make_script.proofs.script.put_last_lines.Goals as goal
+
+pub returns : goal.returns
+returns c = c.in_ok-extend_from_slice.ensures.items

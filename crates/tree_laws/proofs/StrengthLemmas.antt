@@ -1,0 +1,190 @@
+-- In every lawful run a live branch has the commit point strength of its node's place: no record sets another.
+use Rattle.std.proofs.Common.{◌≡◌, ℕ, List, [], ◌∷◌, ◌++◌, unwrap_or, Option, Some, None, refl, ap, ◌∙◌}
+use Rattle.std.specs.Prelude.{IfSome, option_to_list}
+use Rattle.std.specs.List.{AllByRecursion}
+use Rattle.session_tree.specs.Live.{new_edge}
+use Rattle.commit_forget.specs.declared.next.Next.TheVariants as nexts
+use Rattle.redo_record.specs.declared.record.Param.TheVariants as params
+use Rattle.node_rules.specs.Data.{Live, Act, Place, Input, RedoRecord, Stmt}
+use Rattle.node_rules.specs.Data.acts
+use Rattle.node_rules.specs.Data.records
+use Rattle.node_rules.specs.NodeState.{NodeState, TurnDraft, Stored, Branch, live_id, branch_at}
+use Rattle.node_rules.specs.Records.{nothing_stored, applied, stored_by}
+use Rattle.redo_record.specs.Durable.{durable_after}
+use Rattle.node_rules.specs.Turn.{start_of}
+use Rattle.node_rules.specs.Statement.{ran, after_run}
+use Rattle.node_rules.specs.Calls.{with_edge, hears_reply}
+use Rattle.node_rules.specs.Prepare.{ready, act_turn}
+use Rattle.node_rules.proofs.Steps as steps
+use Rattle.node_rules.proofs.Steps.{Step, Asked, Acting}
+use Rattle.node_rules.proofs.StandLemmas.{live_so}
+use Rattle.node_rules.proofs.StepLemmas.{acting_so}
+use Rattle.run_rules.specs.Facts.{place_at}
+use Rattle.run_base_laws.proofs.NodeLemmas.{Keeps, node_keeps}
+use Rattle.run_base_laws.proofs.OwnLemmas.{all_found, all_with, all_without, all_last}
+use Rattle.run_base_laws.proofs.StoredLemmas.{with_wrote, step_stores, stored_with}
+use Rattle.tree_laws.specs.WeighLaws.{LivesHaveStrength}
+
+-- ---- records
+
+-- it sets no strength
+abbrev SetsNone : RedoRecord → Type 0
+SetsNone (records.Param (params.Strength n)) = ⊥
+SetsNone _ = Unit {0}
+
+applied_strength : (s : Stored) (r : RedoRecord) → SetsNone r → (applied s r).durable.strength ≡ s.durable.strength
+unfolding applied durable_after
+applied_strength s (records.Param (params.Strength n)) none = absurd none
+applied_strength s (records.Param (params.Recovery on)) none = refl
+applied_strength s (records.Boot n) none = refl
+applied_strength s (records.Table t) none = refl
+applied_strength s (records.Link l) none = refl
+applied_strength s (records.Synonym y) none = refl
+applied_strength s (records.Sealed r) none = refl
+applied_strength s (records.Decided r) none = refl
+applied_strength s (records.Ended b d) none = refl
+applied_strength s (records.Forced b d given) none = refl
+applied_strength s (records.Met b d mixed) none = refl
+applied_strength s (records.Forgot b) none = refl
+applied_strength s (records.Hidden b) none = refl
+
+wrote_strength : (s : Stored) (w : Option RedoRecord) → IfSome w SetsNone → (with_wrote s w).durable.strength ≡ s.durable.strength
+wrote_strength s None none = refl
+wrote_strength s (Some r) none = applied_strength s r none
+
+module _ (p : Place) (input : Input) where
+  acts_none : (k : NodeState) (l : Live) (b : _) (a : Act) → IfSome (act_turn k l b a).wrote SetsNone
+  acts_none k l b acts.Rest = tt
+  acts_none k l b acts.AskDown = tt
+  acts_none k l b acts.SayReady = tt
+  acts_none k l b acts.SayReadOnly = tt
+  acts_none k l b acts.Seal = tt
+  acts_none k l b (acts.SealAndPass i) = tt
+  acts_none k l b acts.Decide = tt
+  acts_none k l b acts.Finish = tt
+  acts_none k l b acts.Abandon = tt
+
+  -- no step writes a strength
+  writes_none : {k : NodeState} {d : TurnDraft} → Step p input k d → IfSome d.wrote SetsNone
+  writes_none (steps.Begins n s call rows range none step) = writes_none step
+  writes_none (steps.Pends n l given call has live code step) = writes_none step
+  writes_none (steps.Lets_reads_go l comment b live begins step) = writes_none step
+  writes_none (steps.Counts_ack s from kept came counts step) = writes_none step
+  writes_none (steps.Acts {k = k} l b a why) = acts_none k l b a
+  writes_none (steps.Does s from (nexts.End d) kept why) = tt
+  writes_none (steps.Does s from (nexts.Meet d mixed) kept why) = tt
+  writes_none (steps.Does s from nexts.AckToward kept why) = tt
+  writes_none (steps.Does s from nexts.Forget kept why) = tt
+  writes_none (steps.Does s from nexts.SayForgotten kept why) = tt
+  writes_none (steps.Does s from nexts.SayAck kept why) = tt
+  writes_none (steps.Does s from nexts.Rest kept why) = tt
+  writes_none (steps.Makes_record n s r d call (steps.Makes_table t free)) = tt
+  writes_none (steps.Makes_record n s r d call (steps.Makes_link l free)) = tt
+  writes_none (steps.Makes_record n s r d call (steps.Makes_synonym y free)) = tt
+  writes_none (steps.Makes_record n s r d call (steps.Sets_recovery on)) = tt
+  writes_none (steps.Gives_up_commit n b (Some l) gives has calls live) = tt
+  writes_none (steps.Gives_up_commit n b None gives has calls live) = tt
+  writes_none _ = tt
+
+  -- ---- live branches
+
+  abbrev Has : Live → Type 0
+  Has l = l.strength ≡ p.strength
+
+  abbrev All : NodeState → Type 0
+  All k = AllByRecursion Has k.lives
+
+  module _ (k : NodeState) (now : All k) where
+    found_has : (x : Branch) → branch_at k x.live.me ≡ Some x → Has x.live
+    found_has x found = all_found Has live_id k.lives x.live.me x.live now (live_so k x.live.me x found)
+
+    asked_has : {x : Branch} {s : Stmt} {given : ℕ} → Asked k input x s given → Has x.live
+    asked_has (steps.By_call n x s call rows has code live) = found_has x live
+    asked_has (steps.By_exec x from call given advice s came live runs) = found_has x live
+
+    acting_has : {l : Live} {b : _} {a : Act} → Acting k input l b a → Has l
+    acting_has why = acting_so Has (λ l comment b so. so) (λ l from v so. so) (λ b l found. all_found Has live_id k.lives b l now found) why
+
+    acts_have : (l : Live) (b : _) (a : Act) → Has l → All (act_turn k l b a).after
+    acts_have l b acts.Rest so = all_with Has live_id k.lives l now so
+    acts_have l b acts.AskDown so = all_with Has live_id k.lives l now so
+    acts_have l b acts.SayReady so = all_with Has live_id k.lives (ready l) now so
+    acts_have l b acts.SayReadOnly so = all_without Has live_id k.lives l.me now
+    acts_have l b acts.Seal so = all_without Has live_id k.lives l.me now
+    acts_have l b (acts.SealAndPass i) so = all_without Has live_id k.lives l.me now
+    acts_have l b acts.Decide so = all_without Has live_id k.lives l.me now
+    acts_have l b acts.Finish so = all_without Has live_id k.lives l.me now
+    acts_have l b acts.Abandon so = all_without Has live_id k.lives l.me now
+
+    -- a branch that begins takes its node's
+    begun_has : (l : Live) → k.stored.durable.strength ≡ None → l.strength ≡ unwrap_or k.stored.durable.strength p.strength → AllByRecursion Has (k.lives ++ l ∷ [])
+    begun_has l none is = all_last Has live_id k.lives l now (is ∙ ap (λ o. unwrap_or o p.strength) none)
+
+  lives_have : {k : NodeState} {d : TurnDraft} → Step p input k d → k.stored.durable.strength ≡ None → All k → All d.after
+  lives_have (steps.Begins {k = k} n s call rows range free step) none now = lives_have step none (begun_has k now _ none refl)
+  lives_have (steps.Pends n l given call has live code step) none now = lives_have step none now
+  lives_have (steps.Lets_reads_go l comment b live begins step) none now = lives_have step none now
+  lives_have (steps.Counts_ack s from kept came counts step) none now = lives_have step none now
+  lives_have (steps.Runs {k = k} x s given t asked way) none now = all_with Has live_id k.lives (after_run x.live (ran p k x.live.me s t)) now (asked_has k now asked)
+  lives_have (steps.Goes_nowhere {k = k} x s given r asked way) none now = all_with Has live_id k.lives x.live now (asked_has k now asked)
+  lives_have (steps.Calls {k = k} x s given i table asked way) none now = all_with Has live_id k.lives x.live now (asked_has k now asked)
+  lives_have (steps.Opens {k = k} x s given node link table asked way) none now = all_with Has live_id k.lives x.live now (asked_has k now asked)
+  lives_have (steps.Goes_on {k = k} x from strength g link opened) none now = all_with Has live_id k.lives (with_edge x (new_edge from link strength)).live now (found_has k now x opened.live)
+  lives_have (steps.Hears_reply {k = k} x weight count a i e answered) none now = all_with Has live_id k.lives (hears_reply x i weight count e).live now (found_has k now x answered.live)
+  lives_have (steps.Opens_branch {k = k} to parent edge root depth came new) none now = begun_has k now _ none refl
+  lives_have (steps.Acts {k = k} l b a why) none now = acts_have k now l b a (acting_has k now why)
+  lives_have (steps.Drops_told {k = k} l live drops) none now = all_without Has live_id k.lives l.me now
+  lives_have (steps.Drops_asked {k = k} l from live came parent) none now = all_without Has live_id k.lives l.me now
+  lives_have (steps.Does s from (nexts.End d) kept why) none now = now
+  lives_have (steps.Does s from (nexts.Meet d mixed) kept why) none now = now
+  lives_have (steps.Does s from nexts.AckToward kept why) none now = now
+  lives_have (steps.Does s from nexts.Forget kept why) none now = now
+  lives_have (steps.Does s from nexts.SayForgotten kept why) none now = now
+  lives_have (steps.Does s from nexts.SayAck kept why) none now = now
+  lives_have (steps.Does s from nexts.Rest kept why) none now = now
+  lives_have (steps.Rolls_back {k = k} n x call has live) none now = all_without Has live_id k.lives x.live.me now
+  lives_have (steps.Gives_up {k = k} n x gives has calls live) none now = all_with Has live_id k.lives x.live now (found_has k now x live)
+  lives_have (steps.Gives_up_commit {k = k} n b (Some l) gives has calls live) none now = all_without Has live_id k.lives l.me now
+  lives_have (steps.Gives_up_commit n b None gives has calls live) none now = now
+  lives_have _ none now = now
+
+-- ---- nodes
+
+-- the records set no strength
+abbrev Unset : Place → List RedoRecord → Type 0
+Unset p rs = (stored_by nothing_stored rs).durable.strength ≡ None
+
+abbrev Strong : Place → List RedoRecord → NodeState → Type 0
+Strong p rs k = Unset p rs × (k.stored.durable.strength ≡ None) × AllByRecursion (λ l. l.strength ≡ p.strength) k.lives
+
+no_records : (p : Place) → Unset p []
+unfolding stored_by
+no_records p = refl
+
+started : (p : Place) (rs : List RedoRecord) → Unset p rs → Strong p rs (start_of rs)
+unfolding start_of
+started p rs none = (none, none, tt)
+
+booted : (p : Place) (rs : List RedoRecord) (boot : ℕ) → Unset p rs → Unset p (rs ++ records.Boot boot ∷ [])
+booted p rs boot none = ap (λ (s : Stored). s.durable.strength) (stored_with rs (Some (records.Boot boot))) ∙ (applied_strength (stored_by nothing_stored rs) (records.Boot boot) tt ∙ none)
+
+stepped : (p : Place) (rs : List RedoRecord) (input : Input) (k : NodeState) (d : TurnDraft) → Step p input k d → Strong p rs k → Strong p (rs ++ option_to_list d.wrote) d.after
+stepped p rs input k d step now =
+    let plain : IfSome d.wrote SetsNone = writes_none p input step in (
+      ap (λ (s : Stored). s.durable.strength) (stored_with rs d.wrote) ∙ (wrote_strength (stored_by nothing_stored rs) d.wrote plain ∙ now.0),
+      ap (λ (s : Stored). s.durable.strength) (step_stores p input step) ∙ (wrote_strength k.stored d.wrote plain ∙ now.1),
+      lives_have p input step now.1 now.2,
+    )
+
+strong : Keeps Unset Strong
+strong = record {
+  empty = no_records;
+  starts = λ p rs boot disk next. started p (rs ++ records.Boot boot ∷ []) (booted p rs boot disk);
+  hears = λ p rs k scn now. now;
+  steps = λ p rs input k d step now. stepped p rs input k d step now;
+  rests = λ p rs k now. now.0;
+}
+
+pub lives_have_strength : LivesHaveStrength
+lives_have_strength t lawful n k up x found =
+    all_found (λ (l : Live). l.strength ≡ (place_at t.places n).strength) live_id k.lives x.live.me x.live (node_keeps Unset Strong strong t lawful n k up).2 (live_so k x.live.me x found)

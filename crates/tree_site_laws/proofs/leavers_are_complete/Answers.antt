@@ -1,5 +1,0 @@
-use Rattle.tree_site_laws.proofs.LeaveLemmas.{leavers_are_complete}
-use Rattle.tree_site_laws.proofs.leavers_are_complete.Goals as goal
-
-pub returns : goal.returns
-returns c = leavers_are_complete

@@ -1,4 +1,0 @@
-pub mod WeighLaws
-pub mod RestLaws
-pub mod LeaveLaws
-pub mod DecideLaws
