@@ -3,7 +3,7 @@ use Rattle.std.proofs.Common.{Bool, Option, ◌≡◌, ℕ, true, List, [], ◌�
 use Rattle.agreement.specs.Data.{BranchId, Change}
 use Rattle.agreement.specs.Data.decisions
 use Rattle.agreement.specs.Events.{Forest, IsForest, Sealed, Decided, Event, Seal, Decide, Learn, first, exit, exit_by, Has, Allowed, Lawful, site_of}
-use Rattle.agreement.specs.Laws.{RollbackMeansUndecided, CommitAsDecided, DecisionIsLater, DecisionCovers, CommitComesAfter, DoomedIsUndecided}
+use Rattle.agreement.specs.Laws.{RollbackMeansUndecided, CommitAsDecided, DecisionIsLater, DecisionIsCovered, CommitComesAfter, DoomedIsUndecided}
 use Rattle.agreement.proofs.EventLemmas.{only_at_same, exit_new, exit_stays, decided_by}
 use Rattle.agreement.proofs.Invariant.{Doomed}
 use Rattle.agreement.proofs.WholeTree.{Reached, reached, not_doomed, site_root}
@@ -45,7 +45,7 @@ later p w t l b n m d x = let in_tree = (inv p t w l).sealed_in b m x in elim (c
   ]
 ]
 
-pub covers : DecisionCovers
+pub covers : DecisionIsCovered
 covers p w t l b n d m ne = elim (covered p t b n w l d m) [
   | inl e ↦ absurd (ne e)
   | inr c ↦ elim c.2 [ inl s ↦ inl (s.0, s.1) | inr q ↦ inr q ]

@@ -22,8 +22,8 @@ DecisionIsLater = (p : Forest) → IsForest p → (t : List Event) → Lawful p 
     → exit t (site_of p b) ≡ Some (Decided n) → exit t b ≡ Some (Sealed m) → m < n
 
 -- Where a decision stands, each other branch of the tree is sealed, or was read-only with all beyond it.
-abbrev pub DecisionCovers : Type 0
-DecisionCovers = (p : Forest) → IsForest p → (t : List Event) → Lawful p t → (b : BranchId) (n : ℕ)
+abbrev pub DecisionIsCovered : Type 0
+DecisionIsCovered = (p : Forest) → IsForest p → (t : List Event) → Lawful p t → (b : BranchId) (n : ℕ)
     → exit t (site_of p b) ≡ Some (Decided n) → p.member b ≡ true → b ≢ site_of p b
     → ((m : ℕ) × (exit t b ≡ Some (Sealed m))) ⊎ (exit t b ≡ Some Quiet)
 

@@ -6,7 +6,7 @@
 //! Nothing is said here of how nodes work. The crate run_branch_laws shows that the turns of nodes make such events.
 #![tactic(auto)]
 
-ghost use Rattle.agreement.specs.Laws.{RollbackMeansUndecided, CommitAsDecided, DecisionIsLater, DecisionCovers, CommitComesAfter, DoomedIsUndecided, BooksAgree, BooksAreMarked, DecisionsExceedSeals};
+ghost use Rattle.agreement.specs.Laws.{RollbackMeansUndecided, CommitAsDecided, DecisionIsLater, DecisionIsCovered, CommitComesAfter, DoomedIsUndecided, BooksAgree, BooksAreMarked, DecisionsExceedSeals};
 ghost use Rattle.agreement.specs.Examples.{ExamplesAreLawful};
 
 /// Where a branch learned a rollback, its transaction has no decision.
@@ -26,7 +26,7 @@ pub fn decision_is_later()
 
 /// Where a decision stands, each other branch of the tree is sealed, or answered that nothing was changed on it or beyond.
 pub fn decision_covers()
-    ensures { DecisionCovers }
+    ensures { DecisionIsCovered }
 {}
 
 /// A commit that is learned comes after its decision.

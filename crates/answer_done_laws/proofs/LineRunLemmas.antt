@@ -1,4 +1,4 @@
--- In the run of a script a line with the answer of a node is told to the end.
+-- In the run of a script a line with the answer of a node is all_lines to the end.
 use Rattle.std.proofs.Common.{◌≡◌, ℕ, zero, suc, ◌+◌, ◌≤◌, ◌⊎◌, Bool, true, false, List, [], ◌∷◌, ◌++◌, map, find, length, slice_get, Option, Some, None, inl, inr, refl, sym, ap, subst, ◌∙◌, arith}
 use Rattle.std.specs.Prelude.{take}
 use Rattle.std.proofs.lemmas.Bool.{cond_both}
@@ -12,7 +12,7 @@ use Rattle.run_rules.specs.Data.said
 use Rattle.run_rules.specs.Facts.{Facts, command_at, node_at, outcome_at, facts_turned, facts_after}
 use Rattle.run_rules.specs.Scripts.{IsTheRunOf}
 use Rattle.run_rules.specs.Lawful.{History}
-use Rattle.run_rules.specs.Lines.{is_down, line, over_line, page_lines, told}
+use Rattle.run_rules.specs.Lines.{is_down, line, over_line, page_lines, all_lines}
 use Rattle.run_rules.specs.Past.{ends_calls, acts, report_turned, failed_start, start_refused, is_stop_of, stop_line, next, past}
 use Rattle.run_claims.specs.Places.{past_upto, reported_of}
 use Rattle.run_rules.specs.RunReport.{Call, Past, RunReport, start}
@@ -39,13 +39,13 @@ none_if t n s never = by (call_at t n s) refl
     by (Some e) is = absurd (never e is)
 
 module _ (t : History) (run : IsTheRunOf t) (command node session : ℕ) (text : Option Stmt) (named : command_at t.commands command ≡ commands.At node session text) (a : Said) where
-  -- the line is told: by a command before, for an earlier command, or by the command that runs
+  -- the line is all_lines: by a command before, for an earlier command, or by the command that runs
   abbrev pub LineIsTold : Past → Type 0
   LineIsTold p =
       Has p.run_report.lines (line command a)
       ⊎ (Has p.run_report.page.others (line command a) ⊎ ((p.facts.command ≡ command) × Has p.run_report.page.own a × (call_at p.run_report node session ≡ None)))
 
-  told_has : (p : Past) → LineIsTold p → Has (told p.facts p.run_report) (line command a)
+  told_has : (p : Past) → LineIsTold p → Has (all_lines p.facts p.run_report) (line command a)
   told_has p (inl before) = has_left p.run_report.lines (page_lines p.facts p.run_report) (line command a) before
   told_has p (inr (inl other)) =
       let own : List AnswerLine = map (line p.facts.command) p.run_report.page.own in

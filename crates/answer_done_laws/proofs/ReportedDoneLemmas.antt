@@ -15,7 +15,7 @@ use Rattle.run_rules.specs.Scripts.{IsTheRunOf}
 use Rattle.run_rules.specs.Lawful.{History, facts_at}
 use Rattle.run_rules.specs.Runs.{is_accepted}
 use Rattle.run_rules.specs.RunReport.{Call}
-use Rattle.answer_origin_laws.specs.CallTurns.{Brings, What_is_asked, A_commit_first, Then_the_create, TurnOf, CameBefore}
+use Rattle.answer_origin_laws.specs.CallTurns.{BringsText, What_is_asked, A_commit_first, Then_the_create, TurnOf, CameBefore}
 use Rattle.answer_origin_laws.proofs.CallTurnLemmas.{turns_find_calls_come, what_comes_is_pending}
 use Rattle.answer_origin_laws.specs.ToldLaws.{EndedBy}
 use Rattle.answer_origin_laws.proofs.ToldTurnLemmas.{lines_come_from_turns}
@@ -23,7 +23,7 @@ use Rattle.answer_done_laws.specs.DoneLaws.{ended_in, answers_to, Stands, IsAske
 use Rattle.run_claims.specs.Recorded.{is_recorded, is_of_statement}
 use Rattle.answer_done_laws.specs.StandLaws.{StaysIn}
 use Rattle.run_claims.specs.Recorded.{IsOneOf}
-use Rattle.run_claims.specs.ReportedDone.{ComesIn, CameTo, IsWritten, DoneHasItsRecord, IsRefused, Writes_nothing, Has_no_commit, RefusedHasNone, IsReported, RecordsAreReported, DoneIsReported}
+use Rattle.run_claims.specs.ReportedDone.{ComesIn, CameTo, StatementIsWritten, DoneHasItsRecord, StatementIsRefused, Writes_nothing, Has_no_commit, RefusedHasNone, RecordIsReported, RecordsAreReported, DoneIsReported}
 use Rattle.answer_done_laws.proofs.AtOnceLemmas.{answer_among, one_answer, one_done, recorded, fact_at, lawful, up_there, ended_is, answers_so, gone_and_told, cut_told, brought, at_once, same_turn}
 use Rattle.answer_done_laws.proofs.CommitEndLemmas.{commit_refused}
 use Rattle.answer_done_laws.proofs.DoneLemmas.{written_is_done}
@@ -76,10 +76,10 @@ module _ (t : History) (run : IsTheRunOf t) where
         | inr x ↦ inr (x, sym (one_answer _ (answers.Did x.done 0) a x.answered among))
       ]
 
-      written : is_accepted (Some a) ≡ true → IsWritten t command u.node e.session s a
+      written : is_accepted (Some a) ≡ true → StatementIsWritten t command u.node e.session s a
       written accepted = by answered
         where
-          by : Answered → IsWritten t command u.node e.session s a
+          by : Answered → StatementIsWritten t command u.node e.session s a
           by (inl out) = absurd (let no : is_accepted (Some a) ≡ false = ap (λ x. is_accepted (Some x)) out.2 in cc (no, accepted))
           by (inr done) =
               let x = done.0 in
@@ -100,24 +100,24 @@ module _ (t : History) (run : IsTheRunOf t) where
                 stays = subst (IsOneOf (records_at (facts_at t) u.node)) same stays.2;
               }
 
-      refused : (r : Refusal) → a ≡ answers.Refused r → IsRefused t command u.node e.session s
+      refused : (r : Refusal) → a ≡ answers.Refused r → StatementIsRefused t command u.node e.session s
       refused r is = by answered
         where
-          by : Answered → IsRefused t command u.node e.session s
+          by : Answered → StatementIsRefused t command u.node e.session s
           by (inl out) = Writes_nothing came_to uncut out.0
           by (inr done) = absurd (let did = done.1 in cc (did, is))
 
     running_is : (facts_upto t came.moment).command ≡ e.call.command → (facts_upto t came.moment).command ≡ command
     running_is runs = runs ∙ e.its
 
-    done_so : {text : Option Stmt} → Brings e.call (facts_upto t came.moment).command text → text ≡ Some s → is_accepted (Some a) ≡ true → IsWritten t command u.node e.session s a
+    done_so : {text : Option Stmt} → BringsText e.call (facts_upto t came.moment).command text → text ≡ Some s → is_accepted (Some a) ≡ true → StatementIsWritten t command u.node e.session s a
     done_so (What_is_asked text own alone runs) is accepted = written (own ∙ is) alone (inl (running_is runs)) accepted
     done_so (Then_the_create st creates own alone low) is accepted =
         let it : Some st ≡ Some s = is in let same : st ≡ s = cc in
         written (own ∙ is) alone (inr (subst (λ x. commits_first x ≡ true) same creates, subst (λ c. c ≤ (facts_upto t came.moment).command) e.its low)) accepted
     done_so (A_commit_first st creates own follows runs) is accepted = absurd (commit_refused t run command a e came st own follows accepted)
 
-    refused_so : (r : Refusal) → a ≡ answers.Refused r → {text : Option Stmt} → Brings e.call (facts_upto t came.moment).command text → text ≡ Some s → IsRefused t command u.node e.session s
+    refused_so : (r : Refusal) → a ≡ answers.Refused r → {text : Option Stmt} → BringsText e.call (facts_upto t came.moment).command text → text ≡ Some s → StatementIsRefused t command u.node e.session s
     refused_so r refuses (What_is_asked text own alone runs) is = refused (own ∙ is) alone (inl (running_is runs)) r refuses
     refused_so r refuses (Then_the_create st creates own alone low) is =
         let it : Some st ≡ Some s = is in let same : st ≡ s = cc in
@@ -149,14 +149,14 @@ module _ (t : History) (run : IsTheRunOf t) where
   done_has_its_record i command node session s a named one accepted line =
       let e : EndedBy t command a = lines_come_from_turns t i command a line in
       let text = same_text command node session s a named e in
-      of_command command node session s a named e (λ n q. IsWritten t command n q s a) one (done_so command s a one e text (came command s a one e text).turn.brings (asked_is command s a one e text) accepted)
+      of_command command node session s a named e (λ n q. StatementIsWritten t command n q s a) one (done_so command s a one e text (came command s a one e text).turn.brings (asked_is command s a one e text) accepted)
 
   pub refused_has_none : RefusedHasNone t
   refused_has_none i command node session s r named one line =
       let a : Answer = answers.Refused r in
       let e : EndedBy t command a = lines_come_from_turns t i command a line in
       let text = same_text command node session s a named e in
-      of_command command node session s a named e (λ n q. IsRefused t command n q s) one (refused_so command s a one e text r refl (came command s a one e text).turn.brings (asked_is command s a one e text))
+      of_command command node session s a named e (λ n q. StatementIsRefused t command n q s) one (refused_so command s a one e text r refl (came command s a one e text).turn.brings (asked_is command s a one e text))
 
   -- ---- a record
 
@@ -177,7 +177,7 @@ module _ (t : History) (run : IsTheRunOf t) where
         cc
 
     told_so : (c : Call) → TurnOf t moment u.node it_asks.session c → command_at t.commands c.command ≡ commands.At u.node it_asks.session (Some it_asks.statement) → c.follows ≡ None
-        → ComesIn c.command it_asks.statement (facts_upto t moment).command → IsReported t moment u r
+        → ComesIn c.command it_asks.statement (facts_upto t moment).command → RecordIsReported t moment u r
     told_so c x named alone runs =
         let up = up_there t run moment u there in record {
           command = c.command;
@@ -194,7 +194,7 @@ module _ (t : History) (run : IsTheRunOf t) where
           down = λ cut h after. cut_told t run moment u there cut h after it_asks.session c.command (Some it_asks.statement) named c x.pending refl;
         }
 
-    told_by : (c : Call) → TurnOf t moment u.node it_asks.session c → {text : Option Stmt} → Brings c (facts_upto t moment).command text → command_at t.commands c.command ≡ commands.At u.node it_asks.session text → IsReported t moment u r
+    told_by : (c : Call) → TurnOf t moment u.node it_asks.session c → {text : Option Stmt} → BringsText c (facts_upto t moment).command text → command_at t.commands c.command ≡ commands.At u.node it_asks.session text → RecordIsReported t moment u r
     told_by c x (What_is_asked text own alone runs) named =
         told_so c x (subst (λ o. command_at t.commands c.command ≡ commands.At u.node it_asks.session o) (sym own ∙ statement_is c x) named) alone (inl runs)
     told_by c x (Then_the_create st creates own alone low) named =
@@ -208,7 +208,7 @@ module _ (t : History) (run : IsTheRunOf t) where
         let yes : is_recorded it_asks.statement ≡ true = recorded it_asks.of in
         absurd (cc (no, yes))
 
-    record_told : IsReported t moment u r
+    record_told : RecordIsReported t moment u r
     record_told =
         let c = what_comes_is_pending t run moment u there it_asks.session (Some it_asks.statement) it_asks.call in
         told_by c.0 c.1 c.1.brings c.1.asked

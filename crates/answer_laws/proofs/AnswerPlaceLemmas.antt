@@ -3,7 +3,7 @@
 use Rattle.std.proofs.Common.{◌≡◌, ℕ, ◌+◌, ◌≤◌, List, [], ◌∷◌, ◌++◌, length, Option, Some, refl, sym, ap, subst, ◌∙◌, arith}
 use Rattle.std.specs.Prelude.{slice_get, take, true, false}
 use Rattle.std.proofs.lemmas.List.{append_assoc, length-append}
-use Rattle.answer_origin_laws.specs.CallTurns.{Brings, What_is_asked, A_commit_first, Then_the_create, CameBefore, TurnsFindCallsCome}
+use Rattle.answer_origin_laws.specs.CallTurns.{BringsText, What_is_asked, A_commit_first, Then_the_create, CameBefore, TurnsFindCallsCome}
 use Rattle.run_ready_laws.proofs.RunLawfulLemmas.{the_run_is_lawful}
 use Rattle.node_rules.specs.Data.{Answer, BranchId, Stmt}
 use Rattle.node_rules.specs.Data.inputs
@@ -26,7 +26,7 @@ use Rattle.run_rules.specs.Trail.{trail_after}
 use Rattle.tree_laws.proofs.PrefixLemmas.{f_at, facts_join}
 use Rattle.tree_laws.proofs.TimeLemmas.{may_of, lawful_split}
 use Rattle.tree_trail_laws.proofs.MomentLemmas.{tr_at, trail_one_on, at_moment}
-use Rattle.answer_origin_laws.specs.LeadLaws.{CallAnsweredBy, IsToldFor, EndsAsReplied, EndsAtOnce}
+use Rattle.answer_origin_laws.specs.LeadLaws.{CallAnsweredBy, IsTracedFor, EndsAsReplied, EndsInItsTurn}
 use Rattle.answer_origin_laws.specs.ToldLaws.{EndedBy}
 use Rattle.answer_origin_laws.proofs.AtOnceLemmas.{calls_end_at_once}
 use Rattle.answer_origin_laws.proofs.PartLemmas.{split_at, longer}
@@ -47,7 +47,7 @@ rows_first (stmts.Select list table cs for_update) rows = refl
 rows_first _ rows = absurd cc
 
 -- so its call brings it, while its command runs
-rows_brought : (c : Call) (running : ℕ) (s : Stmt) → is_of_rows s ≡ true → Brings c running (Some s) → (c.statement ≡ Some s) × (running ≡ c.command)
+rows_brought : (c : Call) (running : ℕ) (s : Stmt) → is_of_rows s ≡ true → BringsText c running (Some s) → (c.statement ≡ Some s) × (running ≡ c.command)
 rows_brought c running s rows (What_is_asked text is none at) = (is, at)
 rows_brought c running s rows (A_commit_first q first is follows at) = absurd (let none = rows_first q rows in cc (none, first))
 rows_brought c running s rows (Then_the_create q first is none at) = absurd (let none = rows_first q rows in cc (none, first))
@@ -119,7 +119,7 @@ module _ (found : TurnsFindCallsCome) (t : History) (due : IsTheRunOf t) (comman
   came_text = let both : commands.At u.node e.session came.turn.text ≡ commands.At node session (Some s) = sym came.turn.asked ∙ (ap (command_at t.commands) e.its ∙ asked) in cc
 
   brings : (e.call.statement ≡ Some s) × ((facts_upto t came.moment).command ≡ e.call.command)
-  brings = rows_brought e.call (facts_upto t came.moment).command s rows (subst (Brings e.call (facts_upto t came.moment).command) came_text came.turn.brings)
+  brings = rows_brought e.call (facts_upto t came.moment).command s rows (subst (BringsText e.call (facts_upto t came.moment).command) came_text came.turn.brings)
 
   its_call : LastCall t u.node e.session e.ended
   its_call = record {
@@ -148,7 +148,7 @@ module _ (found : TurnsFindCallsCome) (t : History) (due : IsTheRunOf t) (comman
     pub run : Run
     pub root : BranchId
     pub by_it : CallAnsweredBy t (tr_at t hs).moment u.node e.session root a run
-    pub told : IsToldFor t.places (f_at t hs) (tr_at t hs) u e.session root run
+    pub told : IsTracedFor t.places (f_at t hs) (tr_at t hs) u e.session root run
 
   abbrev Ends : Type 0
   Ends = Ending u.input (kept_there t whole hs u cut_there.1 cut_there.2).sessions e.outcome.ended e.session a
@@ -160,7 +160,7 @@ module _ (found : TurnsFindCallsCome) (t : History) (due : IsTheRunOf t) (comman
   its_end (By_call text call only) =
       let here : LastCall t u.node e.session e.ended = record { moment = e.ended; turn = u; there = e.there; here = refl; text = text; came = call; soon = omega arith; last = λ j high low w there at q comes. absurd (omega (arith, high, low)) } in
       let same : text ≡ Some s = one_text t u.node e.session e.ended here its_call ∙ its_text in
-      let is = at_moment t (EndsAtOnce t) (calls_end_at_once t whole) hs (happenings.Turn u) cut_there.1 cut_there.2 e.uncut e.outcome outcome e.session s (call ∙ ap (inputs.Call e.session) same) rows e.session a [] (only s same rows) good in
+      let is = at_moment t (EndsInItsTurn t) (calls_end_at_once t whole) hs (happenings.Turn u) cut_there.1 cut_there.2 e.uncut e.outcome outcome e.session s (call ∙ ap (inputs.Call e.session) same) rows e.session a [] (only s same rows) good in
       record { run = is.0; root = is.1; by_it = is.3; told = is.4 }
   its_end (By_reply from to call weight count said came_so only) =
       let may = may_of t whole hs (happenings.Turn u) cut_there.1 cut_there.2 in

@@ -14,7 +14,7 @@ use Rattle.run_rules.specs.Data.commands
 use Rattle.run_rules.specs.Due.{runs_on, happened}
 use Rattle.run_rules.specs.Facts.{first_facts}
 use Rattle.run_rules.specs.Scripts.{places_of}
-use Rattle.run_rules.specs.Lines.{told}
+use Rattle.run_rules.specs.Lines.{all_lines}
 use Rattle.run_claims.specs.Places.{node_line}
 use Rattle.run_rules.specs.RunReport.{Past, start}
 use Rattle.run_rules.specs.Trail.{trail_of}
@@ -69,9 +69,9 @@ enough = replicate 60 0
 abbrev pub past : Past
 past = runs_on places asked enough (start places)
 
--- what is told of it
+-- what is all_lines of it
 abbrev pub lines : List AnswerLine
-lines = told past.facts past.run_report
+lines = all_lines past.facts past.run_report
 
 -- and of its branches
 abbrev pub trail : Trail

@@ -37,7 +37,7 @@ use Rattle.tree_trail_laws.proofs.CallLemmas.{call_free}
 use Rattle.tree_trail_laws.proofs.OwnLiveLemmas.{root_there}
 use Rattle.tree_trail_laws.proofs.MomentLemmas.{tr_at, by_moment}
 use Rattle.tree_trail_laws.proofs.PlanLemmas.{find_more, find_last, find_passes}
-use Rattle.answer_origin_laws.specs.LeadLaws.{CallAnsweredBy, IsToldFor, EndsAtOnce, CallsEndAtOnce}
+use Rattle.answer_origin_laws.specs.LeadLaws.{CallAnsweredBy, IsTracedFor, EndsInItsTurn, CallsEndAtOnce}
 use Rattle.answer_origin_laws.proofs.CatalogLemmas.{catalog}
 use Rattle.answer_origin_laws.proofs.ExecLemmas.{way_table}
 use Rattle.answer_origin_laws.proofs.EndedRootLemmas.{Freed, call_freed, roots_told, next_told, root_after}
@@ -268,7 +268,7 @@ module _ (t : History) (whole : IsLawfulRun t) (hs : List Happening) (u : Turn) 
     last = λ j high low w there at q comes_too. absurd (omega (arith, high, low, here));
   }
 
-  told_so : IsToldFor t.places (f_at t hs) (tr_at t hs) u n r.branch r
+  told_so : IsTracedFor t.places (f_at t hs) (tr_at t hs) u n r.branch r
   told_so = record {
     seen = seen.0;
     transaction = ap (told_root (trail_after t.places (f_at t hs) (tr_at t hs) (happenings.Turn u)) u.node) freed.0 ∙ seen.1;
@@ -277,12 +277,12 @@ module _ (t : History) (whole : IsLawfulRun t) (hs : List Happening) (u : Turn) 
         ∙ ap (origin_by (with_begun (f_at t hs) (tr_at t hs) u) u (asks (with_begun (f_at t hs) (tr_at t hs) u) u.node u.input)) ran_it;
   }
 
-  pub ran_at_once : (r : Run) × (root : BranchId) × (run_in (f_at t hs) (with_begun (f_at t hs) (tr_at t hs) u) u ≡ Some r) × CallAnsweredBy t (tr_at t hs).moment u.node n root a r × IsToldFor t.places (f_at t hs) (tr_at t hs) u n root r
+  pub ran_at_once : (r : Run) × (root : BranchId) × (run_in (f_at t hs) (with_begun (f_at t hs) (tr_at t hs) u) u ≡ Some r) × CallAnsweredBy t (tr_at t hs).moment u.node n root a r × IsTracedFor t.places (f_at t hs) (tr_at t hs) u n root r
   ran_at_once = (r, r.branch, ran_it, subst (λ m. CallAnsweredBy t (tr_at t hs).moment u.node m r.branch a r) (sym freed.0) answered_so, told_so)
 
 pub calls_end_at_once : CallsEndAtOnce
-calls_end_at_once t lawful = by_moment t (EndsAtOnce t) each
+calls_end_at_once t lawful = by_moment t (EndsInItsTurn t) each
   where
-    each : (hs : List Happening) (h : Happening) (rest : List Happening) → hs ++ h ∷ rest ≡ t.trace → EndsAtOnce t t.places (f_at t hs) (tr_at t hs) h
+    each : (hs : List Happening) (h : Happening) (rest : List Happening) → hs ++ h ∷ rest ≡ t.trace → EndsInItsTurn t t.places (f_at t hs) (tr_at t hs) h
     each hs (happenings.Turn u) rest is = λ uncut o outcome session s call rows n a more ended good. ran_at_once t lawful hs u rest is uncut o outcome session s call rows n a more ended good
     each hs _ rest is = tt

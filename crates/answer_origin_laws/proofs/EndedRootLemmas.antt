@@ -23,7 +23,7 @@ use Rattle.run_base_laws.proofs.EventsStandLemmas.{run_stands}
 use Rattle.run_base_laws.proofs.RootLemmas.{RootsFit}
 use Rattle.tree_laws.proofs.PrefixLemmas.{so_far, f_at, one_on}
 use Rattle.tree_laws.proofs.TimeLemmas.{Part, part_lawful, part_on}
-use Rattle.tree_trail_laws.specs.SeenLaws.{TellsOwns, SeesRoots, Sees}
+use Rattle.tree_trail_laws.specs.SeenLaws.{TracesOwns, SeesRoots, Sees}
 use Rattle.tree_trail_laws.specs.TopLaws.{NamesNext}
 use Rattle.tree_trail_laws.proofs.CallLemmas.{seen_root}
 use Rattle.tree_trail_laws.proofs.MomentLemmas.{tr_at, trail_one_on}
@@ -64,7 +64,7 @@ module _ (ss : List Session) (n : ℕ) (me : BranchId) (has : (session_at ss n).
 
 -- ---- what is told
 
-owns_seen : (places : List Place) (asked : List Command) (f : Facts) (tr : Trail) (hs : List Happening) → EachFrom (λ g r h. Sees g r) places asked f tr hs → EachFrom (λ g r h. TellsOwns g r) places asked f tr hs
+owns_seen : (places : List Place) (asked : List Command) (f : Facts) (tr : Trail) (hs : List Happening) → EachFrom (λ g r h. Sees g r) places asked f tr hs → EachFrom (λ g r h. TracesOwns g r) places asked f tr hs
 owns_seen places asked f tr [] each = tt
 owns_seen places asked f tr (h ∷ hs) each = (each.0.owns, owns_seen places asked (facts_after places asked f h) (trail_after places f tr h) hs each.1)
 

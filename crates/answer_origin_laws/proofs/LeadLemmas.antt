@@ -24,7 +24,7 @@ use Rattle.run_rules.specs.Branches.{Run, origin_at}
 use Rattle.run_rules.specs.Data.{Turn, Happening}
 use Rattle.run_rules.specs.Data.happenings
 use Rattle.run_rules.specs.Facts.{first_facts, place_at, node_at, records_at}
-use Rattle.run_base_laws.specs.InTurnLaws.{packet_post, said_in, exec_number, newest_exec, WaitsFor, call_at, GoesOn}
+use Rattle.run_base_laws.specs.InTurnLaws.{packet_post, said_in, exec_number, newest_exec, WaitsFor, call_at, NeedsNoRollback}
 use Rattle.run_rules.specs.Lawful.{History, IsLawfulRun, facts_at}
 use Rattle.run_claims.specs.Places.{LeadsTo, Runs_here, Passes, catalog_at}
 use Rattle.run_base_laws.proofs.BirthRunLemmas.{messages_are_of_neighbors, nodes_name_the_born}
@@ -133,8 +133,8 @@ module _ (t : History) (whole : IsLawfulRun t) where
     at_edge : edge_at x.live i ≡ Some e
     at_edge = reply_is x h.from h.call i e h.waits
 
-    line : Line (place_at t.places u.node) (catalog t whole hs u.node) (GivenLast t whole hs) (CalledLast t whole hs) (said_in (f_at t hs)) (GoesOn k x.live) me x.live.edges x.work
-    line = subst (λ (w : Work). Line (place_at t.places u.node) (catalog t whole hs u.node) (GivenLast t whole hs) (CalledLast t whole hs) (said_in (f_at t hs)) (GoesOn k x.live) me x.live.edges w) (sym work) ((stand_last t whole hs part0 u.node k up).each me x.live found)
+    line : Line (place_at t.places u.node) (catalog t whole hs u.node) (GivenLast t whole hs) (CalledLast t whole hs) (said_in (f_at t hs)) (NeedsNoRollback k x.live) me x.live.edges x.work
+    line = subst (λ (w : Work). Line (place_at t.places u.node) (catalog t whole hs u.node) (GivenLast t whole hs) (CalledLast t whole hs) (said_in (f_at t hs)) (NeedsNoRollback k x.live) me x.live.edges w) (sym work) ((stand_last t whole hs part0 u.node k up).each me x.live found)
 
     -- what the branch waits for
     pub record Waited : Type 0 where

@@ -15,7 +15,7 @@ use Rattle.node_rules.proofs.LiveLemmas.{each_same, none_live}
 use Rattle.run_rules.specs.Data.{Turn, Happening}
 use Rattle.run_rules.specs.Data.happenings
 use Rattle.run_rules.specs.Facts.{Facts, place_at, flat, node_at, kept_after, with_boot, facts_after, facts_of}
-use Rattle.run_base_laws.specs.InTurnLaws.{post_of, said_in, GoesOn}
+use Rattle.run_base_laws.specs.InTurnLaws.{post_of, said_in, NeedsNoRollback}
 use Rattle.run_rules.specs.Lawful.{IsOwed, History, IsLawfulRun}
 use Rattle.run_rules.proofs.AtNodeLemmas.{turn_here, turn_elsewhere}
 use Rattle.run_base_laws.proofs.EventsStandLemmas.{first_node, run_stands, ids_name_their_node}
@@ -75,9 +75,9 @@ module _ (t : History) (whole : IsLawfulRun t) where
     other n j apart up =
         let before : node_at f0 n ≡ Some j = sym (turn_elsewhere t.places t.commands f0 even u n apart).0 ∙ up in
         subst (λ xs. LinesOf hs1 n (catalog t whole hs1 n) xs j) (sym says1)
-        (each_same (λ l w. Line (place_at t.places n) (catalog t whole hs n) (GivenLast t whole hs) (CalledLast t whole hs) said (GoesOn j l) l.me l.edges w) _ j.lives j.works (now n j before)
-        (λ y v live any was. line_more (place_at t.places n) (catalog t whole hs1 n) (GivenLast t whole hs1) (CalledLast t whole hs1) said (map post_of u.sent) y.me (GoesOn j y) y.edges v (far y.me (λ same. apart (sym same ∙ own_node n j before y live)))
-        (line_grows (place_at t.places n) (catalog t whole hs n) (catalog t whole hs1 n) (catalog_is n) (GivenLast t whole hs) (GivenLast t whole hs1) (CalledLast t whole hs) (CalledLast t whole hs1) said (GoesOn j y) (GoesOn j y) (λ goes. goes) y.me y.edges v
+        (each_same (λ l w. Line (place_at t.places n) (catalog t whole hs n) (GivenLast t whole hs) (CalledLast t whole hs) said (NeedsNoRollback j l) l.me l.edges w) _ j.lives j.works (now n j before)
+        (λ y v live any was. line_more (place_at t.places n) (catalog t whole hs1 n) (GivenLast t whole hs1) (CalledLast t whole hs1) said (map post_of u.sent) y.me (NeedsNoRollback j y) y.edges v (far y.me (λ same. apart (sym same ∙ own_node n j before y live)))
+        (line_grows (place_at t.places n) (catalog t whole hs n) (catalog t whole hs1 n) (catalog_is n) (GivenLast t whole hs) (GivenLast t whole hs1) (CalledLast t whole hs) (CalledLast t whole hs1) said (NeedsNoRollback j y) (NeedsNoRollback j y) (λ goes. goes) y.me y.edges v
         (λ g going. still_known t whole hs (happenings.Turn u) y.me (λ here s call. apart (here ∙ own_node n j before y live))) was)))
       where
         own_node : (n : ℕ) (j : NodeState) → node_at f0 n ≡ Some j → (y : Live) → live_at j y.me ≡ Some y → y.me.node ≡ n
@@ -124,8 +124,8 @@ module _ (t : History) (whole : IsLawfulRun t) where
         let grows : Extends (catalog t whole hs n) (catalog t whole (hs ++ h ∷ []) n) = catalog_on t whole n hs (h ∷ []) (part_on t whole hs h rest is) in
         elim (still n j (subst (λ f. node_at f n ≡ Some j) fact up)) [
           | inl was ↦ subst (λ xs. LinesOf (hs ++ h ∷ []) n (catalog t whole (hs ++ h ∷ []) n) xs j) (sym said)
-              (each_same (λ l w. Line (place_at t.places n) (catalog t whole hs n) (GivenLast t whole hs) (CalledLast t whole hs) (said_in (f_at t hs)) (GoesOn j l) l.me l.edges w) _ j.lives j.works (now n j was)
-              (λ y v live any it. line_grows (place_at t.places n) (catalog t whole hs n) (catalog t whole (hs ++ h ∷ []) n) grows (GivenLast t whole hs) (GivenLast t whole (hs ++ h ∷ [])) (CalledLast t whole hs) (CalledLast t whole (hs ++ h ∷ [])) (said_in (f_at t hs)) (GoesOn j y) (GoesOn j y)
+              (each_same (λ l w. Line (place_at t.places n) (catalog t whole hs n) (GivenLast t whole hs) (CalledLast t whole hs) (said_in (f_at t hs)) (NeedsNoRollback j l) l.me l.edges w) _ j.lives j.works (now n j was)
+              (λ y v live any it. line_grows (place_at t.places n) (catalog t whole hs n) (catalog t whole (hs ++ h ∷ []) n) grows (GivenLast t whole hs) (GivenLast t whole (hs ++ h ∷ [])) (CalledLast t whole hs) (CalledLast t whole (hs ++ h ∷ [])) (said_in (f_at t hs)) (NeedsNoRollback j y) (NeedsNoRollback j y)
               (λ goes. goes) y.me y.edges v (λ g going. still_known t whole hs h y.me (no_call y.me.node y.me.session)) it))
           | inr new ↦ new (catalog t whole (hs ++ h ∷ []) n) (said_in (f_at t (hs ++ h ∷ [])))
         ]
@@ -168,8 +168,8 @@ module _ (t : History) (whole : IsLawfulRun t) where
 
   -- the same without what comes last
   pub stand_at : (hs : List Happening) → Part t whole hs → (n : ℕ) (k : NodeState) → node_at (f_at t hs) n ≡ Some k
-      → EachLive (λ l w. Line (place_at t.places n) (catalog t whole hs n) (GivenBy t whole hs) (CalledAt t whole) (said_in (f_at t hs)) (GoesOn k l) l.me l.edges w) k.lives k.works
+      → EachLive (λ l w. Line (place_at t.places n) (catalog t whole hs n) (GivenBy t whole hs) (CalledAt t whole) (said_in (f_at t hs)) (NeedsNoRollback k l) l.me l.edges w) k.lives k.works
   stand_at hs part n k up =
-      each_same (λ l w. Line (place_at t.places n) (catalog t whole hs n) (GivenLast t whole hs) (CalledLast t whole hs) (said_in (f_at t hs)) (GoesOn k l) l.me l.edges w) _ k.lives k.works (stand_last hs part n k up)
-      (λ y v live any was. line_grows (place_at t.places n) (catalog t whole hs n) (catalog t whole hs n) (extends_same _) (GivenLast t whole hs) (GivenBy t whole hs) (CalledLast t whole hs) (CalledAt t whole) (said_in (f_at t hs)) (GoesOn k y) (GoesOn k y)
+      each_same (λ l w. Line (place_at t.places n) (catalog t whole hs n) (GivenLast t whole hs) (CalledLast t whole hs) (said_in (f_at t hs)) (NeedsNoRollback k l) l.me l.edges w) _ k.lives k.works (stand_last hs part n k up)
+      (λ y v live any was. line_grows (place_at t.places n) (catalog t whole hs n) (catalog t whole hs n) (extends_same _) (GivenLast t whole hs) (GivenBy t whole hs) (CalledLast t whole hs) (CalledAt t whole) (said_in (f_at t hs)) (NeedsNoRollback k y) (NeedsNoRollback k y)
       (λ goes. goes) y.me y.edges v (λ g going. record { given = λ call s is. record { given = is.0; soon = last_soon t whole hs y.me call s is.0 is.1 }; called = λ c number call s goes is. is.0 }) was)

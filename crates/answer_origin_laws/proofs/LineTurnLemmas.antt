@@ -26,7 +26,7 @@ use Rattle.run_base_laws.specs.BirthLaws.{Began, LiveIs, GoesSo}
 use Rattle.run_rules.specs.Data.{Turn, Happening}
 use Rattle.run_rules.specs.Data.happenings
 use Rattle.run_rules.specs.Facts.{Facts, place_at, node_at, records_at}
-use Rattle.run_base_laws.specs.InTurnLaws.{packet_post, said_in, newest_exec, GoesOn}
+use Rattle.run_base_laws.specs.InTurnLaws.{packet_post, said_in, newest_exec, NeedsNoRollback}
 use Rattle.run_rules.specs.Lawful.{Comes, History, IsLawfulRun}
 use Rattle.run_base_laws.specs.RunEvents.{events_of}
 use Rattle.run_base_laws.proofs.BirthLemmas.{news_of}
@@ -67,7 +67,7 @@ use Rattle.tree_laws.proofs.AtTurn.{at_turn}
 module _ (t : History) (whole : IsLawfulRun t) where
   -- the live branches of a node
   abbrev pub LinesOf : List Happening → ℕ → Durable → List Post → NodeState → Type 0
-  LinesOf hs n D said k = EachLive (λ l w. Line (place_at t.places n) D (GivenLast t whole hs) (CalledLast t whole hs) said (GoesOn k l) l.me l.edges w) k.lives k.works
+  LinesOf hs n D said k = EachLive (λ l w. Line (place_at t.places n) D (GivenLast t whole hs) (CalledLast t whole hs) said (NeedsNoRollback k l) l.me l.edges w) k.lives k.works
 
   abbrev pub LinesAt : List Happening → Facts → Type 0
   LinesAt hs f = (n : ℕ) (k : NodeState) → node_at f n ≡ Some k → LinesOf hs n (catalog t whole hs n) (said_in f) k
@@ -115,7 +115,7 @@ module _ (t : History) (whole : IsLawfulRun t) where
     codes = subst (λ ss. AllNeed ss d.after.sessions) (sessions_heard k u.input) (codes_on p u.input step)
 
     -- a root that may go on after the turn needed no rollback before it
-    goes_before : (b : BranchId) (l : Live) → live_at k b ≡ Some l → (l.parent ≡ None → May l.me) → GoesOn k l
+    goes_before : (b : BranchId) (l : Live) → live_at k b ≡ Some l → (l.parent ≡ None → May l.me) → NeedsNoRollback k l
     goes_before b l live goes none =
         let may_go : May l.me = goes none in
         let before : (session_at k.sessions l.me.session).root ≡ Some l.me = (live_root k rests.1 b l live none).root in
@@ -133,7 +133,7 @@ module _ (t : History) (whole : IsLawfulRun t) where
         (each_same (λ l w. CallsOf said k l w × RootIs k.sessions l w) Begun k.lives k.works
         (each_both (CallsOf said k) (RootIs k.sessions) k.lives k.works (subst (λ o. IfSome o (NodeCalls said)) may.1.up (stands.nodes u.node)) rests.1)
         (λ y v live any was. record {
-          turn = in_turn_goes (GoesOn k y) (y.parent ≡ None → May y.me) said y.me y.parent (children_of y) v (goes_before y.me y live) was.0;
+          turn = in_turn_goes (NeedsNoRollback k y) (y.parent ≡ None → May y.me) said y.me y.parent (children_of y) v (goes_before y.me y live) was.0;
           kids = kids_of bs0 y (all_found (LiveIs (Began bs0)) live_id k.lives y.me y (nodes_name_the_born s0 lawful0 u.node k may.1.up).0 live);
           above = above_of bs0 y (all_found (LiveIs (Began bs0)) live_id k.lives y.me y (nodes_name_the_born s0 lawful0 u.node k may.1.up).0 live);
           idle = λ none s call. (free_waits (session_at k.sessions y.me.session).call y.phase v.going (was.1 none).waits (free_by f0 k u.node y.me.session (Some s) u.took (subst (λ i. Comes f0 k u.node i u.took) call may.1.comes))).1;
@@ -216,7 +216,7 @@ module _ (t : History) (whole : IsLawfulRun t) where
     cat = subst (λ s. OneCatalog s.durable D0) (sym (tales.heard_stored t whole hs u rest is u.input)) (catalog_kept k (records_at f0 u.node) (records_are_kept s0 lawful0 u.node k may.1.up))
 
     abbrev Before : Live → Work → Type 0
-    Before l w = Line p D0 (GivenLast t whole hs) (CalledLast t whole hs) said (GoesOn k l) l.me l.edges w
+    Before l w = Line p D0 (GivenLast t whole hs) (CalledLast t whole hs) said (NeedsNoRollback k l) l.me l.edges w
 
     -- as the turn begins
     lines0 : Lines (edge_of bs0) (parent_of bs0) May Here u.input said received p D0 (GivenLast t whole hs1) (CalledLast t whole hs1) said (heard k u.input)
@@ -224,7 +224,7 @@ module _ (t : History) (whole : IsLawfulRun t) where
         heard_calls (LineOf (edge_of bs0) (parent_of bs0) May Here u.input said received p D0 (GivenLast t whole hs1) (CalledLast t whole hs1) said) k u.input
         (each_same (λ l w. Before l w × RootIs k.sessions l w) (LineOf (edge_of bs0) (parent_of bs0) May Here u.input said received p D0 (GivenLast t whole hs1) (CalledLast t whole hs1) said) k.lives k.works
         (each_both Before (RootIs k.sessions) k.lives k.works (now u.node k may.1.up) rests.1)
-        (λ y v live any was. line_grows p D0 D0 (extends_same D0) (GivenLast t whole hs) (GivenLast t whole hs1) (CalledLast t whole hs) (CalledLast t whole hs1) said (GoesOn k y) (y.parent ≡ None → May y.me) (goes_before y.me y live) y.me y.edges v
+        (λ y v live any was. line_grows p D0 D0 (extends_same D0) (GivenLast t whole hs) (GivenLast t whole hs1) (CalledLast t whole hs) (CalledLast t whole hs1) said (NeedsNoRollback k y) (y.parent ≡ None → May y.me) (goes_before y.me y live) y.me y.edges v
         (λ g going. still_known t whole hs (happenings.Turn u) y.me (uncalled y v g live was.1 going)) was.0))
 
     lines1 : LeavesSo (edge_of bs0) (parent_of bs0) May Here u.input said received p D0 (GivenLast t whole hs1) (CalledLast t whole hs1) d.after.lives d.after.works d.says
@@ -236,7 +236,7 @@ module _ (t : History) (whole : IsLawfulRun t) where
     lines_after =
         each_same (LineOf (edge_of bs0) (parent_of bs0) May Here u.input said received p D0 (GivenLast t whole hs1) (CalledLast t whole hs1) (said ++ d.says)) _ d.after.lives d.after.works lines1.0
         (λ y v live any was. line_grows p D0 (catalog t whole hs1 u.node) (catalog_on t whole u.node hs (happenings.Turn u ∷ []) part1) (GivenLast t whole hs1) (GivenLast t whole hs1) (CalledLast t whole hs1) (CalledLast t whole hs1) (said ++ d.says)
-        (y.parent ≡ None → May y.me) (GoesOn d.after y) (λ goes none. (y, live, none, goes none)) y.me y.edges v (λ g going. record { given = λ call s it. it; called = λ c n call s goes it. it }) was)
+        (y.parent ≡ None → May y.me) (NeedsNoRollback d.after y) (λ goes none. (y, live, none, goes none)) y.me y.edges v (λ g going. record { given = λ call s it. it; called = λ c n call s goes it. it }) was)
 
     -- whose calls are sent by branches of its node
     pub calls_here : AllByRecursion (λ (x : Post). is_calling x.kind ≡ true → x.from.node ≡ p.number) d.says

@@ -28,7 +28,7 @@ use Rattle.run_rules.proofs.ListLemmas.{all_weaker, all_append}
 use Rattle.run_base_laws.proofs.OwnLemmas.{all_found}
 use Rattle.run_base_laws.proofs.SaidPostLemmas.{posts_back, said_after}
 use Rattle.tree_laws.proofs.PrefixLemmas.{one_on}
-use Rattle.tree_trail_laws.specs.LowerLaws.{IsToldLive}
+use Rattle.tree_trail_laws.specs.LowerLaws.{IsTracedLive}
 use Rattle.tree_trail_laws.proofs.ChildRunLemmas.{tells_at}
 use Rattle.tree_trail_laws.proofs.ChildStepLemmas.{Grows, IsOpened}
 use Rattle.tree_trail_laws.proofs.ChildTurnLemmas as kids
@@ -73,7 +73,7 @@ module _ (t : History) (whole : IsLawfulRun t) (Ans : BranchId → ℕ → Answe
     old_begun : (b : BranchId) (s : Seen) → seen_at tr0 b ≡ Some s → seen_at tr_begun b ≡ Some s
     old_begun b s at = find_more (is_item_of seen_id b) tr0.seen _ s at
 
-    seen_before : (n : ℕ) (j : NodeState) → node_at f0 n ≡ Some j → (l : Live) → live_at j l.me ≡ Some l → l.parent ≢ None → (s : Seen) × (seen_at tr0 l.me ≡ Some s) × IsToldLive l s
+    seen_before : (n : ℕ) (j : NodeState) → node_at f0 n ≡ Some j → (l : Live) → live_at j l.me ≡ Some l → l.parent ≢ None → (s : Seen) × (seen_at tr0 l.me ≡ Some s) × IsTracedLive l s
     seen_before n j up l live below = lower_at t whole hs part0 n j up l live below
 
     module _ (uncut : u.cut ≡ false) (l : Live) (live : live_at d.after l.me ≡ Some l) (below : l.parent ≢ None) where

@@ -29,7 +29,7 @@ use Rattle.tree_trail_laws.proofs.LowerRunLemmas.{lower_at}
 use Rattle.tree_trail_laws.proofs.MomentLemmas.{tr_at, trail_one_on}
 use Rattle.tree_trail_laws.proofs.SeenLemmas.{item_mapped}
 use Rattle.tree_trail_laws.proofs.StartLemmas.{started_none, none_made}
-use Rattle.answer_origin_laws.specs.ReplyLaws.{RepliesComeFromRuns, LowerCallsAreTold}
+use Rattle.answer_origin_laws.specs.ReplyLaws.{RepliesComeFromRuns, LowerCallsAreTraced}
 use Rattle.answer_origin_laws.proofs.NumberLemmas.{numbered_map}
 use Rattle.answer_origin_laws.proofs.ReplyLivesLemmas.{turn_holds}
 use Rattle.answer_origin_laws.proofs.ReplyTurnLemmas.{RunsSo, PassesSo, Holds}
@@ -198,7 +198,7 @@ pub replies_come_from_runs : RepliesComeFromRuns
 replies_come_from_runs t lawful number x at call weight count a reply good =
     (run_holds t lawful).replies number (packet_post x) (numbered_map packet_post (facts_at t).net.packets number ∙ ap (option_map packet_post) at) call weight count a reply good
 
-pub lower_calls_are_told : LowerCallsAreTold
+pub lower_calls_are_told : LowerCallsAreTraced
 lower_calls_are_told t lawful n k up l live below =
     let seen = lower_now t lawful n k up l live below in
     let told = (run_holds t lawful).calls n k up l live below seen.0 seen.1 in

@@ -29,7 +29,7 @@ use Rattle.run_base_laws.proofs.RestRunLemmas.{NodeRests, heard_rests, run_roots
 use Rattle.run_base_laws.proofs.OwnLemmas.{all_found}
 use Rattle.tree_laws.proofs.PrefixLemmas.{so_far, f_at}
 use Rattle.tree_trail_laws.proofs.MomentLemmas.{tr_at, by_moment}
-use Rattle.answer_origin_laws.specs.LeadLaws.{AnsweredBy, CallAnsweredBy, IsToldFor, EndsAsReplied, CallsEndAsReplied}
+use Rattle.answer_origin_laws.specs.LeadLaws.{AnsweredBy, CallAnsweredBy, IsTracedFor, EndsAsReplied, CallsEndAsReplied}
 use Rattle.tree_trail_laws.proofs.SeenLemmas.{begun}
 use Rattle.answer_origin_laws.proofs.BroughtLemmas.{reply_brings}
 use Rattle.answer_origin_laws.proofs.EndedRootLemmas.{Freed, call_freed, heard_root, root_range, root_after}
@@ -133,7 +133,7 @@ module _ (t : History) (whole : IsLawfulRun t) (hs : List Happening) (u : Turn) 
   by_stand Is_gone so more ended = absurd cc
 
   pub ends_there : (more : List Finished) (o : TurnOutput) → outcome_at t.places (f_at t hs) u ≡ Some o → o.ended ≡ (record { session = session; answer = a }) ∷ more
-      → (r : Run) × (root : BranchId) × (origin_at (tr_at t hs) took.number ≡ Some r) × CallAnsweredBy t (tr_at t hs).moment u.node session root a r × (u.cut ≡ false → IsToldFor t.places (f_at t hs) (tr_at t hs) u session root r)
+      → (r : Run) × (root : BranchId) × (origin_at (tr_at t hs) took.number ≡ Some r) × CallAnsweredBy t (tr_at t hs).moment u.node session root a r × (u.cut ≡ false → IsTracedFor t.places (f_at t hs) (tr_at t hs) u session root r)
   unfolding turn_of
   ends_there more o outcome ended =
       let p : Place = place_at t.places u.node in

@@ -1,5 +1,5 @@
--- The lines that are told as each happening comes: what is so of each answer of a node that a line has, and of each that a turn ends a call with, is so of
--- each answer that is told.
+-- The lines that are all_lines as each happening comes: what is so of each answer of a node that a line has, and of each that a turn ends a call with, is so of
+-- each answer that is all_lines.
 use Rattle.std.proofs.Common.{◌≡◌, ℕ, zero, suc, ◌==◌, ◌&&◌, Bool, true, false, if◌then◌else◌, List, [], ◌∷◌, ◌++◌, map, find, slice_get, Option, Some, None, refl, sym, subst}
 use Rattle.std.specs.Prelude.{nat_lt, is_some}
 use Rattle.std.specs.List.{AllByRecursion}
@@ -15,7 +15,7 @@ use Rattle.run_rules.specs.Data.commands
 use Rattle.run_rules.specs.Data.said
 use Rattle.run_rules.specs.Disks.{Strike}
 use Rattle.run_rules.specs.Facts.{Facts, is_up, node_at}
-use Rattle.run_rules.specs.Lines.{is_reached, says_node, is_down, put_line, call_line_of, reached_line, call_line, line, spent, over_line, page_lines, told}
+use Rattle.run_rules.specs.Lines.{is_reached, says_node, is_down, put_line, call_line_of, reached_line, call_line, line, spent, over_line, page_lines, all_lines}
 use Rattle.run_rules.specs.Past.{started_says}
 use Rattle.run_rules.specs.RunReport.{Call, RunReport}
 use Rattle.run_rules.proofs.ListLemmas.{all_append}
@@ -61,7 +61,7 @@ pub started_world : (places : List Place) (n : ℕ) (o : Option Strike) → AllW
 started_world places n None = (tt, tt)
 started_world places n (Some s) = (tt, tt)
 
--- ---- what is so of each answer that is told
+-- ---- what is so of each answer that is all_lines
 
 module _ (P : ℕ → Answer → Type 0) where
   -- of what a command says
@@ -88,7 +88,7 @@ module _ (P : ℕ → Answer → Type 0) where
   mapped_from c [] all = tt
   mapped_from c (x ∷ xs) all = (all.0, mapped_from c xs all.1)
 
-  pub told_from : (f : Facts) (t : RunReport) → LinesFrom f.command t → AllByRecursion LineFrom (told f t)
+  pub told_from : (f : Facts) (t : RunReport) → LinesFrom f.command t → AllByRecursion LineFrom (all_lines f t)
   told_from f t now =
       all_append LineFrom t.lines (page_lines f t) now.lines
       (all_append LineFrom (map (line f.command) t.page.own ++ t.page.others) (map (line f.command) (t.page.stops ++ over_line f t))

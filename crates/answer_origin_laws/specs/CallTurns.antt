@@ -20,10 +20,10 @@ use Rattle.run_rules.specs.RunReport.{Call, Past}
 
 -- What a call brings of the text of its command, while this command runs. The COMMIT before a CREATE may be complete only
 -- after its command, where HOLD is on, and the CREATE comes then.
-pub data Brings (c : Call) (running : ℕ) : Option Stmt → Type 0 where
-  What_is_asked : (text : Option Stmt) → c.statement ≡ text → c.follows ≡ None → running ≡ c.command → Brings c running text
-  A_commit_first : (s : Stmt) → commits_first s ≡ true → c.statement ≡ Some (stmts.Commit None) → c.follows ≡ Some s → running ≡ c.command → Brings c running (Some s)
-  Then_the_create : (s : Stmt) → commits_first s ≡ true → c.statement ≡ Some s → c.follows ≡ None → c.command ≤ running → Brings c running (Some s)
+pub data BringsText (c : Call) (running : ℕ) : Option Stmt → Type 0 where
+  What_is_asked : (text : Option Stmt) → c.statement ≡ text → c.follows ≡ None → running ≡ c.command → BringsText c running text
+  A_commit_first : (s : Stmt) → commits_first s ≡ true → c.statement ≡ Some (stmts.Commit None) → c.follows ≡ Some s → running ≡ c.command → BringsText c running (Some s)
+  Then_the_create : (s : Stmt) → commits_first s ≡ true → c.statement ≡ Some s → c.follows ≡ None → c.command ≤ running → BringsText c running (Some s)
 
 -- The turn of a call: its statement came to its session, for which the call is pending.
 pub record TurnOf (t : History) (moment node session : ℕ) (c : Call) : Type 0 where
@@ -33,7 +33,7 @@ pub record TurnOf (t : History) (moment node session : ℕ) (c : Call) : Type 0 
   pub came : turn.input ≡ inputs.Call session c.statement
   pub text : Option Stmt
   pub asked : command_at t.commands c.command ≡ commands.At node session text
-  pub brings : Brings c (facts_upto t moment).command text
+  pub brings : BringsText c (facts_upto t moment).command text
   pub pending : call_at (past_upto t moment).run_report node session ≡ Some c
 
 -- A call came in a turn before this many happenings, it has been pending since, and no other call came to its session.

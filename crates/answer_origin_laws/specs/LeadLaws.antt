@@ -34,12 +34,12 @@ pub record AnsweredBy (t : History) (b : BranchId) (call : ℕ) (a : Answer) (r 
   pub before : moment ≤ r.moment
   pub leads : LeadsTo t r b statement
 
--- In every lawful run the run that is told of a Reply which is no refusal is one that its call led to.
+-- In every lawful run the run that a Reply comes from by the branch history, where it is no refusal, is one that its call led to.
 abbrev pub RepliesLeadToRuns : Type 0
 RepliesLeadToRuns = (t : History) → IsLawfulRun t → (number : ℕ) (x : Packet) → packet_at (facts_at t).net number ≡ Some x → (call : ℕ) (weight : Option ℕ) (count : ℕ) (a : Answer)
     → x.msg.kind ≡ kinds.Reply call weight count a → is_accepted (Some a) ≡ true → (r : Run) × (origin_at (trail_at t) number ≡ Some r) × AnsweredBy t x.msg.from call a r
 
--- So is the run that is told of the answer which a live branch below a root keeps for a call that comes again.
+-- So is the run of the answer that a live branch below a root keeps for a call that comes again.
 abbrev pub KeptAnswersLeadToRuns : Type 0
 KeptAnswersLeadToRuns = (t : History) → IsLawfulRun t → (n : ℕ) (k : NodeState) → node_at (facts_at t) n ≡ Some k → (l : Live) → live_at k l.me ≡ Some l → l.parent ≢ None → (s : Seen) → seen_at (trail_at t) l.me ≡ Some s
     → (rf : ReplyFields) → (work_at k l.me).came.reply ≡ Some rf → is_accepted (Some rf.result) ≡ true → (r : Run) × (s.answer ≡ Some r) × AnsweredBy t l.me (work_at k l.me).came.last_call rf.result r
@@ -65,20 +65,20 @@ pub record CallAnsweredBy (t : History) (now node session : ℕ) (root : BranchI
   pub soon : moment ≤ now
   pub last : NoCallSince t node session moment now
 
--- After a turn the transaction of a session is told to be this root, and its last answer to have come from this run.
-pub record IsToldFor (places : List Place) (f : Facts) (tr : Trail) (u : Turn) (session : ℕ) (root : BranchId) (r : Run) : Type 0 where
+-- By the branch history after a turn, the transaction of a session is this root, and its last answer came from this run.
+pub record IsTracedFor (places : List Place) (f : Facts) (tr : Trail) (u : Turn) (session : ℕ) (root : BranchId) (r : Run) : Type 0 where
   pub seen : Seen
   pub transaction : root_at (trail_after places f tr (happenings.Turn u)) u.node session ≡ Some seen
   pub is_me : seen.me ≡ root
   pub origin : seen.answer ≡ Some r
 
--- A turn that ends a call on a Reply, and not with a refusal: the run that is told of the Reply is one that the call led to,
+-- A turn that ends a call on a Reply, and not with a refusal: the run that the Reply comes from is one that the call led to,
 -- from the root that is the session's transaction after the turn.
 abbrev pub EndsAsReplied : History → List Place → Facts → Trail → Happening → Type 0
 EndsAsReplied t places f tr (happenings.Turn u) =
     (o : TurnOutput) → outcome_at places f u ≡ Some o → (took : Took) → u.took ≡ Some took → (from to : BranchId) (call : ℕ) (weight : Option ℕ) (count : ℕ) (said : Answer) → Came u.input from to (kinds.Reply call weight count said)
     → (session : ℕ) (a : Answer) (more : List Finished) → o.ended ≡ (record { session = session; answer = a }) ∷ more → is_accepted (Some a) ≡ true
-    → (r : Run) × (root : BranchId) × (origin_at tr took.number ≡ Some r) × CallAnsweredBy t tr.moment u.node session root a r × (u.cut ≡ false → IsToldFor places f tr u session root r)
+    → (r : Run) × (root : BranchId) × (origin_at tr took.number ≡ Some r) × CallAnsweredBy t tr.moment u.node session root a r × (u.cut ≡ false → IsTracedFor places f tr u session root r)
 EndsAsReplied t places f tr _ = Unit {0}
 
 -- In every lawful run each turn does.
@@ -87,13 +87,13 @@ CallsEndAsReplied = (t : History) → IsLawfulRun t → AtEach (EndsAsReplied t)
 
 -- A turn that a client's statement with a table comes to, and that ends its call, not with a refusal: the statement ran in
 -- it, at the root that is the session's transaction after the turn.
-abbrev pub EndsAtOnce : History → List Place → Facts → Trail → Happening → Type 0
-EndsAtOnce t places f tr (happenings.Turn u) =
+abbrev pub EndsInItsTurn : History → List Place → Facts → Trail → Happening → Type 0
+EndsInItsTurn t places f tr (happenings.Turn u) =
     u.cut ≡ false → (o : TurnOutput) → outcome_at places f u ≡ Some o → (session : ℕ) (s : Stmt) → u.input ≡ inputs.Call session (Some s) → is_of_rows s ≡ true
     → (n : ℕ) (a : Answer) (more : List Finished) → o.ended ≡ (record { session = n; answer = a }) ∷ more → is_accepted (Some a) ≡ true
-    → (r : Run) × (root : BranchId) × (run_in f (with_begun f tr u) u ≡ Some r) × CallAnsweredBy t tr.moment u.node n root a r × IsToldFor places f tr u n root r
-EndsAtOnce t places f tr _ = Unit {0}
+    → (r : Run) × (root : BranchId) × (run_in f (with_begun f tr u) u ≡ Some r) × CallAnsweredBy t tr.moment u.node n root a r × IsTracedFor places f tr u n root r
+EndsInItsTurn t places f tr _ = Unit {0}
 
 -- In every lawful run each turn does.
 abbrev pub CallsEndAtOnce : Type 0
-CallsEndAtOnce = (t : History) → IsLawfulRun t → AtEach (EndsAtOnce t) t
+CallsEndAtOnce = (t : History) → IsLawfulRun t → AtEach (EndsInItsTurn t) t

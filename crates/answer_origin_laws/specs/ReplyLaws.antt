@@ -20,13 +20,13 @@ abbrev pub RepliesComeFromRuns : Type 0
 RepliesComeFromRuns = (t : History) → IsLawfulRun t → (number : ℕ) (x : Packet) → packet_at (facts_at t).net number ≡ Some x → (call : ℕ) (weight : Option ℕ) (count : ℕ) (a : Answer)
     → x.msg.kind ≡ kinds.Reply call weight count a → is_accepted (Some a) ≡ true → (r : Run) × (origin_at (trail_at t) number ≡ Some r) × RanAt t r a
 
--- What is told of the calls of a live branch below a root is what its node keeps: the last one that it took, and the run
--- that the answer comes from which it keeps for a call that comes again.
-pub record CallsAreTold (t : History) (w : Work) (s : Seen) : Type 0 where
+-- The branch history of the calls of a live branch below a root agrees with what its node keeps: the last one that it took, and
+-- the run that gave the answer which it keeps for a call that comes again.
+pub record CallsAreTraced (t : History) (w : Work) (s : Seen) : Type 0 where
   pub taken : s.taken ≡ w.came.last_call
   pub kept : (rf : ReplyFields) → w.came.reply ≡ Some rf → is_accepted (Some rf.result) ≡ true → (r : Run) × (s.answer ≡ Some r) × RanAt t r rf.result
 
 -- In every lawful run it is so of each live branch below a root.
-abbrev pub LowerCallsAreTold : Type 0
-LowerCallsAreTold = (t : History) → IsLawfulRun t → (n : ℕ) (k : NodeState) → node_at (facts_at t) n ≡ Some k → (l : Live) → live_at k l.me ≡ Some l → l.parent ≢ None
-    → (s : Seen) × (seen_at (trail_at t) l.me ≡ Some s) × CallsAreTold t (work_at k l.me) s
+abbrev pub LowerCallsAreTraced : Type 0
+LowerCallsAreTraced = (t : History) → IsLawfulRun t → (n : ℕ) (k : NodeState) → node_at (facts_at t) n ≡ Some k → (l : Live) → live_at k l.me ≡ Some l → l.parent ≢ None
+    → (s : Seen) × (seen_at (trail_at t) l.me ≡ Some s) × CallsAreTraced t (work_at k l.me) s

@@ -44,8 +44,8 @@ pub fn kept_answers_lead_to_runs()
     ensures { KeptAnswersLeadToRuns }
 {}
 
-/// No law of places is about nothing: in the tried run of two nodes B's Reply is told to come from its run of the statement
-/// that A passed on, and A's last answer from its own run.
+/// The laws of places are not about nothing: in the tried run of two nodes B's Reply comes from its run of the statement that
+/// A passed on, and A's last answer from its own run.
 pub fn the_tried_place()
     ensures { TheTriedPlace }
 {}

@@ -28,7 +28,7 @@ use Rattle.run_rules.specs.Births.{Born, born_at, births_of}
 use Rattle.run_base_laws.specs.BirthLaws.{Began, KeptIs, RecordNames}
 use Rattle.run_rules.specs.Book.{is_sealed_of, is_end_of, stands, in_doubt, EachAgainst}
 use Rattle.run_rules.specs.Entries.{entry_of}
-use Rattle.run_base_laws.specs.EventRows.{RowIs, IsKnown, IsForcedAs, IsDone}
+use Rattle.run_base_laws.specs.EventRows.{RowIs, IsKnown, IsForcedAs, IsGoneForGood}
 use Rattle.run_rules.specs.Facts.{first_facts, node_at, records_at}
 use Rattle.run_claims.specs.Knowledge.{is_id_of, named_in_doubt}
 use Rattle.run_rules.specs.BranchRecords.{sealed_in}
@@ -194,7 +194,7 @@ module _ (t : History) (lawful : IsLawfulRun t) (n : ℕ) (k : NodeState) (up : 
       let row : RowIs (events_of t) s.0 = one_of_all (RowIs (events_of t)) s.0 k.stored.durable.kept rows s.1 in
       (s.0, s.1, me, sealed_by (events_of t) s.0 is.scn row (ap (exit (events_of t)) me ∙ sealed) (ap (learned (events_of t)) me ∙ untold.0) (ap (forced (events_of t)) me ∙ untold.1) s.0.state row.force)
     where
-      not_done : (c : BranchId) (scn : ℕ) → exit (events_of t) c ≡ Some (Sealed scn) → learned (events_of t) c ≡ None → IsDone (events_of t) c → ⊥
+      not_done : (c : BranchId) (scn : ℕ) → exit (events_of t) c ≡ Some (Sealed scn) → learned (events_of t) c ≡ None → IsGoneForGood (events_of t) c → ⊥
       not_done c scn sealed unlearned (inl told) = absurd (cc (unlearned, told))
       not_done c scn sealed unlearned (inr forgot) = elim (i.forgets c forgot).0.1 [ inl decided ↦ absurd (cc (sealed, decided)) | inr told ↦ absurd (cc (unlearned, told)) ]
 

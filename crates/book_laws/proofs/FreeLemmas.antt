@@ -18,7 +18,7 @@ use Rattle.run_rules.specs.Facts.{records_at}
 use Rattle.run_rules.specs.Lawful.{History, IsLawfulRun, facts_at}
 use Rattle.run_key_laws.specs.RiseLaws.{are_of_one_key}
 use Rattle.run_key_laws.specs.OrderLaws.{ends, have_a_key_in_common, IsDoneBefore, ComesInOrder, InOrderFrom}
-use Rattle.run_key_laws.specs.CommitOrderLaws.{Leaves, changes_by}
+use Rattle.run_key_laws.specs.CommitOrderLaws.{SealsOrDecides, changes_by}
 use Rattle.run_key_laws.proofs.CommitOrderLemmas.{at_split}
 use Rattle.run_key_laws.proofs.OrderLemmas.{keys_come_in_order}
 use Rattle.tree_laws.proofs.AgreeLemmas.{runs_agree}
@@ -85,7 +85,7 @@ done_by n older cs (records.Sealed q) b g ds scn is done common =
     subst (λ z. list_any (ends z) older ≡ true) me (done (subst (λ xs. have_a_key_in_common xs cs ≡ true) (sym changes) common))
 done_by n older cs _ b g ds scn is done common = absurd cc
 
-all_done : (older : List RedoRecord) (c : BranchId) (r : RedoRecord) → Leaves c r → ComesInOrder older r → AllByRecursion (IsDoneBefore older (changes_by r)) older
+all_done : (older : List RedoRecord) (c : BranchId) (r : RedoRecord) → SealsOrDecides c r → ComesInOrder older r → AllByRecursion (IsDoneBefore older (changes_by r)) older
 all_done older c (records.Sealed q) leaves order = order.0
 all_done older c (records.Decided q) leaves order = order.0
 all_done older c _ leaves order = absurd leaves

@@ -13,7 +13,7 @@ use Rattle.run_rules.specs.Data.{Happening, Command}
 use Rattle.run_rules.specs.Data.happenings
 use Rattle.run_rules.specs.Each.{EachFrom}
 use Rattle.run_rules.specs.Facts.{Facts, first_facts, place_at, records_at, facts_after}
-use Rattle.run_claims.specs.Knowledge.{MayWrite, MaySay, MayForget, Knows}
+use Rattle.run_claims.specs.Knowledge.{MayWrite, MaySay, MayForget, KnowsEnough}
 use Rattle.run_rules.specs.BranchRecords.{decided_in}
 use Rattle.run_base_laws.specs.NodeLaws.{EachFactFrom, TellsRecorded, TellsRecords}
 use Rattle.run_rules.specs.Trail.{trail_after}
@@ -59,7 +59,7 @@ module _ (p : Place) (f : Facts) (tr after : Trail) (k : NodeState) (n : ℕ) (i
     said_all (m ∷ ms) told life = (says m.from m.to m.kind told.0 life.0, said_all ms told.1 life.1)
 
 module _ (places : List Place) (asked : List Command) where
-  knows_so : (f : Facts) (tr : Trail) (h : Happening) → WritesDue places f h → TellsRecords places f h → KnowsLives places f tr h → Knows places f tr h
+  knows_so : (f : Facts) (tr : Trail) (h : Happening) → WritesDue places f h → TellsRecords places f h → KnowsLives places f tr h → KnowsEnough places f tr h
   knows_so f tr (happenings.Turn u) due told life = λ k up. (let lives : TurnKnowsLives places f tr u k = life k up in
       let after : Trail = trail_after places f tr (happenings.Turn u) in
       record {
@@ -69,7 +69,7 @@ module _ (places : List Place) (asked : List Command) where
   knows_so f tr _ due told life = tt
 
   each_knows : (f : Facts) (tr : Trail) (hs : List Happening) → EachFactFrom (WritesDue places) places asked f hs → EachFactFrom (TellsRecords places) places asked f hs → EachFrom (KnowsLives places) places asked f tr hs
-      → EachFrom (Knows places) places asked f tr hs
+      → EachFrom (KnowsEnough places) places asked f tr hs
   each_knows f tr [] due told life = tt
   each_knows f tr (h ∷ hs) due told life = (knows_so f tr h due.0 told.0 life.0, each_knows (facts_after places asked f h) (trail_after places f tr h) hs due.1 told.1 life.1)
 

@@ -17,7 +17,7 @@ use Rattle.run_rules.specs.Book.{is_end_of, stands, At}
 use Rattle.run_rules.specs.Entries.{entry_of}
 use Rattle.run_key_laws.specs.RiseLaws.{are_of_one_key}
 use Rattle.run_key_laws.specs.OrderLaws.{ends, have_a_key_in_common}
-use Rattle.run_key_laws.specs.CommitOrderLaws.{IsIn, Leaves, changes_by, LeavesAfter}
+use Rattle.run_key_laws.specs.CommitOrderLaws.{IsIn, SealsOrDecides, changes_by, LeavesAfter}
 use Rattle.book_laws.specs.DiskLaws.{node_of, is_of_node}
 use Rattle.book_laws.proofs.PlaceLemmas.{IsOne, found, finds, one_kept, one_of_flat, one_before, parted}
 
@@ -44,10 +44,10 @@ IsOf x g cs (entries.Decided b h ds scn) = (b ≡ x) × (h ≡ g) × (ds ≡ cs)
 IsOf x g cs _ = ⊥
 
 -- the branch leaves by its record
-pub leaves_by : (n : ℕ) (x g : BranchId) (cs : List Change) (e : Entry) (r : RedoRecord) → entry_of n r ≡ e ∷ [] → IsOf x g cs e → Leaves x r × (changes_by r ≡ cs)
+pub leaves_by : (n : ℕ) (x g : BranchId) (cs : List Change) (e : Entry) (r : RedoRecord) → entry_of n r ≡ e ∷ [] → IsOf x g cs e → SealsOrDecides x r × (changes_by r ≡ cs)
 leaves_by n x g cs e r is of = by r is (subst (λ es. AllByRecursion (IsOf x g cs) es) (sym is) (of, tt))
   where
-    by : (r : RedoRecord) → entry_of n r ≡ e ∷ [] → AllByRecursion (IsOf x g cs) (entry_of n r) → Leaves x r × (changes_by r ≡ cs)
+    by : (r : RedoRecord) → entry_of n r ≡ e ∷ [] → AllByRecursion (IsOf x g cs) (entry_of n r) → SealsOrDecides x r × (changes_by r ≡ cs)
     by (records.Sealed s) is all = (all.0.0, all.0.2)
     by (records.Decided s) is all = (all.0.0, all.0.2)
     by (records.Table t) is all = absurd all.0

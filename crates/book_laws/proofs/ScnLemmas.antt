@@ -21,7 +21,7 @@ use Rattle.run_base_laws.specs.RunEvents.{events_of}
 use Rattle.run_claims.specs.Headline.{EveryScnIsLater}
 use Rattle.run_key_laws.specs.RiseLaws.{are_of_one_key}
 use Rattle.run_key_laws.specs.OrderLaws.{ends, have_a_key_in_common, IsDoneBefore, ComesInOrder, InOrderFrom}
-use Rattle.run_key_laws.specs.CommitOrderLaws.{Leaves, changes_by, LeavesAfter}
+use Rattle.run_key_laws.specs.CommitOrderLaws.{SealsOrDecides, changes_by, LeavesAfter}
 use Rattle.run_branch_laws.proofs.EventBookLemmas.{book_of_events}
 use Rattle.run_key_laws.proofs.OrderLemmas.{keys_come_in_order}
 use Rattle.run_key_laws.proofs.CommitOrderLemmas.{has_learned, at_split}
@@ -124,7 +124,7 @@ done_by n older cs (records.Sealed q) y h ds scn is done common =
     subst (λ z. list_any (ends z) older ≡ true) me (done (subst (λ xs. have_a_key_in_common xs cs ≡ true) (sym changes) common))
 done_by n older cs _ y h ds scn is done common = absurd cc
 
-all_done : (older : List RedoRecord) (x : BranchId) (other : RedoRecord) → Leaves x other → ComesInOrder older other → AllByRecursion (IsDoneBefore older (changes_by other)) older
+all_done : (older : List RedoRecord) (x : BranchId) (other : RedoRecord) → SealsOrDecides x other → ComesInOrder older other → AllByRecursion (IsDoneBefore older (changes_by other)) older
 all_done older x (records.Sealed r) leaves order = order.0
 all_done older x (records.Decided r) leaves order = order.0
 all_done older x _ leaves order = absurd leaves

@@ -9,7 +9,7 @@ use Rattle.node_rules.specs.Rows.{same_value, get}
 use Rattle.node_rules.specs.Words.{same_text}
 use Rattle.run_rules.specs.Data.{Entry}
 use Rattle.run_rules.specs.Data.entries
-use Rattle.run_rules.specs.Book.{is_forced_of, stands, Follows, EachAgainst, changes_of, commits_at, rows_of, committed_at, rows_told, in_doubt}
+use Rattle.run_rules.specs.Book.{is_forced_of, stands, Follows, EachAgainst, changes_of, commits_at, rows_of, committed_at, rows_by_book, in_doubt}
 use Rattle.run_rules.specs.Runs.{keys_in_doubt}
 use Rattle.book_laws.specs.SealLaws.{ComesFirst}
 use Rattle.book_laws.proofs.PlaceLemmas.{IsOne}
@@ -108,8 +108,8 @@ module _ (n : ℕ) (table : List ℕ) (key : Value) where
             and_last false = refl
 
     -- so the book has the row that is told
-    pub rows_same : EachAgainst Comes [] book → get (rows_told book n table) key ≡ get (rows_of book n table) key
-    unfolding rows_told rows_of
+    pub rows_same : EachAgainst Comes [] book → get (rows_by_book book n table) key ≡ get (rows_of book n table) key
+    unfolding rows_by_book rows_of
     rows_same all =
         let now : Stands book = stands_from [] book all empty_stands in
         got_applied table key [] (committed_at [] n book)

@@ -8,7 +8,7 @@ use Rattle.node_rules.specs.Data.{Value, Table, Doubt}
 use Rattle.node_rules.specs.NodeState.{NodeState}
 use Rattle.node_rules.specs.Rows.{same_value, get, rows_of_table}
 use Rattle.node_rules.specs.Words.{same_text}
-use Rattle.run_rules.specs.Book.{rows_of, rows_told}
+use Rattle.run_rules.specs.Book.{rows_of, rows_by_book}
 use Rattle.run_rules.specs.Entries.{book_of}
 use Rattle.run_rules.specs.Facts.{node_at}
 use Rattle.run_rules.specs.Lawful.{History, IsLawfulRun, facts_at}
@@ -28,7 +28,7 @@ DoubtsAgree = (t : History) → IsLawfulRun t → (n : ℕ) (k : NodeState) → 
 -- the other, as in the order of the decisions, whether the node is up or down
 abbrev pub OrdersAgree : Type 0
 OrdersAgree = (t : History) → IsLawfulRun t → (n : ℕ) (table : List ℕ) (key : Value) → list_any (same_value key) (keys_in_doubt (book_of t.trace) n table) ≡ false
-    → get (rows_told (book_of t.trace) n table) key ≡ get (rows_of (book_of t.trace) n table) key
+    → get (rows_by_book (book_of t.trace) n table) key ≡ get (rows_of (book_of t.trace) n table) key
 
 -- so at each key that is not in doubt the node has the row of the book, or both have none
 abbrev pub RowsAgree : Type 0

@@ -6,7 +6,7 @@ use Rattle.script_run.specs.declared.outcome.Run.{Run}
 use Rattle.script_run.specs.declared.outcome.Status.{Status}
 use Rattle.script_run.specs.declared.outcome.Status.TheVariants.{Done, BadScript, Usage, NoMemory, ReadFault, WriteFault, TooLong}
 use Rattle.script_run.specs.Headline.{IsRun, nothing_done}
-use Rattle.script_run.specs.Ending.{Read, Written, IsCut, EndsRead, IsComplete, ending_of, due_of}
+use Rattle.script_run.specs.Ending.{Read, Written, TextIsCut, EndsRead, IsComplete, ending_of, due_of}
 use Rattle.script_run.proofs.Headlines.{with_status}
 use Rattle.script_run.proofs.Endings.{is_complete}
 use Rattle.chart_run.specs.declared.choices.Choices.{Choices}
@@ -27,7 +27,7 @@ refused wanted r w run before report f g BadScript empty ends written =
     (ends.0, ends.1, ends.2, (ends.3.0, ends.3.1, subst (λ (l : List ℕ). Appends w.before w.now l) is written.1))
 refused wanted r w run before report f g WriteFault empty ends written =
     let is : report ≡ due_of (asked ends.0) false run = ends.3.2 ∙ ap (λ (b : List ℕ). b ++ due_of (asked ends.0) false run) empty in
-    (ends.0, inr (record { all = ends.1; unfailed = ends.2; bad = ends.3.0; nothing = ends.3.1 }, subst (λ (l : List ℕ). IsCut w l) is written))
+    (ends.0, inr (record { all = ends.1; unfailed = ends.2; bad = ends.3.0; nothing = ends.3.1 }, subst (λ (l : List ℕ). TextIsCut w l) is written))
 refused wanted r w run before report f g Done empty ends written = let clash : Done ≡ BadScript = written.0 in absurd cc
 refused wanted r w run before report f g Usage empty ends written = let clash : Usage ≡ BadScript = written.0 in absurd cc
 refused wanted r w run before report f g NoMemory empty ends written = let clash : NoMemory ≡ BadScript = written.0 in absurd cc

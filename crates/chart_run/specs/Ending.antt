@@ -9,7 +9,7 @@ use Rattle.script_run.specs.declared.outcome.Run.{Run}
 use Rattle.script_run.specs.declared.outcome.Status.{Status}
 use Rattle.script_run.specs.declared.outcome.Status.TheVariants.{Done, BadScript, Usage, NoMemory, WriteFault}
 use Rattle.script_run.specs.Headline.{nothing_done}
-use Rattle.script_run.specs.Ending.{Read, Written, IsUnread, IsUnfailed, IsCut, IsAskedBy, IsWhole, EndsReported, EndsRead, due_of}
+use Rattle.script_run.specs.Ending.{Read, Written, IsUnread, IsUnfailed, TextIsCut, IsAskedBy, RunIsWhole, EndsReported, EndsRead, due_of}
 use Rattle.chart_run.specs.declared.choices.Choices.{Choices}
 use Rattle.chart_run.specs.Drawing.{picture_of}
 
@@ -19,7 +19,7 @@ usage_line = codes "usage: dtx_chart [--text] [--from N] [--to N]\n"
 
 -- how the writing of a line ends in place of a picture, with this status where it is written whole
 abbrev pub EndsLined : Status → Written → List ℕ → Status → Type 0
-EndsLined due w line WriteFault = IsCut w line
+EndsLined due w line WriteFault = TextIsCut w line
 EndsLined due w line status = (status ≡ due) × Appends w.before w.now line
 
 -- how a call ends whose words are wrong: nothing is read or run, and the usage line is written
@@ -41,10 +41,10 @@ pub record IsRunOf (r : Read) (bytes : List ℕ) (run : Run) : Type 0 where
   pub all : IsAll script_limit r.before r.now bytes
   pub unfailed : IsUnfailed r
   pub asked : IsAskedBy bytes run
-  pub whole : IsWhole run
+  pub whole : RunIsWhole run
 
 -- the source was read to its end, and its script is bad
-pub record IsRefused (r : Read) (bytes : List ℕ) (run : Run) : Type 0 where
+pub record ScriptIsBad (r : Read) (bytes : List ℕ) (run : Run) : Type 0 where
   pub all : IsAll script_limit r.before r.now bytes
   pub unfailed : IsUnfailed r
   pub bad : IsErr (asked bytes)
@@ -54,5 +54,5 @@ pub record IsRefused (r : Read) (bytes : List ℕ) (run : Run) : Type 0 where
 abbrev pub EndsDrawn : Choices → Read → Written → Run → Status → Type 0
 EndsDrawn wanted r w run Done = (bytes : List ℕ) × IsRunOf r bytes run × Appends w.before w.now (picture_of wanted run)
 EndsDrawn wanted r w run WriteFault =
-    (bytes : List ℕ) × (IsRunOf r bytes run × IsCut w (picture_of wanted run) ⊎ IsRefused r bytes run × IsCut w (due_of (asked bytes) false run))
+    (bytes : List ℕ) × (IsRunOf r bytes run × TextIsCut w (picture_of wanted run) ⊎ ScriptIsBad r bytes run × TextIsCut w (due_of (asked bytes) false run))
 EndsDrawn wanted r w run status = EndsRead false r w run status

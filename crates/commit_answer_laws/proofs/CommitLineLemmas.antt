@@ -32,7 +32,7 @@ use Rattle.tree_trail_laws.specs.SeenLaws.{IsSeenRoot, Sees}
 use Rattle.tree_trail_laws.proofs.CallLemmas.{call_free}
 use Rattle.tree_trail_laws.proofs.MomentLemmas.{tr_at, at_moment}
 use Rattle.tree_trail_laws.proofs.SeenRunLemmas.{all_is_seen}
-use Rattle.answer_origin_laws.specs.CallTurns.{Brings, What_is_asked, A_commit_first, Then_the_create, CameBefore}
+use Rattle.answer_origin_laws.specs.CallTurns.{BringsText, What_is_asked, A_commit_first, Then_the_create, CameBefore}
 use Rattle.answer_origin_laws.specs.ToldLaws.{EndedBy}
 use Rattle.answer_origin_laws.proofs.CallTurnLemmas.{turns_find_calls_come}
 use Rattle.answer_origin_laws.proofs.ComeLemmas.{below_or}
@@ -40,7 +40,7 @@ use Rattle.answer_origin_laws.proofs.PartLemmas.{split_at}
 use Rattle.answer_origin_laws.proofs.ReplyRunLemmas.{prefix}
 use Rattle.answer_origin_laws.proofs.ToldTurnLemmas.{lines_come_from_turns}
 use Rattle.answer_origin_laws.proofs.UptoLemmas.{facts_there, may_at}
-use Rattle.commit_answer_laws.specs.CommitEndLaws.{Ends, CommitPends}
+use Rattle.commit_answer_laws.specs.CommitEndLaws.{EndsCall, CommitPends}
 use Rattle.commit_answer_laws.specs.CommitLines.{IsTrueOf, Had_none, Is_decided, Had_no_changes, Is_rolled_back, Is_committed, Is_in_doubt, Must_roll_back, AnswersTruly, CommitsAnswerTruly}
 use Rattle.commit_answer_laws.proofs.EndRunLemmas.{ends_for}
 use Rattle.commit_answer_laws.proofs.EndStepLemmas as ends
@@ -80,7 +80,7 @@ module _ (t : History) (whole : IsLawfulRun t) (g : BranchId) (a : Answer) (it :
 
 -- ---- calls that end
 
-ends_at : (fs : List Finished) (i : ℕ) (f : Finished) → slice_get fs i ≡ Some f → Ends f fs
+ends_at : (fs : List Finished) (i : ℕ) (f : Finished) → slice_get fs i ≡ Some f → EndsCall f fs
 ends_at [] zero f is = absurd cc
 ends_at [] (suc i) f is = absurd cc
 ends_at (x ∷ fs) zero f is = inl (let it : Some x ≡ Some f = is in cc)
@@ -108,11 +108,11 @@ module _ (t : History) (run : IsTheRunOf t) (command : ℕ) (a : Answer) (e : En
   its_call = turns_find_calls_come t run e.ended e.turn e.there e.turn.node e.session e.call e.pending
 
   -- what its command brought
-  pub its_text : (node session : ℕ) (s : Stmt) → command_at t.commands command ≡ commands.At node session (Some s) → Brings e.call (facts_upto t its_call.moment).command (Some s)
+  pub its_text : (node session : ℕ) (s : Stmt) → command_at t.commands command ≡ commands.At node session (Some s) → BringsText e.call (facts_upto t its_call.moment).command (Some s)
   its_text node session s asked =
       let it : commands.At e.turn.node e.session its_call.turn.text ≡ commands.At node session (Some s) = sym its_call.turn.asked ∙ (ap (command_at t.commands) e.its ∙ asked) in
       let text : its_call.turn.text ≡ Some s = cc in
-      subst (Brings e.call (facts_upto t its_call.moment).command) text its_call.turn.brings
+      subst (BringsText e.call (facts_upto t its_call.moment).command) text its_call.turn.brings
 
   -- where it was made
   pub its_place : (node session : ℕ) (s : Stmt) → command_at t.commands command ≡ commands.At node session (Some s) → (e.turn.node ≡ node) × (e.session ≡ session)
@@ -194,8 +194,8 @@ module _ (t : History) (run : IsTheRunOf t) (command node session : ℕ) (commen
       let it : Some e.outcome ≡ Some o = sym e.comes ∙ there in
       cc
 
-  ended : Ends (record { session = e.session; answer = a }) o.ended
-  ended = subst (λ (x : TurnOutput). Ends (record { session = e.session; answer = a }) x.ended) outcome (ends_at e.outcome.ended e.number (record { session = e.session; answer = a }) e.answers)
+  ended : EndsCall (record { session = e.session; answer = a }) o.ended
+  ended = subst (λ (x : TurnOutput). EndsCall (record { session = e.session; answer = a }) x.ended) outcome (ends_at e.outcome.ended e.number (record { session = e.session; answer = a }) e.answers)
 
   rests : SessionsFit k
   rests = (let it : NodeRests k = subst (λ q. IfSome q NodeRests) up (run_roots (so_far t split.0) (part_lawful t whole split.0 (part_of t whole split.0 (happenings.Turn e.turn) split.1 split.2)) e.turn.node) in it.0)
@@ -228,7 +228,7 @@ module _ (t : History) (run : IsTheRunOf t) (command node session : ℕ) (commen
         root = subst (λ i. (session_at k.sessions i).root ≡ Some g) (sym same) keeps.stays;
         call = subst (λ i. (session_at k.sessions i).call ≡ pending.Commit) (sym same) commits;
       } in
-      let there : Ends (record { session = g.session; answer = a }) o.ended = subst (λ i. Ends (record { session = i; answer = a }) o.ended) (sym same) ended in
+      let there : EndsCall (record { session = g.session; answer = a }) o.ended = subst (λ i. EndsCall (record { session = i; answer = a }) o.ended) (sym same) ended in
       subst (λ r. IsTrueOf t r a) (sym keeps.was) (ends_so g keeps.stays (ends_for t whole split.0 e.turn split.1 split.2 k up g a pends there))
 
   -- in its own turn
@@ -263,7 +263,7 @@ module _ (t : History) (run : IsTheRunOf t) (command node session : ℕ) (commen
 
     says_now : Says
     unfolding turn_of
-    says_now = by_end (own_end k rests e.session comment a (subst (λ i. Ends (record { session = e.session; answer = a }) (turn_of (place_at t.places e.turn.node) k i).ended) call ended))
+    says_now = by_end (own_end k rests e.session comment a (subst (λ i. EndsCall (record { session = e.session; answer = a }) (turn_of (place_at t.places e.turn.node) k i).ended) call ended))
 
   says : Says
   says = elim (below_or came.moment e.ended came.before) [ inl later ↦ says_later later | inr now ↦ says_now now ]
@@ -291,7 +291,7 @@ module _ (t : History) (run : IsTheRunOf t) (command node session : ℕ) (a : An
       place : (e.turn.node ≡ node) × (e.session ≡ session)
       place = its_place t run command a e node session (stmts.Commit comment) asked
 
-      by : Brings e.call (facts_upto t (its_call t run command a e).moment).command (Some (stmts.Commit comment)) → AnswersTruly t command node session comment a
+      by : BringsText e.call (facts_upto t (its_call t run command a e).moment).command (Some (stmts.Commit comment)) → AnswersTruly t command node session comment a
       by (What_is_asked text is none at) = truly t run command node session comment a e place.0 place.1 is (at ∙ e.its)
       by (A_commit_first s creates is follows at) = absurd cc
       by (Then_the_create s creates is none at) = absurd cc
@@ -315,7 +315,7 @@ module _ (t : History) (run : IsTheRunOf t) (command node session : ℕ) (a : An
       place : (e.turn.node ≡ node) × (e.session ≡ session)
       place = its_place t run command a e node session s asked
 
-      by : Brings e.call (facts_upto t (its_call t run command a e).moment).command (Some s) → CameTo t command node session s ⊎ AnswersTruly t command node session None a
+      by : BringsText e.call (facts_upto t (its_call t run command a e).moment).command (Some s) → CameTo t command node session s ⊎ AnswersTruly t command node session None a
       by (What_is_asked text is none at) = inl (create_came s place is (inl (at ∙ e.its)))
       by (A_commit_first st creates is follows at) = inr (truly t run command node session None a e place.0 place.1 is (at ∙ e.its))
       by (Then_the_create st creates is none at) = inl (create_came s place is (inr (one, subst (λ c. c ≤ (facts_upto t (its_call t run command a e).moment).command) e.its at)))

@@ -26,7 +26,7 @@ use Rattle.run_base_laws.proofs.RestRunLemmas.{NodeRests, heard_rests, heard_bef
 use Rattle.tree_laws.proofs.AnswerRunLemmas.{lives_heard}
 use Rattle.tree_laws.proofs.PrefixLemmas.{f_at, one_on}
 use Rattle.tree_trail_laws.proofs.CallLemmas.{call_free}
-use Rattle.commit_answer_laws.specs.CommitEndLaws.{CommitPends, Ends, TurnsEndCommits, CommitsEndSo}
+use Rattle.commit_answer_laws.specs.CommitEndLaws.{CommitPends, EndsCall, TurnsEndCommits, CommitsEndSo}
 use Rattle.commit_answer_laws.proofs.EndStepLemmas.{StepEnd, as_end, Known, NoReply, ends_on}
 use Rattle.tree_laws.proofs.AtTurn.{at_turn}
 
@@ -86,7 +86,7 @@ module _ (t : History) (whole : IsLawfulRun t) (hs : List Happening) (u : Turn) 
         rows = λ s at. (s, subst (λ ks. item_at kept_row_id ks g ≡ Some s) (heard_rows k u.input) at);
       }
 
-      pub ends_for : Ends (record { session = g.session; answer = a }) (turn_of (place_at t.places u.node) k u.input).ended
+      pub ends_for : EndsCall (record { session = g.session; answer = a }) (turn_of (place_at t.places u.node) k u.input).ended
           → StepEnd k u.input (turn_of (place_at t.places u.node) k u.input).after (turn_of (place_at t.places u.node) k u.input).wrote (turn_of (place_at t.places u.node) k u.input).sent g a
       unfolding turn_of
       ends_for there = ends_on k u.input g a other (place_at t.places u.node) (serves t.places f u k turn).step known there

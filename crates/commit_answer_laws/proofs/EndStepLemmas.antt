@@ -38,7 +38,7 @@ use Rattle.run_base_laws.proofs.RootLemmas.{SessionsFit, session_or_before, begu
 use Rattle.answer_laws.proofs.WhyEndsLemmas.{ExecsBelow}
 use Rattle.tree_laws.proofs.TopStepLemmas.{Finishes, On_answer}
 use Rattle.commit_answer_laws.specs.CommitEndLaws as laws
-use Rattle.commit_answer_laws.specs.CommitEndLaws.{row_knows, Leaves, CommitEnd, Ends}
+use Rattle.commit_answer_laws.specs.CommitEndLaws.{row_knows, LeavesUnrecorded, CommitEnd, EndsCall}
 
 neither : (p q r : Bool) → q ≡ false → r ≡ false → ((p && q) || r) ≡ false
 neither true false r none rest = rest
@@ -49,10 +49,10 @@ neither false q r none rest = rest
 -- session tree has changes.
 pub data StepEnd (k : NodeState) (input : Input) (after : NodeState) (wrote : Option RedoRecord) (sent : List Msg) (g : BranchId) (a : Answer) : Type 0 where
   Has_decided : (r : Decided) (l : Live) → live_at k g ≡ Some l → wrote ≡ Some (records.Decided r) → r.me ≡ g → a ≡ commit_complete → StepEnd k input after wrote sent g a
-  Has_no_site : (leaves : Leaves k after wrote sent g) → leaves.live.parent ≡ None → Finishes input g leaves.live k.sessions → a ≡ commit_complete → StepEnd k input after wrote sent g a
+  Has_no_site : (leaves : LeavesUnrecorded k after wrote sent g) → leaves.live.parent ≡ None → Finishes input g leaves.live k.sessions → a ≡ commit_complete → StepEnd k input after wrote sent g a
   Has_forgotten : (s : KeptRow) → kept_row_at k g ≡ Some s → wrote ≡ Some (records.Forgot g) → a ≡ commit_complete → StepEnd k input after wrote sent g a
-  Hears_abort : (from : BranchId) → Came input from g kinds.Abort → Leaves k after wrote sent g → a ≡ tran_refusal 2050 g → StepEnd k input after wrote sent g a
-  Is_given_up : input ≡ inputs.GiveUp g.session → Leaves k after wrote sent g → a ≡ tran_refusal 2050 g → StepEnd k input after wrote sent g a
+  Hears_abort : (from : BranchId) → Came input from g kinds.Abort → LeavesUnrecorded k after wrote sent g → a ≡ tran_refusal 2050 g → StepEnd k input after wrote sent g a
+  Is_given_up : input ≡ inputs.GiveUp g.session → LeavesUnrecorded k after wrote sent g → a ≡ tran_refusal 2050 g → StepEnd k input after wrote sent g a
   Ends_back : wrote ≡ Some (records.Ended g decisions.Rollback) → a ≡ tran_refusal 2050 g → StepEnd k input after wrote sent g a
   Meets_back : (mixed : Bool) → wrote ≡ Some (records.Met g decisions.Rollback mixed) → a ≡ tran_refusal 2050 g → StepEnd k input after wrote sent g a
   Is_known : input ≡ inputs.GiveUp g.session → live_at k g ≡ None → row_knows (kept_row_at k g) ≡ true → a ≡ tran_refusal 2053 g → StepEnd k input after wrote sent g a
@@ -100,7 +100,7 @@ module _ (k0 : NodeState) (input : Input) (g : BranchId) (a : Answer) where
   same_one : (b : BranchId) (x : Answer) → record { session = b.session; answer = x } ≡ its → (b.session ≡ g.session) × (a ≡ x)
   same_one b x is = (ap (λ (f : Finished). f.session) is, sym (ap (λ (f : Finished). f.answer) is))
 
-  commit_its : (ss : List Session) → RootIs ss → (b : BranchId) (x : Answer) → Ends its (commit_answer ss b x) → (b ≡ g) × (a ≡ x)
+  commit_its : (ss : List Session) → RootIs ss → (b : BranchId) (x : Answer) → EndsCall its (commit_answer ss b x) → (b ≡ g) × (a ≡ x)
   commit_its ss root b x = by (commit_is_pending ss b) refl
     where
       root_of : (b.session ≡ g.session) → (session_at ss b.session).root ≡ Some b → b ≡ g
@@ -109,7 +109,7 @@ module _ (k0 : NodeState) (input : Input) (g : BranchId) (a : Answer) where
           let both : Some b ≡ Some g = sym there ∙ root in
           cc
 
-      by : (q : Bool) → commit_is_pending ss b ≡ q → Ends its (if q then (record { session = b.session; answer = x }) ∷ [] else []) → (b ≡ g) × (a ≡ x)
+      by : (q : Bool) → commit_is_pending ss b ≡ q → EndsCall its (if q then (record { session = b.session; answer = x }) ∷ [] else []) → (b ≡ g) × (a ≡ x)
       by true is (inl it) =
           let one = same_one b x it in
           let has : (session_at ss b.session).root ≡ Some b = branch_found b (session_at ss b.session).root (and_parts (is_branch b (session_at ss b.session).root) (is_commit (session_at ss b.session).call) is).0 in
@@ -118,17 +118,17 @@ module _ (k0 : NodeState) (input : Input) (g : BranchId) (a : Answer) where
       by false is none = absurd none
 
   -- a call of another session
-  none_own : (n : ℕ) (x : Answer) → n ≢ g.session → Ends its ((record { session = n; answer = x }) ∷ []) → ⊥
+  none_own : (n : ℕ) (x : Answer) → n ≢ g.session → EndsCall its ((record { session = n; answer = x }) ∷ []) → ⊥
   none_own n x other (inl is) = other (ap (λ (f : Finished). f.session) is)
   none_own n x other (inr none) = none
 
-  ends_more : (xs ys : List Finished) → Ends its (xs ++ ys) → Ends its xs ⊎ Ends its ys
+  ends_more : (xs ys : List Finished) → EndsCall its (xs ++ ys) → EndsCall its xs ⊎ EndsCall its ys
   ends_more [] ys is = inr is
   ends_more (x ∷ xs) ys (inl is) = inl (inl is)
   ends_more (x ∷ xs) ys (inr is) = elim (ends_more xs ys is) [ inl one ↦ inl (inr one) | inr two ↦ inr two ]
 
   -- an answer at a root of that session
-  answer_its : (l : Live) (x : Answer) (o : Option BranchId) → Ends its (answer_ends l x o) → (o ≡ None) × (l.me.session ≡ g.session)
+  answer_its : (l : Live) (x : Answer) (o : Option BranchId) → EndsCall its (answer_ends l x o) → (o ≡ None) × (l.me.session ≡ g.session)
   answer_its l x None (inl is) = (refl, ap (λ (f : Finished). f.session) is)
   answer_its l x None (inr none) = absurd none
   answer_its l x (Some parent) none = absurd none
@@ -166,7 +166,7 @@ module _ (k0 : NodeState) (input : Input) (g : BranchId) (a : Answer) where
     live_near : (k : NodeState) → Near k → (b : BranchId) (l : Live) → live_at k b ≡ Some l → live_at k0 b ≡ Some l
     live_near k near b l live = subst (λ (ls : List Live). item_at live_id ls b ≡ Some l) near live
 
-    abbrev leaves_by : (k : NodeState) → Near k → (l : Live) → l.me ≡ g → IsLive k l.me → (after : NodeState) → after.lives ≡ drop_item live_id k.lives l.me → (sent : List Msg) → list_any (is_quiet g) sent ≡ false → Leaves k0 after None sent g
+    abbrev leaves_by : (k : NodeState) → Near k → (l : Live) → l.me ≡ g → IsLive k l.me → (after : NodeState) → after.lives ≡ drop_item live_id k.lives l.me → (sent : List Msg) → list_any (is_quiet g) sent ≡ false → LeavesUnrecorded k0 after None sent g
     leaves_by k near l me live after is sent silent = record {
       live = live.0;
       there = live_near k near g live.0 (subst (λ i. live_at k i ≡ Some live.0) me live.1);
@@ -196,11 +196,11 @@ module _ (k0 : NodeState) (input : Input) (g : BranchId) (a : Answer) where
     aborts (steps.At_point l from _ live came is pointed) = elim pointed [ ]
 
     module _ (k : NodeState) (now : Known k) where
-      alone_ends : (here : Bool) (l : Live) → Ends its (if here then commit_answer k.sessions l.me commit_complete else []) → (l.me ≡ g) × (a ≡ commit_complete)
+      alone_ends : (here : Bool) (l : Live) → EndsCall its (if here then commit_answer k.sessions l.me commit_complete else []) → (l.me ≡ g) × (a ≡ commit_complete)
       alone_ends true l is = commit_its k.sessions now.root l.me commit_complete is
       alone_ends false l none = absurd none
 
-      abandon_its : (l : Live) (o : Option BranchId) → Ends its (abandon_ends k.sessions l o) → (l.me ≡ g) × (a ≡ tran_refusal 2050 l.me)
+      abandon_its : (l : Live) (o : Option BranchId) → EndsCall its (abandon_ends k.sessions l o) → (l.me ≡ g) × (a ≡ tran_refusal 2050 l.me)
       abandon_its l None is = commit_its k.sessions now.root l.me (tran_refusal 2050 l.me) is
       abandon_its l (Some parent) none = absurd none
 
@@ -215,7 +215,7 @@ module _ (k0 : NodeState) (input : Input) (g : BranchId) (a : Answer) where
           Has_no_site (leaves_by k near (voted y from v) me (y, found) (act_turn k (voted y from v) below acts.Finish).after refl [] refl) so.0 (On_answer from v below answers more all so.1) complete
       finish_ends near (steps.At_point y from _ found came is pointed) me complete = elim pointed [ ]
 
-      act_ends : (l : Live) (below : Bool) (x : Act) → Acting k input l below x → Ends its (act_turn k l below x).ended → End (act_turn k l below x)
+      act_ends : (l : Live) (below : Bool) (x : Act) → Acting k input l below x → EndsCall its (act_turn k l below x).ended → End (act_turn k l below x)
       act_ends l below acts.Decide why is = (let one = alone_ends (is_alone l) l is in let live = acting_live why in Has_decided _ live.0 (live_near k (now.near (acting_apart why)) g live.0 (subst (λ i. live_at k i ≡ Some live.0) one.0 live.1)) refl one.0 one.1)
       act_ends l below acts.Finish why is =
           let one = commit_its k.sessions now.root l.me commit_complete is in
@@ -232,12 +232,12 @@ module _ (k0 : NodeState) (input : Input) (g : BranchId) (a : Answer) where
       act_ends l below acts.Seal why none = absurd none
       act_ends l below (acts.SealAndPass i) why none = absurd none
 
-      back_its : (b : BranchId) (d : Decision) → Ends its (decision_answers k.sessions b d) → (d ≡ decisions.Rollback) × (b ≡ g) × (a ≡ tran_refusal 2050 g)
+      back_its : (b : BranchId) (d : Decision) → EndsCall its (decision_answers k.sessions b d) → (d ≡ decisions.Rollback) × (b ≡ g) × (a ≡ tran_refusal 2050 g)
       back_its b (decisions.Commit n) none = absurd none
       back_its b decisions.Rollback is = (let one = commit_its k.sessions now.root b (tran_refusal 2050 b) is in (refl, one.0, subst (λ i. a ≡ tran_refusal 2050 i) one.0 one.1))
 
       -- a forced outcome, by a call of another session
-      forced_its : (b : BranchId) (x : Answer) (n : ℕ) → n ≢ g.session → Ends its (commit_answer k.sessions b (tran_refusal 2054 b) ++ (record { session = n; answer = x }) ∷ []) → (b ≡ g) × (a ≡ tran_refusal 2054 g)
+      forced_its : (b : BranchId) (x : Answer) (n : ℕ) → n ≢ g.session → EndsCall its (commit_answer k.sessions b (tran_refusal 2054 b) ++ (record { session = n; answer = x }) ∷ []) → (b ≡ g) × (a ≡ tran_refusal 2054 g)
       forced_its b x n apart is = elim (ends_more (commit_answer k.sessions b (tran_refusal 2054 b)) ((record { session = n; answer = x }) ∷ []) is) [
         | inl one ↦ (let it = commit_its k.sessions now.root b (tran_refusal 2054 b) one in (it.0, subst (λ i. a ≡ tran_refusal 2054 i) it.0 it.1))
         | inr own ↦ absurd (none_own n x apart own)
@@ -308,7 +308,7 @@ module _ (k0 : NodeState) (input : Input) (g : BranchId) (a : Answer) where
 
     -- a statement is given up where a COMMIT was pending: no
     given_statement : (k : NodeState) → Known k → (n : ℕ) (x : Branch) → input ≡ inputs.GiveUp n → steps.HasRoot k n x.live.me → (session_at k.sessions n).call ≡ pending.Statement → (b : Answer)
-        → Ends its ((record { session = n; answer = b }) ∷ []) → ⊥
+        → EndsCall its ((record { session = n; answer = b }) ∷ []) → ⊥
     given_statement k now n x gives has calls b (inl is) =
         let at : n ≡ g.session = ap (λ (f : Finished). f.session) is in
         let one : (session_at k.sessions g.session).call ≡ pending.Statement = subst (λ i. (session_at k.sessions i).call ≡ pending.Statement) at calls in
@@ -318,7 +318,7 @@ module _ (k0 : NodeState) (input : Input) (g : BranchId) (a : Answer) where
     given_statement k now n x gives has calls b (inr none) = none
 
     module _ (p : Place) where
-      pub ends_on : {k : NodeState} {d : TurnDraft} → Step p input k d → Known k → Ends its d.ended → End d
+      pub ends_on : {k : NodeState} {d : TurnDraft} → Step p input k d → Known k → EndsCall its d.ended → End d
       ends_on (steps.Begins {k = k} n s call rows range none step) now is =
           ends_on step
           (record {

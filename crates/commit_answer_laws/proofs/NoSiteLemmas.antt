@@ -11,7 +11,7 @@ use Rattle.run_rules.specs.Lawful.{History, IsLawfulRun}
 use Rattle.run_rules.specs.Trail.{has_no_site, trail_after, trail_of}
 use Rattle.tree_laws.proofs.PrefixLemmas.{so_far, f_at}
 use Rattle.tree_laws.proofs.TimeLemmas.{part_of, part_lawful, may_of}
-use Rattle.tree_trail_laws.specs.SeenLaws.{TellsTops, TellsOwns, SeesRoots, Sees}
+use Rattle.tree_trail_laws.specs.SeenLaws.{TracesTops, TracesOwns, SeesRoots, Sees}
 use Rattle.tree_trail_laws.proofs.MomentLemmas.{tr_at, trail_join, trail_keeps, at_moment, by_moment}
 use Rattle.tree_trail_laws.proofs.PlanLemmas.{plan_stays}
 use Rattle.tree_trail_laws.proofs.SeenRunLemmas.{all_is_seen}
@@ -20,8 +20,8 @@ use Rattle.tree_laws.proofs.TopStepLemmas.{Finishes}
 use Rattle.commit_answer_laws.specs.UndecidedLaws.{HadNoSite}
 
 module _ (t : History) (whole : IsLawfulRun t) where
-  owns : AtEach (λ places f tr h. TellsOwns f tr) t
-  owns = by_moment t (λ places f tr h. TellsOwns f tr) (λ hs h rest is. (at_moment t (λ places f tr x. Sees f tr) (all_is_seen t whole) hs h rest is).owns)
+  owns : AtEach (λ places f tr h. TracesOwns f tr) t
+  owns = by_moment t (λ places f tr h. TracesOwns f tr) (λ hs h rest is. (at_moment t (λ places f tr x. Sees f tr) (all_is_seen t whole) hs h rest is).owns)
 
   module _ (hs : List Happening) (u : Turn) (rest : List Happening) (is : hs ++ happenings.Turn u ∷ rest ≡ t.trace) where
     saw : Sees (f_at t hs) (tr_at t hs)
@@ -34,7 +34,7 @@ module _ (t : History) (whole : IsLawfulRun t) where
     saw_earlier h1 h r1 at = at_moment (so_far t hs) (λ places f tr x. Sees f tr) (all_is_seen (so_far t hs) lawful) h1 h r1 at
 
     earlier : Earlier (so_far t hs)
-    earlier = by_moment (so_far t hs) (λ places f tr h. TellsTops f tr × SeesRoots f tr) (λ h1 h r1 at. ((saw_earlier h1 h r1 at).tops, (saw_earlier h1 h r1 at).roots))
+    earlier = by_moment (so_far t hs) (λ places f tr h. TracesTops f tr × SeesRoots f tr) (λ h1 h r1 at. ((saw_earlier h1 h r1 at).tops, (saw_earlier h1 h r1 at).roots))
 
     -- a plan stays to the end
     stays : (b : BranchId) (p : CommitPlan) → plan_at (trail_after t.places (f_at t hs) (tr_at t hs) (happenings.Turn u)) b ≡ Some p → plan_at (tr_at t t.trace) b ≡ Some p

@@ -24,7 +24,7 @@ use Rattle.node_rules.specs.Words.{one}
 use Rattle.node_rules.proofs.StandLemmas.{RootSo, live_so, root_so}
 use Rattle.run_base_laws.proofs.RootLemmas.{SessionsFit, root_alone}
 use Rattle.tree_laws.proofs.TopStepLemmas.{At_once}
-use Rattle.commit_answer_laws.specs.CommitEndLaws.{Ends}
+use Rattle.commit_answer_laws.specs.CommitEndLaws.{EndsCall}
 use Rattle.commit_answer_laws.proofs.EndStepLemmas.{StepEnd, Has_decided, Has_no_site}
 
 -- ---- the first act of a root
@@ -74,20 +74,20 @@ module _ (k : NodeState) (fit : SessionsFit k) (n : ℕ) (given : Option (List �
     Must_roll_back : (g : BranchId) (code : ℕ) → (session_at k.sessions n).root ≡ Some g → a ≡ answers.Refused (ora 2067 (one (decimal code))) → OwnEnd d
     Ends_at_once : (g : BranchId) → (session_at k.sessions n).root ≡ Some g → StepEnd k input d.after d.wrote (map (stamped d.after.clock) d.says) g a → OwnEnd d
 
-  same_answer : (x : Answer) → Ends its ((record { session = n; answer = x }) ∷ []) → a ≡ x
+  same_answer : (x : Answer) → EndsCall its ((record { session = n; answer = x }) ∷ []) → a ≡ x
   same_answer x (inl is) = sym (ap (λ (f : Finished). f.answer) is)
   same_answer x (inr none) = absurd none
 
   -- the COMMIT of a branch ends with its answer
-  commit_same : (ss : List Session) (b : BranchId) (x : Answer) → Ends its (commit_answer ss b x) → a ≡ x
+  commit_same : (ss : List Session) (b : BranchId) (x : Answer) → EndsCall its (commit_answer ss b x) → a ≡ x
   commit_same ss b x = by (commit_is_pending ss b)
     where
-      by : (q : Bool) → Ends its (if q then (record { session = b.session; answer = x }) ∷ [] else []) → a ≡ x
+      by : (q : Bool) → EndsCall its (if q then (record { session = b.session; answer = x }) ∷ [] else []) → a ≡ x
       by true (inl is) = sym (ap (λ (f : Finished). f.answer) is)
       by true (inr none) = absurd none
       by false none = absurd none
 
-  alone_same : (here : Bool) (ss : List Session) (b : BranchId) (x : Answer) → Ends its (if here then commit_answer ss b x else []) → a ≡ x
+  alone_same : (here : Bool) (ss : List Session) (b : BranchId) (x : Answer) → EndsCall its (if here then commit_answer ss b x else []) → a ≡ x
   alone_same true ss b x is = commit_same ss b x is
   alone_same false ss b x none = absurd none
 
@@ -102,7 +102,7 @@ module _ (k : NodeState) (fit : SessionsFit k) (n : ℕ) (given : Option (List �
     abbrev k2 : NodeState
     k2 = without_read_keys (record k { sessions = with_call k.sessions n pending.Commit }) x.live.me
 
-    act_ends : (act : Act) → first_act l true ≡ act → Ends its (act_turn k2 l true act).ended → OwnEnd (act_turn k2 l true act)
+    act_ends : (act : Act) → first_act l true ≡ act → EndsCall its (act_turn k2 l true act).ended → OwnEnd (act_turn k2 l true act)
     act_ends acts.Decide is ends = Ends_at_once x.live.me so.0 (Has_decided _ x.live (live_so k x.live.me x so.1) refl refl (alone_same (is_alone l) k2.sessions l.me commit_complete ends))
     act_ends acts.Finish is ends =
         let first = first_finishes l l.edges is in
@@ -122,11 +122,11 @@ module _ (k : NodeState) (fit : SessionsFit k) (n : ℕ) (given : Option (List �
     act_ends (acts.SealAndPass i) is none = absurd none
 
   -- COMMIT comes
-  by_code : (code : Option ℕ) → (session_at k.sessions n).code ≡ code → (o : Option Branch) → root_at k n ≡ o → RootSo k n o → Ends its (commit_by k n (unwrap_or given []) code o).ended → OwnEnd (commit_by k n (unwrap_or given []) code o)
+  by_code : (code : Option ℕ) → (session_at k.sessions n).code ≡ code → (o : Option Branch) → root_at k n ≡ o → RootSo k n o → EndsCall its (commit_by k n (unwrap_or given []) code o).ended → OwnEnd (commit_by k n (unwrap_or given []) code o)
   by_code None at None none so is = Has_no_root none (same_answer commit_complete is)
   by_code (Some c) at None none so is = Has_no_root none (same_answer commit_complete is)
   by_code (Some c) at (Some x) some so is = Must_roll_back x.live.me c so.0 (same_answer (answers.Refused (ora 2067 (one (decimal c)))) is)
   by_code None at (Some x) some so is = act_ends x so at (first_act (l x so at) true) refl is
 
-  pub own_end : Ends its (commit_call k n given).ended → OwnEnd (commit_call k n given)
+  pub own_end : EndsCall its (commit_call k n given).ended → OwnEnd (commit_call k n given)
   own_end is = by_code (session_at k.sessions n).code refl (root_at k n) refl (root_so k n) is

@@ -50,7 +50,7 @@ use Rattle.tree_laws.proofs.TimeLemmas.{Part, part_on, part_of, part_lawful, may
 use Rattle.commit_point_laws.specs.EndLaws.{EntryIs}
 use Rattle.commit_point_laws.proofs.BookEndLemmas.{entries_are_exits}
 use Rattle.tree_laws.proofs.MoreLemmas.{forest, events_lawful, added_end, inv_end, inv_at}
-use Rattle.commit_answer_laws.specs.CommitEndLaws.{row_knows, Leaves}
+use Rattle.commit_answer_laws.specs.CommitEndLaws.{row_knows, LeavesUnrecorded}
 use Rattle.commit_answer_laws.specs.UndecidedLaws.{EndedWith, IsDecided, IsUndecided, HadNoSite, RefusedAreUndecided, KnownAreDecided, CompleteAreDecided}
 use Rattle.commit_answer_laws.proofs.BookLemmas.{decided_stands}
 use Rattle.commit_answer_laws.proofs.BornLemmas.{High, born_high, session_low}
@@ -196,7 +196,7 @@ module _ (t : History) (whole : IsLawfulRun t) (g : BranchId) (a : Answer) (it :
 
   -- ---- a root that is dropped
 
-  module _ (leaves : Leaves k o.after o.wrote o.sent g) where
+  module _ (leaves : LeavesUnrecorded k o.after o.wrote o.sent g) where
     abbrev l : Live
     l = leaves.live
 
@@ -395,7 +395,7 @@ module _ (t : History) (whole : IsLawfulRun t) (g : BranchId) (a : Answer) (it :
   pub known_decided : a ≡ tran_refusal 2053 g → IsDecided t g
   known_decided asked = known_ends asked end
 
-  complete_ends : a ≡ commit_complete → StepEnd k u.input o.after o.wrote o.sent g a → IsDecided t g ⊎ (Leaves k o.after o.wrote o.sent g × HadNoSite t g × IsUndecided t g)
+  complete_ends : a ≡ commit_complete → StepEnd k u.input o.after o.wrote o.sent g a → IsDecided t g ⊎ (LeavesUnrecorded k o.after o.wrote o.sent g × HadNoSite t g × IsUndecided t g)
   complete_ends asked (Has_decided r y live wrote its is) = inl (decided_in_book r y live wrote its)
   complete_ends asked (Has_no_site leaves top_is ends is) = inr (leaves, had_no_site t whole hs u it.later it.is k up g leaves.live (l_me leaves) leaves.there top_is ends, undecided_book (drop_undecided leaves))
   complete_ends asked (Has_forgotten s row wrote is) = inl (forgot_in_book s row wrote)
@@ -407,7 +407,7 @@ module _ (t : History) (whole : IsLawfulRun t) (g : BranchId) (a : Answer) (it :
   complete_ends asked (Is_in_doubt given gone doubt is) = absurd (not_complete_doubt g (sym is ∙ asked))
   complete_ends asked (Is_forced d given wrote is) = absurd (not_complete_doubt g (sym is ∙ asked))
 
-  pub complete_decided : a ≡ commit_complete → IsDecided t g ⊎ (Leaves k o.after o.wrote o.sent g × HadNoSite t g × IsUndecided t g)
+  pub complete_decided : a ≡ commit_complete → IsDecided t g ⊎ (LeavesUnrecorded k o.after o.wrote o.sent g × HadNoSite t g × IsUndecided t g)
   complete_decided asked = complete_ends asked end
 
 pub refused_are_undecided : RefusedAreUndecided

@@ -28,7 +28,7 @@ row_knows None = false
 row_knows (Some s) = knows_commit s.decision
 
 -- A live root rolls back, or leaves for it had no changes to commit: no record is written, and it does not say ReadOnly.
-pub record Leaves (k after : NodeState) (wrote : Option RedoRecord) (sent : List Msg) (g : BranchId) : Type 0 where
+pub record LeavesUnrecorded (k after : NodeState) (wrote : Option RedoRecord) (sent : List Msg) (g : BranchId) : Type 0 where
   pub live : Live
   pub there : live_at k g ≡ Some live
   pub gone : live_at after g ≡ None
@@ -38,10 +38,10 @@ pub record Leaves (k after : NodeState) (wrote : Option RedoRecord) (sent : List
 -- Why the COMMIT of the root g ends, with this answer.
 pub data CommitEnd (k : NodeState) (input : Input) (after : NodeState) (wrote : Option RedoRecord) (sent : List Msg) (g : BranchId) (a : Answer) : Type 0 where
   Has_decided : (r : Decided) (l : Live) → live_at k g ≡ Some l → wrote ≡ Some (records.Decided r) → r.me ≡ g → a ≡ commit_complete → CommitEnd k input after wrote sent g a  -- the root is the site, and alone
-  Has_no_site : Leaves k after wrote sent g → a ≡ commit_complete → CommitEnd k input after wrote sent g a
+  Has_no_site : LeavesUnrecorded k after wrote sent g → a ≡ commit_complete → CommitEnd k input after wrote sent g a
   Has_forgotten : (s : KeptRow) → kept_row_at k g ≡ Some s → wrote ≡ Some (records.Forgot g) → a ≡ commit_complete → CommitEnd k input after wrote sent g a
-  Hears_abort : (from : BranchId) → Came input from g kinds.Abort → Leaves k after wrote sent g → a ≡ tran_refusal 2050 g → CommitEnd k input after wrote sent g a
-  Is_given_up : input ≡ inputs.GiveUp g.session → Leaves k after wrote sent g → a ≡ tran_refusal 2050 g → CommitEnd k input after wrote sent g a
+  Hears_abort : (from : BranchId) → Came input from g kinds.Abort → LeavesUnrecorded k after wrote sent g → a ≡ tran_refusal 2050 g → CommitEnd k input after wrote sent g a
+  Is_given_up : input ≡ inputs.GiveUp g.session → LeavesUnrecorded k after wrote sent g → a ≡ tran_refusal 2050 g → CommitEnd k input after wrote sent g a
   Ends_back : wrote ≡ Some (records.Ended g decisions.Rollback) → a ≡ tran_refusal 2050 g → CommitEnd k input after wrote sent g a
   Meets_back : (mixed : Bool) → wrote ≡ Some (records.Met g decisions.Rollback mixed) → a ≡ tran_refusal 2050 g → CommitEnd k input after wrote sent g a
   Is_known : input ≡ inputs.GiveUp g.session → live_at k g ≡ None → row_knows (kept_row_at k g) ≡ true → a ≡ tran_refusal 2053 g → CommitEnd k input after wrote sent g a
@@ -49,9 +49,9 @@ pub data CommitEnd (k : NodeState) (input : Input) (after : NodeState) (wrote : 
   Is_forced : (d : Decision) (given : Bool) → wrote ≡ Some (records.Forced g d given) → a ≡ tran_refusal 2054 g → CommitEnd k input after wrote sent g a
 
 -- a call ends so
-abbrev pub Ends : Finished → List Finished → Type 0
-Ends f [] = ⊥
-Ends f (x ∷ xs) = (x ≡ f) ⊎ Ends f xs
+abbrev pub EndsCall : Finished → List Finished → Type 0
+EndsCall f [] = ⊥
+EndsCall f (x ∷ xs) = (x ≡ f) ⊎ EndsCall f xs
 
 -- The COMMIT of g is pending at its node.
 pub record CommitPends (k : NodeState) (g : BranchId) : Type 0 where
@@ -60,7 +60,7 @@ pub record CommitPends (k : NodeState) (g : BranchId) : Type 0 where
 
 -- a COMMIT that was pending and ends in a turn does so for a reason
 abbrev pub EndsForReason : NodeState → Input → TurnOutput → Type 0
-EndsForReason k input o = (g : BranchId) (a : Answer) → CommitPends k g → Ends (record { session = g.session; answer = a }) o.ended → CommitEnd k input o.after o.wrote o.sent g a
+EndsForReason k input o = (g : BranchId) (a : Answer) → CommitPends k g → EndsCall (record { session = g.session; answer = a }) o.ended → CommitEnd k input o.after o.wrote o.sent g a
 
 abbrev pub TurnsEndCommits : List Place → Facts → Happening → Type 0
 TurnsEndCommits places f (happenings.Turn u) = (k : NodeState) → node_at f u.node ≡ Some k → EndsForReason k u.input (turn_of (place_at places u.node) k u.input)

@@ -8,7 +8,7 @@ use Rattle.run_rules.specs.Book.{is_decision_on, stands}
 use Rattle.run_rules.specs.Data.{AnswerLine, Command}
 use Rattle.run_rules.specs.Data.commands
 use Rattle.run_rules.specs.Due.{runs_on}
-use Rattle.run_rules.specs.Lines.{told}
+use Rattle.run_rules.specs.Lines.{all_lines}
 use Rattle.run_rules.specs.RunReport.{Past, start}
 use Rattle.run_claims.specs.Places.{node_line}
 use Rattle.run_branch_laws.specs.TriedRun.{places, insert, table_of_keys, a}
@@ -45,7 +45,7 @@ left = runs_on places script (replicate 60 0) (start places)
 
 -- its lines
 abbrev pub lines : List AnswerLine
-lines = told left.facts left.run_report
+lines = all_lines left.facts left.run_report
 
 -- the second transaction of the session
 abbrev pub second : BranchId

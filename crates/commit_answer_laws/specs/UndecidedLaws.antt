@@ -13,7 +13,7 @@ use Rattle.run_rules.specs.Data.happenings
 use Rattle.run_rules.specs.Facts.{first_facts, facts_of, node_at, place_at}
 use Rattle.run_rules.specs.Lawful.{History, IsLawfulRun, facts_at}
 use Rattle.run_rules.specs.Trail.{has_no_site, trail_of}
-use Rattle.commit_answer_laws.specs.CommitEndLaws.{CommitPends, Ends, Leaves}
+use Rattle.commit_answer_laws.specs.CommitEndLaws.{CommitPends, EndsCall, LeavesUnrecorded}
 
 -- The COMMIT of g was pending, and ended in a whole turn of a run with this answer.
 pub record EndedWith (t : History) (g : BranchId) (a : Answer) : Type 0 where
@@ -25,12 +25,12 @@ pub record EndedWith (t : History) (g : BranchId) (a : Answer) : Type 0 where
   pub kept : NodeState
   pub up : node_at (facts_of t.places t.commands (first_facts t.places) before) turn.node ≡ Some kept
   pub pends : CommitPends kept g
-  pub ends : Ends (record { session = g.session; answer = a }) (turn_of (place_at t.places turn.node) kept turn.input).ended
+  pub ends : EndsCall (record { session = g.session; answer = a }) (turn_of (place_at t.places turn.node) kept turn.input).ended
 
 -- its root left in that turn, and nothing was written
 abbrev pub LeftAlone : History → BranchId → NodeState → Turn → Type 0
 LeftAlone t g k u =
-    Leaves k (turn_of (place_at t.places u.node) k u.input).after (turn_of (place_at t.places u.node) k u.input).wrote (turn_of (place_at t.places u.node) k u.input).sent g
+    LeavesUnrecorded k (turn_of (place_at t.places u.node) k u.input).after (turn_of (place_at t.places u.node) k u.input).wrote (turn_of (place_at t.places u.node) k u.input).sent g
 
 -- a decision of the transaction stands in the book
 abbrev pub IsDecided : History → BranchId → Type 0

@@ -21,7 +21,7 @@ use Rattle.run_base_laws.proofs.OwnLemmas.{all_found}
 use Rattle.tree_laws.proofs.PrefixLemmas.{so_far}
 use Rattle.tree_laws.proofs.TimeLemmas.{born_end, part_lawful}
 use Rattle.commit_laws.specs.StillLaws.{DroppedNone}
-use Rattle.run_claims.specs.Undisturbed.{Commit, Undisturbed, IsComplete, UndisturbedCommitsAreComplete, SealIsEnded, branches_in, stand_at}
+use Rattle.run_claims.specs.Undisturbed.{Commit, Undisturbed, CommitIsComplete, UndisturbedCommitsAreComplete, SealIsEnded, branches_in, stand_at}
 use Rattle.commit_laws.proofs.StillLemmas.{stays_up}
 use Rattle.commit_spread_laws.proofs.StayLemmas.{undisturbed_commits_drop_none, undisturbed_commits_abort_none}
 use Rattle.commit_point_laws.proofs.BookEndLemmas.{undisturbed_seals_are_decided}
@@ -159,7 +159,7 @@ module _ (t : History) (whole : IsLawfulRun t) (c : Commit t.places t.commands t
       by None up is = absurd cc
       by (Some k) up is = ap (option_map (λ (k : NodeState). status_of k b.me)) up ∙ ap Some (stand_gone b began of k up)
 
-  pub complete : IsComplete t.places t.commands t.trace c
+  pub complete : CommitIsComplete t.places t.commands t.trace c
   complete = record {
     answered = undisturbed_calls_end t whole c u dropped (undisturbed_commits_abort_none t whole c u) (λ k up. root_row k up);
     ended = ended;

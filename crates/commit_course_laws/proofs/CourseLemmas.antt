@@ -18,7 +18,7 @@ use Rattle.run_rules.specs.Data.happenings
 use Rattle.run_rules.specs.Due.{next_command, due_of, comes_next, IsTheRun}
 use Rattle.run_rules.specs.Facts.{Facts, command_at, node_at, outcome_at}
 use Rattle.run_rules.specs.Scripts.{IsTheRunOf}
-use Rattle.run_rules.specs.Lawful.{History, IsSettled, MayTurn}
+use Rattle.run_rules.specs.Lawful.{History, NothingComesFirst, MayTurn}
 use Rattle.run_rules.specs.Lawful.{Comes as Comes_lawful}
 use Rattle.run_rules.specs.Lines.{spent}
 use Rattle.run_rules.specs.Past.{delivered_more, is_call, next, past}
@@ -31,7 +31,7 @@ use Rattle.answer_origin_laws.proofs.CallTurnLemmas.{all_so}
 use Rattle.answer_origin_laws.proofs.UptoLemmas.{due_at, may_at}
 use Rattle.run_claims.specs.Undisturbed.{Commit, facts_by, answers_from}
 use Rattle.commit_course_laws.specs.CommandCalls.{is_hold}
-use Rattle.run_claims.specs.CommitCourse.{past_by, IsUnderWay, Delivers, CommitsFlow, CommitsEnd}
+use Rattle.run_claims.specs.CommitCourse.{past_by, CommitIsUnderWay, Delivers, CommitsFlow, CommitsEnd}
 use Rattle.commit_course_laws.proofs.CommandLemmas.{commands_hold_their_call, fresh_deliveries}
 use Rattle.commit_course_laws.proofs.WayLemmas.{turn_way}
 use Rattle.commit_course_laws.proofs.DueLemmas.{stands_here, follows_here}
@@ -82,7 +82,7 @@ module _ (asked : List Command) (command node session : ℕ) (comment : Option (
 
 -- ---- the turn of the call
 
-module _ (t : History) (run : IsTheRunOf t) (front later : List Happening) (c : Commit t.places t.commands front) (goes : IsUnderWay t front later c) where
+module _ (t : History) (run : IsTheRunOf t) (front later : List Happening) (c : Commit t.places t.commands front) (goes : CommitIsUnderWay t front later c) where
   -- before the call
   abbrev pub p : Past
   p = past_by t.places t.commands c.before
@@ -117,7 +117,7 @@ module _ (t : History) (run : IsTheRunOf t) (front later : List Happening) (c : 
   may : (k : NodeState) × MayTurn t.places p.facts c.call k
   may = subst (λ (q : Past). (k : NodeState) × MayTurn t.places q.facts c.call k) upto (may_at t run i (happenings.Turn c.call) there)
 
-  settled : IsSettled p.facts
+  settled : NothingComesFirst p.facts
   settled = may.1.settled
 
   stands : p.run_report.start_to_stop ≡ None

@@ -25,7 +25,7 @@ use Rattle.run_base_laws.proofs.LawfulLemmas.{serves, of_wrote}
 use Rattle.run_base_laws.proofs.TurnEventLemmas.{cases_nat}
 use Rattle.tree_laws.proofs.PrefixLemmas.{so_far, f_at, one_on}
 use Rattle.tree_laws.proofs.TimeLemmas.{Part, part_of, part_on, part_lawful, may_of}
-use Rattle.run_claims.specs.Undisturbed.{branches_in, is_lost, LostNone, HasNotStopped, is_disturbed, disturbs, IsCalm}
+use Rattle.run_claims.specs.Undisturbed.{branches_in, is_lost, LostNone, HasNotStopped, is_disturbed, disturbs, NoneComesIn}
 use Rattle.commit_course_laws.proofs.FlowLemmas.{IsWholeTurn}
 
 -- ---- lists
@@ -162,7 +162,7 @@ module _ (few many : List BranchId) (within : (x : BranchId) → is_among x few 
   calm_turn (inputs.GiveUp session) none = refl
   calm_turn inputs.Reco none = refl
 
-  pub calm_fewer : (hs : List Happening) → AllByRecursion (IsCalm many) hs → AllByRecursion (IsCalm few) hs
+  pub calm_fewer : (hs : List Happening) → AllByRecursion (NoneComesIn many) hs → AllByRecursion (NoneComesIn few) hs
   calm_fewer [] calm = tt
   calm_fewer (happenings.Turn u ∷ hs) calm = (calm_turn u.input calm.0, calm_fewer hs calm.1)
   calm_fewer (happenings.Begun c ∷ hs) calm = (tt, calm_fewer hs calm.1)

@@ -14,7 +14,7 @@ use Rattle.run_rules.specs.Data.{Command, Happening, Turn}
 use Rattle.run_rules.specs.Data.happenings
 use Rattle.run_rules.specs.Due.{Tells, Delivers, Begins, Ends, next_command, next_give_up, next_delivery, due_of, happens, comes_next, IsTheRun}
 use Rattle.run_rules.specs.Facts.{node_at, outcome_at}
-use Rattle.run_rules.specs.Reported.{IsBetween}
+use Rattle.run_rules.specs.Reported.{IsBetweenCommands}
 use Rattle.run_rules.specs.Lines.{says_node, spent}
 use Rattle.run_rules.specs.Past.{delivered_more, is_call, without_following, ends_calls, report_turned, next, past}
 use Rattle.run_rules.specs.RunReport.{Call, Past, RunReport}
@@ -120,7 +120,7 @@ module _ (node session : ℕ) where
         give_up_comes [] at h well is = command_comes (nat_lt f.command (length asked)) h well is
         give_up_comes (c ∷ cs) at h well is = turn_is (λ g. GoesWell g → Comes p g) places p c.node (inputs.GiveUp c.session) None (node_at f c.node) h (λ u input took so. Give_up u c cs at why (ap is_call input) so) is well
 
-        give_up_between : (cs : List Call) → t.calls ≡ cs → IsBetween (next_give_up asked f cs) → t.calls ≡ []
+        give_up_between : (cs : List Call) → t.calls ≡ cs → IsBetweenCommands (next_give_up asked f cs) → t.calls ≡ []
         give_up_between [] at is = at
         give_up_between (c ∷ cs) at is = absurd is
 
@@ -132,11 +132,11 @@ module _ (node session : ℕ) where
           by true all due = give_up_comes (inr all) t.calls refl h well due
           by false more due = delivery_is (λ g. GoesWell g → Comes p g) places p k false (packet_at f.net k) h (λ u other took so. Delivery k u at more other so took) due well
 
-      delivery_between : (o : Option ℕ) → first_flying f.net ≡ o → IsBetween (next_delivery asked f t o) → ((first_flying f.net ≡ None) ⊎ (spent t.deliveries ≡ true)) × (t.calls ≡ [])
+      delivery_between : (o : Option ℕ) → first_flying f.net ≡ o → IsBetweenCommands (next_delivery asked f t o) → ((first_flying f.net ≡ None) ⊎ (spent t.deliveries ≡ true)) × (t.calls ≡ [])
       delivery_between None at is = (inl at, give_up_between (inl at) t.calls refl is)
       delivery_between (Some k) at is = by (spent t.deliveries) refl is
         where
-          by : (q : Bool) → spent t.deliveries ≡ q → IsBetween (if q then next_give_up asked f t.calls else Delivers k false) → ((first_flying f.net ≡ None) ⊎ (spent t.deliveries ≡ true)) × (t.calls ≡ [])
+          by : (q : Bool) → spent t.deliveries ≡ q → IsBetweenCommands (if q then next_give_up asked f t.calls else Delivers k false) → ((first_flying f.net ≡ None) ⊎ (spent t.deliveries ≡ true)) × (t.calls ≡ [])
           by true all due = (inr all, give_up_between (inr all) t.calls refl due)
           by false more due = absurd due
 
@@ -158,12 +158,12 @@ module _ (node session : ℕ) where
                 absurd (subst GoesWell (sym same) well)
 
         -- a command that is done
-        pub between_so : IsBetween (due_of asked p) → ((first_flying f.net ≡ None) ⊎ (spent t.deliveries ≡ true)) × (t.calls ≡ [])
+        pub between_so : IsBetweenCommands (due_of asked p) → ((first_flying f.net ≡ None) ⊎ (spent t.deliveries ≡ true)) × (t.calls ≡ [])
         between_so is = by f.losses_to_report refl
           where
             by : (ks : List ℕ) → f.losses_to_report ≡ ks → ((first_flying f.net ≡ None) ⊎ (spent t.deliveries ≡ true)) × (t.calls ≡ [])
-            by [] told = delivery_between (first_flying f.net) refl (subst IsBetween (due_now told) is)
-            by (k ∷ ks) told = absurd (subst IsBetween (tells_now k ks told) is)
+            by [] told = delivery_between (first_flying f.net) refl (subst IsBetweenCommands (due_now told) is)
+            by (k ∷ ks) told = absurd (subst IsBetweenCommands (tells_now k ks told) is)
 
         -- where nothing is in flight and no call is pending, the next command is due
         pub end_due : f.losses_to_report ≡ [] → first_flying f.net ≡ None → t.calls ≡ [] → due_of asked p ≡ next_command asked f

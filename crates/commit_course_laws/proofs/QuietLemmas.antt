@@ -12,7 +12,7 @@ use Rattle.run_rules.specs.Data.{Command, Happening}
 use Rattle.run_rules.specs.Data.happenings
 use Rattle.run_rules.specs.Due.{due_of, IsTheRun}
 use Rattle.run_rules.specs.Facts.{Facts, node_at, outcome_at, first_facts, facts_of}
-use Rattle.run_rules.specs.Reported.{IsBetween}
+use Rattle.run_rules.specs.Reported.{IsBetweenCommands}
 use Rattle.run_rules.specs.Scripts.{IsTheRunOf}
 use Rattle.run_rules.specs.Lawful.{History, IsLawfulRun}
 use Rattle.run_rules.specs.Lines.{spent}
@@ -23,7 +23,7 @@ use Rattle.run_rules.proofs.ListLemmas.{all_weaker}
 use Rattle.run_ready_laws.proofs.RunLawfulLemmas.{the_run_is_lawful}
 use Rattle.tree_laws.proofs.PrefixLemmas.{so_far, births_join, facts_join}
 use Rattle.tree_laws.proofs.TimeLemmas.{part_lawful}
-use Rattle.run_claims.specs.Undisturbed.{Commit, Undisturbed, IsComplete, UndisturbedCommitsAreComplete, IsDelivery, LostNone, HasNotStopped, IsCalm, facts_by, branches_in, branches_by}
+use Rattle.run_claims.specs.Undisturbed.{Commit, Undisturbed, CommitIsComplete, UndisturbedCommitsAreComplete, IsFirstDelivery, LostNone, HasNotStopped, NoneComesIn, facts_by, branches_in, branches_by}
 use Rattle.commit_length_laws.specs.FewLaws.{DeliveriesStayBelow}
 use Rattle.run_claims.specs.CommitCourse.{GoesWell, QuietCommit, IsDone, QuietCommitsAreComplete}
 use Rattle.commit_course_laws.proofs.WayLemmas.{turn_way}
@@ -37,23 +37,23 @@ use Rattle.commit_course_laws.proofs.EarlierLemmas.{all_front, all_back, lost_ba
 module _ (node session : ℕ) (places : List Place) (asked : List Command) where
   -- no call is pending at a moment at which nothing is in flight
   abbrev pub EndsInTime : Past → List Happening → Type 0
-  EndsInTime p hs = (done rest : List Happening) → done ++ rest ≡ hs → AllByRecursion IsDelivery done → first_flying (past places asked p done).facts.net ≡ None → (past places asked p done).run_report.calls ≡ []
+  EndsInTime p hs = (done rest : List Happening) → done ++ rest ≡ hs → AllByRecursion IsFirstDelivery done → first_flying (past places asked p done).facts.net ≡ None → (past places asked p done).run_report.calls ≡ []
 
   -- the messages are delivered until none is in flight
   abbrev pub DeliversAll : Past → List Happening → Type 0
-  DeliversAll p hs = AllByRecursion IsDelivery hs × (first_flying (past places asked p hs).facts.net ≡ None)
+  DeliversAll p hs = AllByRecursion IsFirstDelivery hs × (first_flying (past places asked p hs).facts.net ≡ None)
 
   -- fewer than 4,096 deliveries have been made
   abbrev pub StayFew : Past → List Happening → Type 0
-  StayFew p hs = (done rest : List Happening) → done ++ rest ≡ hs → AllByRecursion IsDelivery done → spent (past places asked p done).run_report.deliveries ≡ false
+  StayFew p hs = (done rest : List Happening) → done ++ rest ≡ hs → AllByRecursion IsFirstDelivery done → spent (past places asked p done).run_report.deliveries ≡ false
 
   -- what comes is a delivery, where a call that is pending has messages in flight
-  one_delivery : (p : Past) (h : Happening) → Comes node session p h → (first_flying p.facts.net ≡ None → p.run_report.calls ≡ []) → spent p.run_report.deliveries ≡ false → IsDelivery h
+  one_delivery : (p : Past) (h : Happening) → Comes node session p h → (first_flying p.facts.net ≡ None → p.run_report.calls ≡ []) → spent p.run_report.deliveries ≡ false → IsFirstDelivery h
   one_delivery p _ (Delivery k u at few other whole took) ends yet = (whole, k, took)
   one_delivery p _ (Give_up u c cs calls (inl still) other whole) ends yet = (let none : p.run_report.calls ≡ [] = ends still in absurd cc)
   one_delivery p _ (Give_up u c cs calls (inr all) other whole) ends yet = absurd cc
 
-  pub delivers_all : (p : Past) (hs later : List Happening) → Flows node session p → IsTheRun places asked p (hs ++ later) → AllByRecursion GoesWell hs → StayFew p hs → IsBetween (due_of asked (past places asked p hs)) → EndsInTime p hs → DeliversAll p hs
+  pub delivers_all : (p : Past) (hs later : List Happening) → Flows node session p → IsTheRun places asked p (hs ++ later) → AllByRecursion GoesWell hs → StayFew p hs → IsBetweenCommands (due_of asked (past places asked p hs)) → EndsInTime p hs → DeliversAll p hs
   unfolding past IsTheRun
   delivers_all p [] later flow run well few done ends = (
     tt,
@@ -65,7 +65,7 @@ module _ (node session : ℕ) (places : List Place) (asked : List Command) where
   delivers_all p (h ∷ hs) later flow run well few done ends =
       let comes : Comes node session p h = (comes_so node session places asked p flow h well.0 run.0).1 in
       let on : Further node session places asked p h = further node session places asked p h flow comes in
-      let here : IsDelivery h = one_delivery p h comes (λ still. ends [] (h ∷ hs) refl tt still) (few [] (h ∷ hs) refl tt) in
+      let here : IsFirstDelivery h = one_delivery p h comes (λ still. ends [] (h ∷ hs) refl tt still) (few [] (h ∷ hs) refl tt) in
       let rest = delivers_all (next places asked p h) hs later on.flow run.1 well.1 (λ first_ones others is all. few (h ∷ first_ones) others (ap (λ xs. h ∷ xs) is) (here, all)) done
       (λ first_ones others is all still. ends (h ∷ first_ones) others (ap (λ xs. h ∷ xs) is) (here, all) still) in
       ((here, rest.0), rest.1)
@@ -73,7 +73,7 @@ module _ (node session : ℕ) (places : List Place) (asked : List Command) where
   -- ---- how many there are
 
   -- each delivery is counted
-  pub counted : (p : Past) (hs : List Happening) → AllByRecursion IsDelivery hs → (past places asked p hs).run_report.deliveries ≡ p.run_report.deliveries + length hs
+  pub counted : (p : Past) (hs : List Happening) → AllByRecursion IsFirstDelivery hs → (past places asked p hs).run_report.deliveries ≡ p.run_report.deliveries + length hs
   unfolding past next
   counted p [] all = omega arith
   counted p (happenings.Turn u ∷ hs) all =
@@ -156,16 +156,16 @@ module _ (complete : UndisturbedCommitsAreComplete) (t : History) (run : IsTheRu
         (λ b stays. stopped_back t lawful b sooner rest later trace_is whole_rest (subst (λ hs. HasNotStopped (facts_by t.places t.commands hs) b) (sym all_is) stays)) fewer
         (all_fewer c.root more.0 (HasNotStopped (facts_by t.places t.commands front)) born end)
 
-    calm_sooner : AllByRecursion (IsCalm fewer) sooner
+    calm_sooner : AllByRecursion (NoneComesIn fewer) sooner
     calm_sooner =
-        let end : AllByRecursion (IsCalm most) front = subst (λ bs. AllByRecursion (IsCalm bs) front) most_is quiet.calm in
-        all_front (IsCalm fewer) sooner rest (subst (AllByRecursion (IsCalm fewer)) (sym all_is) (calm_fewer fewer most within front end))
+        let end : AllByRecursion (NoneComesIn most) front = subst (λ bs. AllByRecursion (NoneComesIn bs) front) most_is quiet.calm in
+        all_front (NoneComesIn fewer) sooner rest (subst (AllByRecursion (NoneComesIn fewer)) (sym all_is) (calm_fewer fewer most within front end))
 
     facts_sooner : (past t.places t.commands p done).facts ≡ facts_by t.places t.commands sooner
     facts_sooner = ap (λ (q : Past). q.facts) (sym (past_is t run front later c quiet.goes done)) ∙ facts_are t.places t.commands (start t.places) sooner
 
     -- undisturbed so far
-    so_far_quiet : AllByRecursion IsDelivery done → first_flying (past t.places t.commands p done).facts.net ≡ None → Undisturbed t.places t.commands sooner c'
+    so_far_quiet : AllByRecursion IsFirstDelivery done → first_flying (past t.places t.commands p done).facts.net ≡ None → Undisturbed t.places t.commands sooner c'
     so_far_quiet delivers still = record {
       goes_on = quiet.goes_on;
       still = quiet.still;
@@ -178,13 +178,13 @@ module _ (complete : UndisturbedCommitsAreComplete) (t : History) (run : IsTheRu
     }
 
     -- so it has been answered where nothing is in flight
-    pub ends : AllByRecursion IsDelivery done → first_flying (past t.places t.commands p done).facts.net ≡ None → (past t.places t.commands p done).run_report.calls ≡ []
+    pub ends : AllByRecursion IsFirstDelivery done → first_flying (past t.places t.commands p done).facts.net ≡ None → (past t.places t.commands p done).run_report.calls ≡ []
     ends delivers still =
         answered_so t run front later c quiet.goes done whole_done
         (complete (so_far t sooner) (part_lawful t lawful sooner (record { rest = rest ++ later; is = trace_is })) c' (so_far_quiet delivers still)).answered
 
     -- and few have been delivered, where few are of every such COMMIT
-    pub few_so : DeliveriesStayBelow → AllByRecursion IsDelivery done → spent (past t.places t.commands p done).run_report.deliveries ≡ false
+    pub few_so : DeliveriesStayBelow → AllByRecursion IsFirstDelivery done → spent (past t.places t.commands p done).run_report.deliveries ≡ false
     few_so law delivers =
         let below : length done < 4096 = law (so_far t sooner) (part_lawful t lawful sooner (record { rest = rest ++ later; is = trace_is })) c' (record { still = quiet.still; whole = quiet.goes.whole; delivers = delivers; calm = calm_sooner }) in
         let none : p.run_report.deliveries ≡ 0 = first_none t run front later c quiet.goes in
@@ -197,7 +197,7 @@ module _ (complete : UndisturbedCommitsAreComplete) (t : History) (run : IsTheRu
     all_delivered : DeliversAll c.call.node c.session t.places t.commands p c.during
     all_delivered =
         delivers_all c.call.node c.session t.places t.commands p c.during later (first_flows t run front later c quiet.goes) (first_run t run front later c quiet.goes) quiet.goes.well few
-        (subst (λ q. IsBetween (due_of t.commands q)) (end_is t run front later c quiet.goes) quiet.done) ends
+        (subst (λ q. IsBetweenCommands (due_of t.commands q)) (end_is t run front later c quiet.goes) quiet.done) ends
 
     pub undisturbed : Undisturbed t.places t.commands front c
     undisturbed = record {
@@ -213,7 +213,7 @@ module _ (complete : UndisturbedCommitsAreComplete) (t : History) (run : IsTheRu
 
     pub its_end : IsDone t front c
     its_end =
-        let end : IsComplete t.places t.commands front c = complete (so_far t front) (part_lawful t lawful front (record { rest = later; is = quiet.goes.within })) c undisturbed in
+        let end : CommitIsComplete t.places t.commands front c = complete (so_far t front) (part_lawful t lawful front (record { rest = later; is = quiet.goes.within })) c undisturbed in
         record { undisturbed = undisturbed; complete = end; told = answered_commits_are_reported t run front later c quiet.goes end.answered }
 
 pub quiet_commits_follow : UndisturbedCommitsAreComplete → DeliveriesStayBelow → QuietCommitsAreComplete

@@ -4,11 +4,11 @@
 use Rattle.std.specs.Prelude.{◌≡◌, List, ◌++◌}
 use Rattle.run_rules.specs.Data.{Happening}
 use Rattle.run_rules.specs.Lawful.{History, IsLawfulRun}
-use Rattle.run_claims.specs.Undisturbed.{Commit, Undisturbed, IsComplete}
+use Rattle.run_claims.specs.Undisturbed.{Commit, Undisturbed, CommitIsComplete}
 
 -- Each COMMIT of a run that was undisturbed up to some moment is complete then.
 abbrev pub CommitsAreComplete : History → Type 0
-CommitsAreComplete t = (front later : List Happening) → front ++ later ≡ t.trace → (c : Commit t.places t.commands front) → Undisturbed t.places t.commands front c → IsComplete t.places t.commands front c
+CommitsAreComplete t = (front later : List Happening) → front ++ later ≡ t.trace → (c : Commit t.places t.commands front) → Undisturbed t.places t.commands front c → CommitIsComplete t.places t.commands front c
 
 -- So it is of every lawful run.
 abbrev pub LawfulCommitsAreComplete : Type 0

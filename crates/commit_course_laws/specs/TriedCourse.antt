@@ -10,7 +10,7 @@ use Rattle.run_rules.specs.Data.{Command}
 use Rattle.run_rules.specs.Data.commands
 use Rattle.run_rules.specs.Data.kind_names
 use Rattle.run_rules.specs.Due.{Due, Delivers, Ends, Gives_up, Tells, due_of, runs_on}
-use Rattle.run_rules.specs.Lines.{spent, told}
+use Rattle.run_rules.specs.Lines.{spent, all_lines}
 use Rattle.run_claims.specs.Places.{node_line}
 use Rattle.run_rules.specs.RunReport.{Past, start}
 use Rattle.run_branch_laws.specs.TriedRun as tried
@@ -50,7 +50,7 @@ abbrev pub lossy_due : ℕ → Due
 lossy_due n = due_of lossy (runs_on tried.places lossy (replicate n 0) (start tried.places))
 
 -- When the COMMIT is called HOLD is off and nothing is in flight. Its messages are delivered, and the report says Commit
--- complete. In the second script a loss is told, and then the call is given up.
+-- complete. In the second script a loss is all_lines, and then the call is given up.
 pub record TheTriedCourse : Type 0 where
   pub off : (after 15).run_report.hold ≡ false
   pub still : first_flying (after 15).facts.net ≡ None
@@ -62,6 +62,6 @@ pub record TheTriedCourse : Type 0 where
   pub done : due_after 21 ≡ Ends
   pub few : spent (after 21).run_report.deliveries ≡ false
   pub calls : (after 21).run_report.calls ≡ []
-  pub complete : slice_get (told (after 21).facts (after 21).run_report) 5 ≡ Some (node_line 6 commit_complete)
+  pub complete : slice_get (all_lines (after 21).facts (after 21).run_report) 5 ≡ Some (node_line 6 commit_complete)
   pub lossy_tells : lossy_due 19 ≡ Tells 7
   pub lossy_gives_up : lossy_due 20 ≡ Gives_up 1 1

@@ -33,7 +33,7 @@ use Rattle.tree_laws.specs.Forests.{depth_at, deepest, comes_to, site_from, root
 use Rattle.tree_laws.proofs.ForestLemmas as trees
 use Rattle.tree_laws.proofs.ForestRunLemmas.{run_known, runs_have_forests}
 use Rattle.tree_laws.proofs.TimeLemmas.{Part}
-use Rattle.commit_laws.specs.WaitLaws.{HasStopped}
+use Rattle.commit_laws.specs.WaitLaws.{NodeHasStopped}
 use Rattle.commit_laws.proofs.ListLemmas.{IsIn, all_in, in_all}
 use Rattle.commit_forget_laws.specs.RowLaws.{is_ack, is_forced, IsSealed, SaidAck, RowTells}
 use Rattle.commit_forget_laws.specs.ForgetLaws.{HoldsAck, IsNoted}
@@ -77,8 +77,8 @@ module _ (t : History) (whole : IsLawfulRun t) (root : BranchId) (ended : AllEnd
   abbrev pub Of : BranchId → Type 0
   Of x = (b : Born) × Began bs b × (b.me ≡ x) × (b.root ≡ root)
 
-  pub up_still : (x : BranchId) → Of x → HasStopped f x → ⊥
-  up_still x of stopped = ended.up of.0 of.1 of.3 (subst (HasStopped f) (sym of.2) stopped)
+  pub up_still : (x : BranchId) → Of x → NodeHasStopped f x → ⊥
+  up_still x of stopped = ended.up of.0 of.1 of.3 (subst (NodeHasStopped f) (sym of.2) stopped)
 
   pub up_at : (x : BranchId) → Of x → (k : NodeState) × (node_at f x.node ≡ Some k)
   up_at x of = by (node_at f x.node) refl
@@ -146,7 +146,7 @@ module _ (t : History) (whole : IsLawfulRun t) (root : BranchId) (ended : AllEnd
     way = its (λ (y : KeptRow). RowFits p y.me y.toward) (rows_fit t whole t.trace part n k up)
 
     tells : RowTells said e s
-    tells = elim (its (λ (y : KeptRow). RowTells said e y ⊎ HasStopped f y.me) (rows_tell t whole n k up)) [ inl so ↦ so | inr stopped ↦ absurd (up_still x of_row stopped) ]
+    tells = elim (its (λ (y : KeptRow). RowTells said e y ⊎ NodeHasStopped f y.me) (rows_tell t whole n k up)) [ inl so ↦ so | inr stopped ↦ absurd (up_still x of_row stopped) ]
 
     -- it is sealed, or it decided
     pub left : ((m : ℕ) × (exit e x ≡ Some (Sealed m))) ⊎ ((m : ℕ) × (exit e x ≡ Some (Decided m)))

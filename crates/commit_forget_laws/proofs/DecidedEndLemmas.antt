@@ -14,7 +14,7 @@ use Rattle.node_rules.specs.Records.{applied, nothing_stored, stored_by}
 use Rattle.run_rules.specs.Data.{Happening, Turn}
 use Rattle.run_rules.specs.Data.happenings
 use Rattle.run_base_laws.specs.EventLaws.{EachEventFrom}
-use Rattle.run_base_laws.specs.EventRows.{HasRow, IsDone, MayStand}
+use Rattle.run_base_laws.specs.EventRows.{IsKeptIn, IsGoneForGood, MayStand}
 use Rattle.run_rules.specs.Facts.{Facts, first_facts, records_at, facts_after}
 use Rattle.run_base_laws.specs.IdLaws.{IsRecordOf}
 use Rattle.run_rules.specs.Lawful.{MayHappen, History, IsLawfulRun, facts_at}
@@ -42,20 +42,20 @@ module _ (t : History) (whole : IsLawfulRun t) (b : BranchId) where
   p = forest_of t
 
   abbrev Rowed : Facts → List Event → Type 0
-  Rowed f e = HasRow b (stored_rows f b.node) ⊎ (IsDone e b ⊎ IsAlone p e b)
+  Rowed f e = IsKeptIn b (stored_rows f b.node) ⊎ (IsGoneForGood e b ⊎ IsAlone p e b)
 
   abbrev Stays : Facts → List Event → Type 0
   Stays f e = (n : ℕ) → exit e b ≡ Some (Decided n) → Rowed f e
 
   -- its row is there, or it is alone
-  decided_there : (e : List Event) (rs : List RedoRecord) (w : Option RedoRecord) → IfSome w (RecordHeard p e) → IsDecisionOf b w → HasRow b (stored_by nothing_stored (rs ++ option_to_list w)).durable.kept ⊎ IsAlone p e b
+  decided_there : (e : List Event) (rs : List RedoRecord) (w : Option RedoRecord) → IfSome w (RecordHeard p e) → IsDecisionOf b w → IsKeptIn b (stored_by nothing_stored (rs ++ option_to_list w)).durable.kept ⊎ IsAlone p e b
   unfolding applied durable_after kept_after
   decided_there e rs (Some (records.Decided r)) heard at = by (has_neighbors (decided_as r)) refl
     where
-      by : (q : Bool) → has_neighbors (decided_as r) ≡ q → HasRow b (stored_by nothing_stored (rs ++ records.Decided r ∷ [])).durable.kept ⊎ IsAlone p e b
+      by : (q : Bool) → has_neighbors (decided_as r) ≡ q → IsKeptIn b (stored_by nothing_stored (rs ++ records.Decided r ∷ [])).durable.kept ⊎ IsAlone p e b
       by false none = inr (subst (IsAlone p e) at (λ x edge. elim (heard.2 x edge) [ inl voted ↦ absurd (nobody r.parent r.children none x voted.0) | inr quiet ↦ quiet ]))
-      by true some = inl (subst (λ x. HasRow b x.durable.kept) (sym (stored_with rs (Some (records.Decided r))))
-          (subst (λ q. HasRow b (if q then add_kept (stored_by nothing_stored rs).durable.kept (decided_as r) else (stored_by nothing_stored rs).durable.kept)) (sym some)
+      by true some = inl (subst (λ x. IsKeptIn b x.durable.kept) (sym (stored_with rs (Some (records.Decided r))))
+          (subst (λ q. IsKeptIn b (if q then add_kept (stored_by nothing_stored rs).durable.kept (decided_as r) else (stored_by nothing_stored rs).durable.kept)) (sym some)
           (put_there b (stored_by nothing_stored rs).durable.kept (decided_as r) (same_from_equal r.me b at))))
   decided_there e rs _ heard at = absurd at
 
@@ -76,7 +76,7 @@ module _ (t : History) (whole : IsLawfulRun t) (b : BranchId) where
 
     -- what was so stays so, with the same records
     same_stays : (y : Happening) → records_at (g y) b.node ≡ records_at f b.node → Rowed f e → Rowed (g y) (r y)
-    same_stays y disk (inl row) = inl (subst (λ (xs : List RedoRecord). HasRow b (stored_by nothing_stored xs).durable.kept) (sym disk) row)
+    same_stays y disk (inl row) = inl (subst (λ (xs : List RedoRecord). IsKeptIn b (stored_by nothing_stored xs).durable.kept) (sym disk) row)
     same_stays y disk (inr (inl done)) = inr (inl (done_later (added y) b done))
     same_stays y disk (inr (inr alone)) = inr (inr (alone_later y alone))
 
@@ -100,8 +100,8 @@ module _ (t : History) (whole : IsLawfulRun t) (b : BranchId) where
 
       old_stays : Rowed f e → Rowed (g y) (r y)
       old_stays (inl row) = elim (cases_nat b.node u.node) [
-        | inl at ↦ elim (wrote_stay b u.node e (records_at f u.node) u.wrote stand (subst (λ i. HasRow b (stored_rows f i)) at row)) [
-          | inl still ↦ inl (subst (λ i. HasRow b (stored_rows (g y) i)) (sym at) (subst (λ (xs : List RedoRecord). HasRow b (stored_by nothing_stored xs).durable.kept) (sym disk_now) still))
+        | inl at ↦ elim (wrote_stay b u.node e (records_at f u.node) u.wrote stand (subst (λ i. IsKeptIn b (stored_rows f i)) at row)) [
+          | inl still ↦ inl (subst (λ i. IsKeptIn b (stored_rows (g y) i)) (sym at) (subst (λ (xs : List RedoRecord). IsKeptIn b (stored_by nothing_stored xs).durable.kept) (sym disk_now) still))
           | inr done ↦ inr (inl (done_later (turn_added f (g y) u e) b done))
         ]
         | inr other ↦ same_stays y (turn_elsewhere t.places t.commands f (run_stands (so_far t hs) lawful).0.even u b.node (λ it. other (sym it))).1 (inl row)
@@ -115,7 +115,7 @@ module _ (t : History) (whole : IsLawfulRun t) (b : BranchId) where
 
       new_row : IsDecisionOf b u.wrote → Rowed (g y) (r y)
       new_row at = elim (decided_there e (records_at f u.node) u.wrote heard at) [
-        | inl row ↦ inl (subst (λ i. HasRow b (stored_rows (g y) i)) (sym (decided_here u.wrote own at)) (subst (λ (xs : List RedoRecord). HasRow b (stored_by nothing_stored xs).durable.kept) (sym disk_now) row))
+        | inl row ↦ inl (subst (λ i. IsKeptIn b (stored_rows (g y) i)) (sym (decided_here u.wrote own at)) (subst (λ (xs : List RedoRecord). IsKeptIn b (stored_by nothing_stored xs).durable.kept) (sym disk_now) row))
         | inr alone ↦ inr (inr (alone_later y alone))
       ]
 
@@ -132,9 +132,9 @@ module _ (t : History) (whole : IsLawfulRun t) (b : BranchId) where
       | inr made ↦ absurd (later_undecided b m made.0 made.1 made.2)
     ]
 
-    booted_row : (boot : ℕ) (rs : List RedoRecord) → HasRow b (stored_by nothing_stored rs).durable.kept → HasRow b (stored_by nothing_stored (rs ++ records.Boot boot ∷ [])).durable.kept
+    booted_row : (boot : ℕ) (rs : List RedoRecord) → IsKeptIn b (stored_by nothing_stored rs).durable.kept → IsKeptIn b (stored_by nothing_stored (rs ++ records.Boot boot ∷ [])).durable.kept
     unfolding applied durable_after
-    booted_row boot rs has = subst (λ s. HasRow b s.durable.kept) (sym (stored_with rs (Some (records.Boot boot)))) has
+    booted_row boot rs has = subst (λ s. IsKeptIn b s.durable.kept) (sym (stored_with rs (Some (records.Boot boot)))) has
 
     start_stays : (n boot : ℕ) → MayHappen t.places t.commands f (happenings.Started n boot) → Stays (g (happenings.Started n boot)) (r (happenings.Started n boot))
     start_stays n boot may m decided = by (now m decided)
@@ -142,11 +142,11 @@ module _ (t : History) (whole : IsLawfulRun t) (b : BranchId) where
         by : Rowed f e → Rowed (g (happenings.Started n boot)) e
         by (inr rest_so) = inr rest_so
         by (inl row) = elim (cases_nat b.node n) [
-          | inl at ↦ inl (subst (λ i. HasRow b (stored_rows (g (happenings.Started n boot)) i)) (sym at)
-              (subst (λ (xs : List RedoRecord). HasRow b (stored_by nothing_stored xs).durable.kept)
+          | inl at ↦ inl (subst (λ i. IsKeptIn b (stored_rows (g (happenings.Started n boot)) i)) (sym at)
+              (subst (λ (xs : List RedoRecord). IsKeptIn b (stored_by nothing_stored xs).durable.kept)
               (sym (start_here t.places t.commands f (run_stands (so_far t hs) lawful).0.even n boot may.there.0 (omega (arith, may.there.1, (run_stands (so_far t hs) lawful).1.many))).1)
-              (booted_row boot (records_at f n) (subst (λ i. HasRow b (stored_rows f i)) at row))))
-          | inr other ↦ inl (subst (λ (xs : List RedoRecord). HasRow b (stored_by nothing_stored xs).durable.kept)
+              (booted_row boot (records_at f n) (subst (λ i. IsKeptIn b (stored_rows f i)) at row))))
+          | inr other ↦ inl (subst (λ (xs : List RedoRecord). IsKeptIn b (stored_by nothing_stored xs).durable.kept)
               (sym (start_elsewhere t.places t.commands f (run_stands (so_far t hs) lawful).0.even n boot b.node (λ it. other (sym it))).1) row)
         ]
 
@@ -162,16 +162,16 @@ module _ (t : History) (whole : IsLawfulRun t) (b : BranchId) where
 
     stays_on : Stays (f_at t (hs ++ h ∷ [])) (e_at t (hs ++ h ∷ []))
     stays_on n decided =
-        subst (λ x. HasRow b (stored_rows x b.node) ⊎ (IsDone (e_at t (hs ++ h ∷ [])) b ⊎ IsAlone p (e_at t (hs ++ h ∷ [])) b)) (sym (one_on t hs h))
-        (subst (λ x. HasRow b (stored_rows (g h) b.node) ⊎ (IsDone x b ⊎ IsAlone p x b)) (sym (more_on t hs h)) (stays_by h refl (may_of t whole hs h rest is) n (subst (λ x. exit x b ≡ Some (Decided n)) (more_on t hs h) decided)))
+        subst (λ x. IsKeptIn b (stored_rows x b.node) ⊎ (IsGoneForGood (e_at t (hs ++ h ∷ [])) b ⊎ IsAlone p (e_at t (hs ++ h ∷ [])) b)) (sym (one_on t hs h))
+        (subst (λ x. IsKeptIn b (stored_rows (g h) b.node) ⊎ (IsGoneForGood x b ⊎ IsAlone p x b)) (sym (more_on t hs h)) (stays_by h refl (may_of t whole hs h rest is) n (subst (λ x. exit x b ≡ Some (Decided n)) (more_on t hs h) decided)))
 
   first_stays : Stays (f_at t []) (e_at t [])
   unfolding events_from
   first_stays n decided = absurd cc
 
   -- at each moment of the run, by the forest of the whole
-  pub decided_at : (hs : List Happening) → Part t whole hs → (n : ℕ) → exit (e_at t hs) b ≡ Some (Decided n) → HasRow b (stored_rows (f_at t hs) b.node) ⊎ (IsDone (e_at t hs) b ⊎ IsAlone p (e_at t hs) b)
+  pub decided_at : (hs : List Happening) → Part t whole hs → (n : ℕ) → exit (e_at t hs) b ≡ Some (Decided n) → IsKeptIn b (stored_rows (f_at t hs) b.node) ⊎ (IsGoneForGood (e_at t hs) b ⊎ IsAlone p (e_at t hs) b)
   decided_at hs part = keep_on t whole (λ xs. Stays (f_at t xs) (e_at t xs)) stays_on [] hs part first_stays
 
-  pub decided_end : (n : ℕ) → exit (events_of t) b ≡ Some (Decided n) → HasRow b (stored_rows (facts_at t) b.node) ⊎ (IsDone (events_of t) b ⊎ IsAlone (forest_of t) (events_of t) b)
+  pub decided_end : (n : ℕ) → exit (events_of t) b ≡ Some (Decided n) → IsKeptIn b (stored_rows (facts_at t) b.node) ⊎ (IsGoneForGood (events_of t) b ⊎ IsAlone (forest_of t) (events_of t) b)
   decided_end = decided_at t.trace (record { rest = []; is = append-nil t.trace })

@@ -39,7 +39,7 @@ use Rattle.tree_laws.proofs.NameLemmas.{rows_name_beyond}
 use Rattle.tree_laws.proofs.PrefixLemmas.{so_far, f_at, e_at, one_on, more_on}
 use Rattle.tree_laws.proofs.RowLemmas.{kid_branch}
 use Rattle.tree_laws.proofs.TimeLemmas.{may_of, each_at, keep_on}
-use Rattle.commit_laws.specs.WaitLaws.{HasStopped}
+use Rattle.commit_laws.specs.WaitLaws.{NodeHasStopped}
 use Rattle.commit_laws.proofs.StopLemmas.{stopped_on, cut_stops}
 use Rattle.commit_forget_laws.specs.ForgetLaws.{is_forgotten, ToldForgotten, ForgetsAreTold, ForgetsComeFromToward}
 use Rattle.tree_laws.proofs.MoreLemmas.{happening_added, inv_at}
@@ -61,7 +61,7 @@ module _ (t : History) (whole : IsLawfulRun t) (b : BranchId) where
   Came_to hs = (b ≡ site_of p b) ⊎ Has (Send_forgotten (p.toward b) b) (e_at t hs)
 
   abbrev Forgets : List Happening → Type 0
-  Forgets hs = Has (Forget b) (e_at t hs) → (Told hs ⊎ HasStopped (f_at t hs) b) × Came_to hs
+  Forgets hs = Has (Forget b) (e_at t hs) → (Told hs ⊎ NodeHasStopped (f_at t hs) b) × Came_to hs
 
   module _ (hs : List Happening) (h : Happening) (rest : List Happening) (is : hs ++ h ∷ rest ≡ t.trace) (now : Forgets hs) where
     open at_happening t whole hs h rest is use {f, e, after, part, lawful}
@@ -82,7 +82,7 @@ module _ (t : History) (whole : IsLawfulRun t) (b : BranchId) where
       | inr quiet ↦ inr (exit_later x Quiet added quiet)
     ]
 
-    old_on : Has (Forget b) e → (Told after ⊎ HasStopped (f_at t after) b) × Came_to after
+    old_on : Has (Forget b) e → (Told after ⊎ NodeHasStopped (f_at t after) b) × Came_to after
     old_on has =
         let was = now has in (
           elim was.0 [
@@ -163,7 +163,7 @@ module _ (t : History) (whole : IsLawfulRun t) (b : BranchId) where
         ]
       ]
 
-      told_by : (cut : Bool) → u.cut ≡ cut → IsOwed place k u.input u.wrote u.sent cut → Told after ⊎ HasStopped (f_at t after) b
+      told_by : (cut : Bool) → u.cut ≡ cut → IsOwed place k u.input u.wrote u.sent cut → Told after ⊎ NodeHasStopped (f_at t after) b
       unfolding turn_of
       told_by true cut owed = inr (cut_stops t whole b hs h rest is u turn k may.up (sym node) cut)
       told_by false cut owed =
@@ -176,10 +176,10 @@ module _ (t : History) (whole : IsLawfulRun t) (b : BranchId) where
             | inr quiet ↦ inr (exit_later x Quiet added quiet)
           ])
 
-      new_on : (Told after ⊎ HasStopped (f_at t after) b) × Came_to after
+      new_on : (Told after ⊎ NodeHasStopped (f_at t after) b) × Came_to after
       new_on = (told_by u.cut refl may.owed, came_stays came_now)
 
-    forgets_by : (y : Happening) → h ≡ y → MayHappen t.places t.commands f y → Has (Forget b) (events_after t.places t.commands f y e) → (Told after ⊎ HasStopped (f_at t after) b) × Came_to after
+    forgets_by : (y : Happening) → h ≡ y → MayHappen t.places t.commands f y → Has (Forget b) (events_after t.places t.commands f y e) → (Told after ⊎ NodeHasStopped (f_at t after) b) × Came_to after
     forgets_by (happenings.Turn u) turn may has = elim (wrote_back b u.node u.wrote e (turn_back b f (facts_after t.places t.commands f (happenings.Turn u)) u e has)) [
       | inl old ↦ old_on old
       | inr new ↦ new_on u may.0 may.1 turn new
@@ -198,7 +198,7 @@ module _ (t : History) (whole : IsLawfulRun t) (b : BranchId) where
   unfolding events_from
   first none = absurd none
 
-  pub forgets_end : Has (Forget b) (events_of t) → (ToldForgotten t b ⊎ HasStopped (facts_at t) b) × ((b ≡ site_of p b) ⊎ Has (Send_forgotten (p.toward b) b) (events_of t))
+  pub forgets_end : Has (Forget b) (events_of t) → (ToldForgotten t b ⊎ NodeHasStopped (facts_at t) b) × ((b ≡ site_of p b) ⊎ Has (Send_forgotten (p.toward b) b) (events_of t))
   forgets_end has =
       let all : Forgets t.trace = keep_on t whole Forgets forgets_on [] t.trace (record { rest = []; is = append-nil t.trace }) first in
       all has

@@ -29,7 +29,7 @@ use Rattle.tree_laws.specs.Forests.{forest_of}
 use Rattle.tree_laws.proofs.PrefixLemmas.{f_at, e_at, more_on}
 use Rattle.tree_laws.proofs.TimeLemmas.{part_on}
 use Rattle.commit_laws.specs.DeliveryLaws.{CameInTurn}
-use Rattle.commit_laws.specs.WaitLaws.{HasStopped}
+use Rattle.commit_laws.specs.WaitLaws.{NodeHasStopped}
 use Rattle.commit_laws.proofs.CameLemmas.{deliveries_came}
 use Rattle.commit_laws.proofs.StopLemmas.{stopped_end}
 use Rattle.commit_forget_laws.specs.RowLaws.{IsSealed}
@@ -148,7 +148,7 @@ module _ (t : History) (whole : IsLawfulRun t) (m : Msg) (came : CameInTurn t.tr
         let now : Has (Forget b) (with_record u e) = subst (λ w. Has (Forget b) (with_event (wrote_event u.node w) e)) (sym wrote) (inl refl) in
         subst (Has (Forget b)) (sym (more_on t hs h)) (has_later (Forget b) (turn_added f (facts_after t.places t.commands f h) u e) now)
 
-    by_cut_so : (cut : Bool) → u.cut ≡ cut → IsOwed place k u.input u.wrote u.sent cut → Has (Forget b) (events_of t) ⊎ HasStopped (facts_at t) b
+    by_cut_so : (cut : Bool) → u.cut ≡ cut → IsOwed place k u.input u.wrote u.sent cut → Has (Forget b) (events_of t) ⊎ NodeHasStopped (facts_at t) b
     unfolding turn_of
     by_cut_so true cut owed =
         let down : node_at (f_at t after) b.node ≡ None = here.left t whole m came ∙ ap (λ c. kept_after c (Some (turn_of place k (inputs.Message m)))) cut in
@@ -158,7 +158,7 @@ module _ (t : History) (whole : IsLawfulRun t) (m : Msg) (came : CameInTurn t.tr
       | inr new ↦ (let wrote : u.wrote ≡ Some (records.Forgot b) = owed.0 ∙ (ap (λ (y : Input). (draft_of place k y).wrote) came.input ∙ new) in inl (to_end (with_it wrote)))
     ]
 
-    pub forgotten_heard : Has (Forget m.to) (events_of t) ⊎ HasStopped (facts_at t) m.to
+    pub forgotten_heard : Has (Forget m.to) (events_of t) ⊎ NodeHasStopped (facts_at t) m.to
     forgotten_heard = by_cut_so u.cut refl may.1.owed
 
 forgotten_kind : (kind : Kind) → is_forgotten kind ≡ true → kind ≡ kinds.Forgotten

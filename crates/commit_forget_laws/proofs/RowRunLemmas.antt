@@ -39,7 +39,7 @@ use Rattle.tree_laws.specs.RecordLaws.{RecordLeads, WritesAsTold}
 use Rattle.tree_laws.proofs.PrefixLemmas.{f_at, e_at, one_on, more_on}
 use Rattle.tree_laws.proofs.RecordRunLemmas.{records_are_as_told}
 use Rattle.tree_laws.proofs.TimeLemmas.{may_of, fact_at, exit_on, keep_on}
-use Rattle.commit_laws.specs.WaitLaws.{HasStopped}
+use Rattle.commit_laws.specs.WaitLaws.{NodeHasStopped}
 use Rattle.commit_forget_laws.specs.RowLaws.{is_ack, RowTells, RowsTell}
 use Rattle.commit_forget_laws.proofs.AckTurnLemmas.{ack_rows}
 use Rattle.tree_laws.proofs.MoreLemmas.{inv_at}
@@ -282,6 +282,6 @@ pub rows_tell : RowsTell
 rows_tell t whole n k up =
     all_weaker _ _ (λ x so. by x so.0 so.1) k.stored.durable.kept (all_both _ _ k.stored.durable.kept (run_tells t whole n k up) (ids_name_their_node t whole n k up).rows)
   where
-    by : (x : KeptRow) → Tells (said_in (facts_at t)) (events_of t) (boots (records_at (facts_at t) n)) x → x.me.node ≡ n → RowTells (said_in (facts_at t)) (events_of t) x ⊎ HasStopped (facts_at t) x.me
+    by : (x : KeptRow) → Tells (said_in (facts_at t)) (events_of t) (boots (records_at (facts_at t) n)) x → x.me.node ≡ n → RowTells (said_in (facts_at t)) (events_of t) x ⊎ NodeHasStopped (facts_at t) x.me
     by x (inl so) node = inl (record { sealed = so.0.sealed; acks = so.1; plain = λ un. (so.0.whole un).1; forgets = so.0.forgets })
     by x (inr old) node = inr (λ j there. subst (λ i. x.me.boot < boots (records_at (facts_at t) i)) (sym node) old)

@@ -10,7 +10,7 @@ use Rattle.node_rules.specs.NodeState.{NodeState, live_id, live_at, kept_row_at}
 use Rattle.node_rules.specs.Turn.{Is_gone, status_of}
 use Rattle.run_rules.specs.Births.{Born, born_id}
 use Rattle.run_base_laws.specs.BirthLaws.{Began}
-use Rattle.run_base_laws.specs.EventRows.{HasRow}
+use Rattle.run_base_laws.specs.EventRows.{IsKeptIn}
 use Rattle.run_base_laws.specs.NodeLaws.{unacked_row}
 use Rattle.run_branch_laws.proofs.KeptRowLemmas.{any_map}
 use Rattle.run_base_laws.proofs.NodesStandLemmas.{stored_rows}
@@ -24,7 +24,7 @@ use Rattle.run_rules.proofs.ListLemmas.{all_weaker, all_map, all_filter}
 use Rattle.run_base_laws.proofs.OwnLemmas.{all_found}
 use Rattle.tree_laws.proofs.ForestLemmas as trees
 use Rattle.tree_laws.proofs.ForestRunLemmas.{runs_have_forests}
-use Rattle.commit_laws.specs.WaitLaws.{HasStopped}
+use Rattle.commit_laws.specs.WaitLaws.{NodeHasStopped}
 use Rattle.commit_laws.proofs.StillLemmas.{all_came}
 use Rattle.commit_forget_laws.specs.RowLaws.{IsSealed}
 use Rattle.commit_forget_laws.specs.ForgetLaws.{is_forgotten}
@@ -62,10 +62,10 @@ module _ (t : History) (whole : IsLawfulRun t) (root : BranchId) (ended : AllEnd
   -- ---- all forgot, the nearest first
 
   -- a row by the records is one that the node keeps
-  kept_row : (y : BranchId) (of : Of y) → HasRow y (stored_rows f y.node) → HasRow y (up_at y of).0.stored.durable.kept
+  kept_row : (y : BranchId) (of : Of y) → IsKeptIn y (stored_rows f y.node) → IsKeptIn y (up_at y of).0.stored.durable.kept
   kept_row y of row =
       let k : NodeState = (up_at y of).0 in
-      sym (any_map y unacked_row (λ z. refl) k.stored.durable.kept) ∙ subst (λ z. HasRow y z.durable.kept) (sym (records_are_kept t whole y.node k (up_at y of).1)) row
+      sym (any_map y unacked_row (λ z. refl) k.stored.durable.kept) ∙ subst (λ z. IsKeptIn y z.durable.kept) (sym (records_are_kept t whole y.node k (up_at y of).1)) row
 
   -- the site has
   decided_forgot : (y b : BranchId) → Of y → (n : ℕ) → exit e y ≡ Some (Decided n) → Beyond p b y → IsSealed e b → Has (Forget y) e
@@ -128,9 +128,9 @@ module _ (t : History) (whole : IsLawfulRun t) (root : BranchId) (ended : AllEnd
 
       heard : was_sent is_forgotten said y b ≡ true → Has (Forget b) e
       heard sent =
-          let it = acked.came t whole root ended is_forgotten (λ z. Beyond p z.to z.from → IsSealed e z.to → Has (Forget z.to) e ⊎ HasStopped f z.to) y b of_y (forgottens_are_heard t whole) sent in
+          let it = acked.came t whole root ended is_forgotten (λ z. Beyond p z.to z.from → IsSealed e z.to → Has (Forget z.to) e ⊎ NodeHasStopped f z.to) y b of_y (forgottens_are_heard t whole) sent in
           let law = it.3 (subst (λ z. Beyond p z it.0.from) (sym it.2) (subst (Beyond p b) (sym it.1) edge_b)) (subst (IsSealed e) (sym it.2) (m, sealed)) in
-          elim (subst (λ z. Has (Forget z) e ⊎ HasStopped f z) it.2 law) [ inl forgot ↦ forgot | inr stopped ↦ absurd (acked.up_still t whole root ended b of stopped) ]
+          elim (subst (λ z. Has (Forget z) e ⊎ NodeHasStopped f z) it.2 law) [ inl forgot ↦ forgot | inr stopped ↦ absurd (acked.up_still t whole root ended b of stopped) ]
 
   forgot_by_far : (fuel : ℕ) (b : BranchId) → Of b → (m : ℕ) → exit e b ≡ Some (Sealed m) → p.far b ≤ fuel → Has (Forget b) e
   forgot_by_far zero b of m sealed low = one_forgot b of m sealed (λ y of_y j sealed_y near. absurd (omega (arith, low, near)))

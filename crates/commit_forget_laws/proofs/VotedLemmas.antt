@@ -34,7 +34,7 @@ use Rattle.run_rules.proofs.ListLemmas.{all_weaker, all_each, all_append}
 use Rattle.run_branch_laws.proofs.VoteLemmas.{votes_are_of_sealed}
 use Rattle.tree_laws.specs.AskLaws.{path_on}
 use Rattle.tree_laws.specs.Forests.{comes_to}
-use Rattle.tree_laws.specs.RecordLaws.{LeadsTo, RecordLeads}
+use Rattle.tree_laws.specs.RecordLaws.{LeadsToward, RecordLeads}
 use Rattle.tree_laws.proofs.AskLemmas.{voted_step}
 use Rattle.tree_laws.proofs.AskRunLemmas.{paths_are_told}
 use Rattle.tree_laws.proofs.AskStepLemmas.{voted_peers}
@@ -133,7 +133,7 @@ module _ (t : History) (before : List Happening) (lawful : IsLawfulRun (so_far t
   -- ---- the way
 
   -- the child that is told that the walk comes there is toward
-  on_toward : (me : BranchId) (parent : Option BranchId) → BornSo me parent → (o : Option BranchId) → LeadsTo said me parent o → (c : BranchId) → On me c → is_branch c o ≡ true
+  on_toward : (me : BranchId) (parent : Option BranchId) → BornSo me parent → (o : Option BranchId) → LeadsToward said me parent o → (c : BranchId) → On me c → is_branch c o ≡ true
   on_toward me parent born None leads c on = (let no = leads.1 c in absurd (cc (no, on)))
   on_toward me parent born (Some q) (inl up) c on =
       let heard_above = known.walk me c on in
@@ -146,7 +146,7 @@ module _ (t : History) (before : List Happening) (lawful : IsLawfulRun (so_far t
   on_toward me parent born (Some q) (inr down) c on = same_from_equal q c ((known.one me q down.1).1 c on)
 
   -- the walk comes from a parent that is not toward
-  comes_from : (me : BranchId) (parent o : Option BranchId) → LeadsTo said me parent o → (x : BranchId) → parent ≡ Some x → is_branch x o ≡ false → was_sent is_below said x me ≡ true
+  comes_from : (me : BranchId) (parent o : Option BranchId) → LeadsToward said me parent o → (x : BranchId) → parent ≡ Some x → is_branch x o ≡ false → was_sent is_below said x me ≡ true
   comes_from me parent None leads x above off = sym (ap (comes_to said me) above) ∙ leads.0
   comes_from me parent (Some q) (inl up) x above off =
       let both : Some q ≡ Some x = sym up.0 ∙ above in
@@ -172,10 +172,10 @@ module _ (t : History) (before : List Happening) (lawful : IsLawfulRun (so_far t
         let up = above_heard t before lawful u k may bs said known (λ y began. began) (λ kind q c is. is) acts_in.here acts_in.near acts_in.acting settles x told in
         let sealed = votes_are_of_sealed s lawful x up.1.0 up.1.1 in (sealed.0, sealed.1)
 
-    kids_sealed : (toward : Option BranchId) → LeadsTo said l.me l.parent toward → (ps : List Peer) → NamedSo l.me ps → AllByRecursion (λ (q : Peer). IsSealed e q.branch ⊎ (is_branch q.branch toward ≡ true)) ps
+    kids_sealed : (toward : Option BranchId) → LeadsToward said l.me l.parent toward → (ps : List Peer) → NamedSo l.me ps → AllByRecursion (λ (q : Peer). IsSealed e q.branch ⊎ (is_branch q.branch toward ≡ true)) ps
     kids_sealed toward leads ps named = all_weaker _ _ (λ q is. elim is [ inl sealed ↦ inl sealed | inr on ↦ inr (on_toward l.me l.parent born toward leads q.branch on) ]) ps named
 
-    above_sealed : (y : KeptRow) → y.me ≡ l.me → LeadsTo said l.me l.parent y.toward → AllByRecursion (λ (z : Beyond). IsSealed e z.branch) (parent_beyond y l.parent)
+    above_sealed : (y : KeptRow) → y.me ≡ l.me → LeadsToward said l.me l.parent y.toward → AllByRecursion (λ (z : Beyond). IsSealed e z.branch) (parent_beyond y l.parent)
     above_sealed y me leads = parent_so (IsSealed e) y l.parent (λ q at off. parent_sealed q (comes_from l.me l.parent y.toward leads q at off))
 
   named_path : (path : Option ℕ) {l : Live} {b : Bool} → ActsIn k0 u.input l b (seal_act path) → NamedSo l.me (named_children path 1 l.edges)
@@ -190,7 +190,7 @@ module _ (t : History) (before : List Happening) (lawful : IsLawfulRun (so_far t
   unfolding beyond
   seal_voted l b path cs acts_in leads =
       let r : SealedRecord = sealed_of k0.clock l cs path in
-      let way : LeadsTo said l.me l.parent (toward_of r r.toward) = subst (LeadsTo said l.me l.parent) (sym leads.1) leads.2 in
+      let way : LeadsToward said l.me l.parent (toward_of r r.toward) = subst (LeadsToward said l.me l.parent) (sym leads.1) leads.2 in
       all_append (λ (z : Beyond). IsSealed e z.branch) (parent_beyond (sealed_as r) l.parent) _ (above_sealed acts_in (seal_settles path) (sealed_as r) refl way)
       (kids_so (IsSealed e) (toward_of r r.toward) (named_children path 1 l.edges) (kids_sealed acts_in (seal_settles path) (toward_of r r.toward) way (named_children path 1 l.edges) (named_path path acts_in)))
 

@@ -15,7 +15,7 @@ use Rattle.run_rules.specs.Lawful.{History, IsLawfulRun, facts_at, boots}
 use Rattle.run_base_laws.specs.RunEvents.{events_of}
 use Rattle.run_branch_laws.specs.WalkLaws.{was_sent}
 use Rattle.tree_laws.specs.Forests.{forest_of}
-use Rattle.commit_laws.specs.WaitLaws.{HasStopped}
+use Rattle.commit_laws.specs.WaitLaws.{NodeHasStopped}
 use Rattle.commit_forget_laws.specs.RowLaws.{is_ack, IsSealed}
 
 -- whether a message is Forgotten
@@ -40,7 +40,7 @@ AcksAreNoted = (t : History) → IsLawfulRun t
 abbrev pub ForgottensAreHeard : Type 0
 ForgottensAreHeard = (t : History) → IsLawfulRun t
     → AllByRecursion (λ x. x.fate ≡ fates.Delivered → is_forgotten x.msg.kind ≡ true → Beyond (forest_of t) x.msg.to x.msg.from → IsSealed (events_of t) x.msg.to
-    → Has (Forget x.msg.to) (events_of t) ⊎ HasStopped (facts_at t) x.msg.to) (facts_at t).net.packets
+    → Has (Forget x.msg.to) (events_of t) ⊎ NodeHasStopped (facts_at t) x.msg.to) (facts_at t).net.packets
 
 -- a branch told each neighbour beyond that it has forgotten, unless that is gone without changes
 abbrev pub ToldForgotten : History → BranchId → Type 0
@@ -48,7 +48,7 @@ ToldForgotten t b = (x : BranchId) → Beyond (forest_of t) x b → (was_sent is
 
 -- In every lawful run a branch that has forgotten told so, or its node has stopped since the branch began.
 abbrev pub ForgetsAreTold : Type 0
-ForgetsAreTold = (t : History) → IsLawfulRun t → (b : BranchId) → Has (Forget b) (events_of t) → ToldForgotten t b ⊎ HasStopped (facts_at t) b
+ForgetsAreTold = (t : History) → IsLawfulRun t → (b : BranchId) → Has (Forget b) (events_of t) → ToldForgotten t b ⊎ NodeHasStopped (facts_at t) b
 
 -- In every lawful run a sealed branch that has forgotten was told Forgotten by toward.
 abbrev pub ForgetsComeFromToward : Type 0

@@ -14,13 +14,13 @@ use Rattle.run_rules.specs.Facts.{node_at}
 use Rattle.run_rules.specs.Lawful.{History, IsLawfulRun, facts_at}
 use Rattle.commit_laws.specs.StillLaws.{DroppedNone}
 use Rattle.run_claims.specs.Undisturbed.{Commit, Undisturbed, SealIsEnded, branches_in, stand_at}
-use Rattle.commit_laws.specs.WaitLaws.{HasStopped}
+use Rattle.commit_laws.specs.WaitLaws.{NodeHasStopped}
 
 -- All messages of the branches of a transaction came, no node of them has stopped since they began, and each of its seals
 -- has its Ended commit.
 pub record AllEnded (t : History) (root : BranchId) : Type 0 where
   pub messages : AllByRecursion (λ x. (b : Born) → Began (births_of t) b → b.me ≡ x.msg.from → b.root ≡ root → x.fate ≡ fates.Delivered) (facts_at t).net.packets
-  pub up : (b : Born) → Began (births_of t) b → b.root ≡ root → HasStopped (facts_at t) b.me → ⊥
+  pub up : (b : Born) → Began (births_of t) b → b.root ≡ root → NodeHasStopped (facts_at t) b.me → ⊥
   pub ended : AllByRecursion (SealIsEnded (facts_at t).book root) (facts_at t).book
 
 -- No node keeps a row of a transaction, and each of its branches that is not live is gone.

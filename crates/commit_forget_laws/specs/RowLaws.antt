@@ -16,7 +16,7 @@ use Rattle.run_base_laws.specs.InTurnLaws.{said_in}
 use Rattle.run_rules.specs.Lawful.{History, IsLawfulRun, facts_at}
 use Rattle.run_base_laws.specs.RunEvents.{events_of}
 use Rattle.run_branch_laws.specs.WalkLaws.{was_sent}
-use Rattle.commit_laws.specs.WaitLaws.{HasStopped}
+use Rattle.commit_laws.specs.WaitLaws.{NodeHasStopped}
 
 -- whether a message is an Ack
 abbrev pub is_ack : Kind → Bool
@@ -48,4 +48,4 @@ pub record RowTells (said : List Post) (t : List Event) (s : KeptRow) : Type 0 w
 -- In every lawful run it is so of each row, unless the node has stopped since its branch began.
 abbrev pub RowsTell : Type 0
 RowsTell = (t : History) → IsLawfulRun t → (n : ℕ) (k : NodeState) → node_at (facts_at t) n ≡ Some k
-    → AllByRecursion (λ s. RowTells (said_in (facts_at t)) (events_of t) s ⊎ HasStopped (facts_at t) s.me) k.stored.durable.kept
+    → AllByRecursion (λ s. RowTells (said_in (facts_at t)) (events_of t) s ⊎ NodeHasStopped (facts_at t) s.me) k.stored.durable.kept

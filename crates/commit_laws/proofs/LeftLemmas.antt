@@ -40,7 +40,7 @@ use Rattle.tree_laws.proofs.FateLemmas.{drops_alone}
 use Rattle.tree_laws.proofs.LeaveLemmas.{messages_exit, all_quiet, wrote_quiet, was_there}
 use Rattle.tree_laws.proofs.TimeLemmas.{Part, part_on, exit_on, born_end, keep_on}
 use Rattle.commit_laws.specs.DeliveryLaws.{is_answer}
-use Rattle.commit_laws.specs.WaitLaws.{HasStopped, LeftHaveAnswered}
+use Rattle.commit_laws.specs.WaitLaws.{NodeHasStopped, LeftHaveAnswered}
 use Rattle.commit_laws.proofs.ListLemmas.{all_at}
 use Rattle.commit_laws.proofs.ReadyLemmas.{ready_have_answered}
 use Rattle.commit_laws.proofs.ReasonLemmas.{is_quiet_post}
@@ -56,7 +56,7 @@ module _ (t : History) (whole : IsLawfulRun t) (x : Born) (began : Began (births
 
   -- it was dropped, has answered its parent, or its node has stopped
   abbrev IsSettled : List Happening → Type 0
-  IsSettled hs = (exit (e_at t hs) c ≡ Some Dropped) ⊎ ((was_sent is_answer (said_in (f_at t hs)) c q ≡ true) ⊎ ((exit (e_at t hs) c ≢ None) × HasStopped (f_at t hs) c))
+  IsSettled hs = (exit (e_at t hs) c ≡ Some Dropped) ⊎ ((was_sent is_answer (said_in (f_at t hs)) c q ≡ true) ⊎ ((exit (e_at t hs) c ≢ None) × NodeHasStopped (f_at t hs) c))
 
   abbrev IsKnown : List Happening → Type 0
   IsKnown hs = (exit (e_at t hs) c ≡ None) ⊎ IsSettled hs
@@ -233,7 +233,7 @@ module _ (t : History) (whole : IsLawfulRun t) (x : Born) (began : Began (births
   unfolding events_from
   first_known = inl refl
 
-  pub left_answered : (z : Exit) → exit (events_of t) c ≡ Some z → z ≢ Dropped → (was_sent is_answer (said_in (facts_at t)) c q ≡ true) ⊎ HasStopped (facts_at t) c
+  pub left_answered : (z : Exit) → exit (events_of t) c ≡ Some z → z ≢ Dropped → (was_sent is_answer (said_in (facts_at t)) c q ≡ true) ⊎ NodeHasStopped (facts_at t) c
   left_answered z left other = elim (keep_on t whole IsKnown known_on [] t.trace (record { rest = []; is = append-nil t.trace }) first_known) [
     | inl none ↦ absurd (cc (none, left))
     | inr (inl dropped) ↦ (let both : Some z ≡ Some Dropped = sym left ∙ dropped in let it : z ≡ Dropped = cc in absurd (other it))

@@ -18,7 +18,7 @@ use Rattle.run_rules.proofs.ListLemmas.{all_weaker}
 use Rattle.run_base_laws.proofs.TurnEventLemmas.{all_both}
 use Rattle.commit_laws.specs.StillLaws.{UndisturbedMessagesCome, DroppedNone, UndisturbedCollectsEnd}
 use Rattle.run_claims.specs.Undisturbed.{Commit, Undisturbed, branches_in, is_lost, HasNotStopped}
-use Rattle.commit_laws.specs.WaitLaws.{HasStopped, AllCame}
+use Rattle.commit_laws.specs.WaitLaws.{NodeHasStopped, AllCame}
 use Rattle.commit_laws.proofs.AmongLemmas.{among_all, is_in}
 use Rattle.commit_laws.proofs.WaitLemmas.{collects_are_over}
 
@@ -87,7 +87,7 @@ module _ (t : History) (whole : IsLawfulRun t) (c : Commit t.places t.commands t
       let node = node_so t.places t.commands t.of_a_script.each (facts_at t) (events_of t) (run_stands t whole) n k up in
       ap (λ s. s.durable.boot) node.stored ∙ node.boot
 
-  not_stopped : (b : BranchId) → HasNotStopped (facts_at t) b → HasStopped (facts_at t) b → ⊥
+  not_stopped : (b : BranchId) → HasNotStopped (facts_at t) b → NodeHasStopped (facts_at t) b → ⊥
   not_stopped b stays stops = by (node_at (facts_at t) b.node) refl stays
     where
       by : (o : Option NodeState) → node_at (facts_at t) b.node ≡ o → option_map (λ (k : NodeState). k.stored.durable.boot) o ≡ Some b.boot → ⊥
@@ -103,7 +103,7 @@ module _ (t : History) (whole : IsLawfulRun t) (c : Commit t.places t.commands t
   pub stays_up : (b : Born) → Began bs b → b.root ≡ c.root → HasNotStopped (facts_at t) b.me
   stays_up b began of = among_all (HasNotStopped (facts_at t)) (branches_in bs c.root) b.me u.stopped (among b began of)
 
-  pub never_stopped : (b : Born) → Began bs b → b.root ≡ c.root → HasStopped (facts_at t) b.me → ⊥
+  pub never_stopped : (b : Born) → Began bs b → b.root ≡ c.root → NodeHasStopped (facts_at t) b.me → ⊥
   never_stopped b began of stops = not_stopped b.me (stays_up b began of) stops
 
   pub all_came : DroppedNone t c.root → AllCame t c.root

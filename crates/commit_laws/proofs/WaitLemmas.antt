@@ -36,7 +36,7 @@ use Rattle.tree_laws.proofs.AskRunLemmas.{edges_asked}
 use Rattle.tree_laws.proofs.FateLemmas.{among_found}
 use Rattle.tree_laws.proofs.ShallowLemmas.{parents_are_shallow}
 use Rattle.commit_laws.specs.DeliveryLaws.{IsBusy, is_answer, HasAnswerOf}
-use Rattle.commit_laws.specs.WaitLaws.{HasStopped, HasNotCome, Awaits, Not_asked, Collects_too, Not_answered, Was_dropped, Has_stopped, CollectorsWait, AllCame, CollectsAreOver}
+use Rattle.commit_laws.specs.WaitLaws.{NodeHasStopped, HasNotCome, Awaits, Not_asked, Collects_too, Not_answered, Was_dropped, Has_stopped, CollectorsWait, AllCame, CollectsAreOver}
 use Rattle.commit_laws.proofs.ListLemmas.{IsIn, all_in, in_all}
 use Rattle.commit_laws.proofs.NetLemmas.{numbered_all}
 use Rattle.commit_laws.proofs.SentLemmas.{IsSent, sent_found}
@@ -140,7 +140,7 @@ module _ (t : History) (whole : IsLawfulRun t) where
           let me : child.0.me ≡ c = child.2 in
           elim (left_have_answered t whole child.0 child.1 l.me child.3 z (subst (λ b. exit (events_of t) b ≡ Some z) (sym me) left) other) [
             | inl sent ↦ not_answered (subst (λ b. was_sent is_answer (said_in f) b l.me ≡ true) me sent)
-            | inr stopped ↦ Has_stopped (subst (HasStopped f) me stopped)
+            | inr stopped ↦ Has_stopped (subst (NodeHasStopped f) me stopped)
           ]
 
       exit_awaits : (z : Exit) → exit (events_of t) c ≡ Some z → Awaits t l.me c
@@ -227,7 +227,7 @@ module _ (t : History) (whole : IsLawfulRun t) where
         none_waits (Not_answered not) = message_came is_answer e.peer l.me kid.0 kid.1 kid.2 below_it.0 not
         none_waits (Was_dropped dropped) =
             all.below kid.0 kid.1 below_it.0 (λ none. (let above = kid.3 in absurd (cc (above, none)))) (subst (λ b. exit (events_of t) b ≡ Some Dropped) (sym kid.2) dropped)
-        none_waits (Has_stopped stopped) = all.up kid.0 kid.1 below_it.0 (subst (HasStopped f) (sym kid.2) stopped)
+        none_waits (Has_stopped stopped) = all.up kid.0 kid.1 below_it.0 (subst (NodeHasStopped f) (sym kid.2) stopped)
         none_waits (Collects_too j y down there_j live_y collects) =
             let me : y.me ≡ e.peer = item_is live_id j.lives e.peer y live_y in
             let mine : live_at j y.me ≡ Some y = subst (λ b. live_at j b ≡ Some y) (sym me) live_y in

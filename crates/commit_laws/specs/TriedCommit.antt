@@ -10,7 +10,7 @@ use Rattle.run_rules.specs.Data.{Happening}
 use Rattle.run_rules.specs.Data.happenings
 use Rattle.run_rules.specs.Facts.{first_facts}
 use Rattle.run_branch_laws.specs.TriedRun as tried
-use Rattle.run_claims.specs.Undisturbed.{Commit, Undisturbed, IsComplete, HasNotStopped, IsCalm, facts_by, branches_by, answers_from}
+use Rattle.run_claims.specs.Undisturbed.{Commit, Undisturbed, CommitIsComplete, HasNotStopped, NoneComesIn, facts_by, branches_by, answers_from}
 
 -- the messages up to the vote of B come, and the seventh, Committed to B, is lost
 abbrev pub lost_trace : List Happening
@@ -24,12 +24,12 @@ lost_branches = branches_by tried.places [] lost_trace tried.a
 pub record TheTriedCommit : Type 0 where
   pub commit : Commit tried.places [] tried.trace
   pub undisturbed : Undisturbed tried.places [] tried.trace commit
-  pub complete : IsComplete tried.places [] tried.trace commit
+  pub complete : CommitIsComplete tried.places [] tried.trace commit
   pub lost : Commit tried.places [] lost_trace
   pub lost_goes_on : (session_at lost.kept.sessions lost.session).code ≡ None
   pub lost_still : first_flying (facts_by tried.places [] lost.before).net ≡ None
   pub lost_over : first_flying (facts_by tried.places [] lost_trace).net ≡ None
   pub lost_stopped : AllByRecursion (HasNotStopped (facts_by tried.places [] lost_trace)) lost_branches
-  pub lost_calm : AllByRecursion (IsCalm lost_branches) lost_trace
+  pub lost_calm : AllByRecursion (NoneComesIn lost_branches) lost_trace
   pub lost_answers : answers_from tried.places [] (facts_by tried.places [] lost.before) lost.call.node lost.session (happenings.Turn lost.call ∷ lost.during) ≡ []
   pub lost_doubt : in_doubt (facts_by tried.places [] lost_trace).book 2 ≡ tried.b ∷ []

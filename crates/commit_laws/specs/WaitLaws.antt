@@ -29,13 +29,13 @@ ReadyHaveAnswered = (t : History) → IsLawfulRun t → (n : ℕ) (k : NodeState
     → (q : BranchId) → l.parent ≡ Some q → was_sent is_answer (said_in (facts_at t)) l.me q ≡ true
 
 -- a branch's node is down, or has been started again since the branch began
-abbrev pub HasStopped : Facts → BranchId → Type 0
-HasStopped f b = (k : NodeState) → node_at f b.node ≡ Some k → b.boot < boots (records_at f b.node)
+abbrev pub NodeHasStopped : Facts → BranchId → Type 0
+NodeHasStopped f b = (k : NodeState) → node_at f b.node ≡ Some k → b.boot < boots (records_at f b.node)
 
 -- In every lawful run a branch below another that has left, and was not dropped, has answered it, or its node has stopped since.
 abbrev pub LeftHaveAnswered : Type 0
 LeftHaveAnswered = (t : History) → IsLawfulRun t → (x : Born) → Began (births_of t) x → (q : BranchId) → x.parent ≡ Some q → (z : Exit) → exit (events_of t) x.me ≡ Some z → z ≢ Dropped
-    → (was_sent is_answer (said_in (facts_at t)) x.me q ≡ true) ⊎ HasStopped (facts_at t) x.me
+    → (was_sent is_answer (said_in (facts_at t)) x.me q ≡ true) ⊎ NodeHasStopped (facts_at t) x.me
 
 -- ---- who waits
 
@@ -56,7 +56,7 @@ pub data Awaits (t : History) (p c : BranchId) : Type 0 where
   Collects_too : (k : NodeState) (l : Live) (below : Bool) → node_at (facts_at t) c.node ≡ Some k → live_at k c ≡ Some l → l.phase ≡ phases.Collecting below → Awaits t p c
   Not_answered : HasNotCome t is_answer c p → Awaits t p c
   Was_dropped : exit (events_of t) c ≡ Some Dropped → Awaits t p c
-  Has_stopped : HasStopped (facts_at t) c → Awaits t p c
+  Has_stopped : NodeHasStopped (facts_at t) c → Awaits t p c
 
 -- In every lawful run it is so of each child whose answer a live branch awaits.
 abbrev pub CollectorsWait : Type 0
@@ -69,7 +69,7 @@ CollectorsWait = (t : History) → IsLawfulRun t → (n : ℕ) (k : NodeState) �
 pub record AllCame (t : History) (root : BranchId) : Type 0 where
   pub messages : AllByRecursion (λ x. (b : Born) → Began (births_of t) b → b.me ≡ x.msg.from → b.root ≡ root → x.fate ≡ fates.Delivered) (facts_at t).net.packets
   pub below : (b : Born) → Began (births_of t) b → b.root ≡ root → b.parent ≢ None → exit (events_of t) b.me ≢ Some Dropped
-  pub up : (b : Born) → Began (births_of t) b → b.root ≡ root → HasStopped (facts_at t) b.me → ⊥
+  pub up : (b : Born) → Began (births_of t) b → b.root ≡ root → NodeHasStopped (facts_at t) b.me → ⊥
 
 -- In every lawful run no branch of such a transaction collects any more.
 abbrev pub CollectsAreOver : Type 0

@@ -19,7 +19,7 @@ use Rattle.run_base_laws.proofs.TurnEventLemmas.{cases_nat}
 use Rattle.tree_laws.proofs.PrefixLemmas.{so_far, f_at, one_on, facts_join}
 use Rattle.tree_laws.proofs.TimeLemmas.{Part, part_of, part_lawful, may_of}
 use Rattle.commit_laws.specs.StillLaws.{DroppedNone, AbortsNone}
-use Rattle.run_claims.specs.Undisturbed.{Commit, Undisturbed, IsDelivery, answers_in, answers_from}
+use Rattle.run_claims.specs.Undisturbed.{Commit, Undisturbed, IsFirstDelivery, answers_in, answers_from}
 use Rattle.commit_laws.proofs.RootLemmas.{undisturbed_roots_leave}
 use Rattle.commit_leave_laws.specs.CallLaws.{HasNoRow, UndisturbedCallsEnd}
 use Rattle.commit_leave_laws.proofs.LastLemmas.{Lasts, has_row}
@@ -85,7 +85,7 @@ module _ (t : History) (whole : IsLawfulRun t) (c : Commit t.places t.commands t
 
   -- ---- one delivery more
 
-  module _ (mid : List Happening) (h : Turn) (rest : List Happening) (is : mid ++ happenings.Turn h ∷ rest ≡ c.during) (comes : IsDelivery (happenings.Turn h)) (now : Status mid) where
+  module _ (mid : List Happening) (h : Turn) (rest : List Happening) (is : mid ++ happenings.Turn h ∷ rest ≡ c.during) (comes : IsFirstDelivery (happenings.Turn h)) (now : Status mid) where
     abbrev before : List Happening
     before = after ++ mid
 
@@ -195,7 +195,7 @@ module _ (t : History) (whole : IsLawfulRun t) (c : Commit t.places t.commands t
 
   -- ---- up to the end
 
-  walk : (mid rest : List Happening) → mid ++ rest ≡ c.during → AllByRecursion IsDelivery rest → Status mid → Status c.during
+  walk : (mid rest : List Happening) → mid ++ rest ≡ c.during → AllByRecursion IsFirstDelivery rest → Status mid → Status c.during
   walk mid [] is all now = subst Status (sym (append-nil mid) ∙ is) now
   walk mid (happenings.Turn h ∷ rest) is all now =
       walk (mid ++ happenings.Turn h ∷ []) rest (append_assoc mid (happenings.Turn h ∷ []) rest ∙ is) all.1 (status_next mid h rest is all.0 now)

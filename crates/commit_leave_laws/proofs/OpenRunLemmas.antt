@@ -23,7 +23,7 @@ use Rattle.run_base_laws.specs.CallLaws.{ComesAtRest}
 use Rattle.run_rules.specs.Data.{Turn, Happening}
 use Rattle.run_rules.specs.Data.happenings
 use Rattle.run_rules.specs.Facts.{Facts, first_facts, place_at, node_at, kept_after, facts_after, facts_of}
-use Rattle.run_base_laws.specs.InTurnLaws.{post_of, packet_post, said_in, GoesOn, exec_number, newest_exec, newest_reply}
+use Rattle.run_base_laws.specs.InTurnLaws.{post_of, packet_post, said_in, NeedsNoRollback, exec_number, newest_exec, newest_reply}
 use Rattle.run_rules.specs.Lawful.{IsOwed, MayHappen, MayTurn, History, IsLawfulRun}
 use Rattle.run_base_laws.specs.NodeLaws.{EachFactFrom}
 use Rattle.run_rules.proofs.AtNodeLemmas.{turn_here}
@@ -68,7 +68,7 @@ module _ (t : History) (whole : IsLawfulRun t) where
     lawful = part_lawful t whole hs part
 
     -- a live branch that waits for nothing, and may go on, opened no edge above its last
-    pub opened_low : (n : ℕ) (k : NodeState) → node_at f n ≡ Some k → (l : Live) → live_at k l.me ≡ Some l → GoesOn k l → (work_at k l.me).going ≡ None → (i : ℕ) → length l.edges < i → count_opens (said_in f) l.me i ≡ 0
+    pub opened_low : (n : ℕ) (k : NodeState) → node_at f n ≡ Some k → (l : Live) → live_at k l.me ≡ Some l → NeedsNoRollback k l → (work_at k l.me).going ≡ None → (i : ℕ) → length l.edges < i → count_opens (said_in f) l.me i ≡ 0
     opened_low n k up l live goes rests i above =
         let line = (stand_at t whole hs part n k up).each l.me l live in
         let none : more (place_at t.places n) (catalog t whole hs n) (GivenBy t whole hs) (CalledAt t whole) (work_at k l.me).going ≡ 0 = ap (more (place_at t.places n) (catalog t whole hs n) (GivenBy t whole hs) (CalledAt t whole)) rests in
@@ -109,7 +109,7 @@ module _ (t : History) (whole : IsLawfulRun t) where
         let above : x.work.came.last_call < call = runs_above x.work.came call runs in
         (below, takes.rests below (omega (arith, newest, answered, told, above)), child)
 
-    next_of : (x : Branch) → branch_at k x.live.me ≡ Some x → GoesOn k x.live → x.work.going ≡ None → Why x.live.me → Q x.live.me (length x.live.edges + 1)
+    next_of : (x : Branch) → branch_at k x.live.me ≡ Some x → NeedsNoRollback k x.live → x.work.going ≡ None → Why x.live.me → Q x.live.me (length x.live.edges + 1)
     next_of x found goes rests why =
         let live : live_at k x.live.me ≡ Some x.live = live_so k x.live.me x found in
         let both : Some (record { live = x.live; work = work_at k x.live.me }) ≡ Some x = sym (ap (with_work k) live) ∙ found in

@@ -37,7 +37,7 @@ use Rattle.tree_laws.proofs.AskRunLemmas.{live_told, sent_from}
 use Rattle.tree_laws.proofs.PrefixLemmas.{f_at}
 use Rattle.tree_laws.proofs.TimeLemmas.{Part, born_end, sent_end}
 use Rattle.commit_laws.specs.StillLaws.{AbortsNone}
-use Rattle.run_claims.specs.Undisturbed.{Commit, Undisturbed, IsCalm, branches_in, disturbs, is_disturbed}
+use Rattle.run_claims.specs.Undisturbed.{Commit, Undisturbed, NoneComesIn, branches_in, disturbs, is_disturbed}
 use Rattle.commit_laws.proofs.AmongLemmas.{is_in}
 use Rattle.commit_laws.proofs.ListLemmas.{all_at}
 use Rattle.commit_leave_laws.proofs.EffectLemmas.{effect_on}
@@ -151,7 +151,7 @@ module _ (t : History) (whole : IsLawfulRun t) (c : Commit t.places t.commands t
     -- nothing comes that upsets the COMMIT
     undisturbed : (from : BranchId) (kind : Kind) → Came h.input from r kind → disturbs kind ≡ false
     undisturbed from kind came =
-        let all : IsCalm (branches_in (births_of t) r) (happenings.Turn h) = all_at (IsCalm (branches_in (births_of t) r)) zs (happenings.Turn h) rest (subst (AllByRecursion (IsCalm (branches_in (births_of t) r))) (sym is) u.calm) in
+        let all : NoneComesIn (branches_in (births_of t) r) (happenings.Turn h) = all_at (NoneComesIn (branches_in (births_of t) r)) zs (happenings.Turn h) rest (subst (AllByRecursion (NoneComesIn (branches_in (births_of t) r))) (sym is) u.calm) in
         let end : born_at (births_of t) r ≡ Some top = subst (λ b. born_at (births_of t) b ≡ Some top) (call.top_me t whole c) (born_end t whole c.before (call.part0 t whole c) top (call.placed t whole c).began) in
         let its : StandsBelow (Began (births_of t)) top top.parent = all_found (λ x. StandsBelow (Began (births_of t)) x x.parent) born_id (births_of t) r top (births_are_trees t whole) end in
         let up : StandsBelow (Began (births_of t)) top None = subst (StandsBelow (Began (births_of t)) top) (call.top_parent t whole c) its in

@@ -22,7 +22,7 @@ use Rattle.run_rules.specs.Data.fates
 use Rattle.run_rules.specs.Data.happenings
 use Rattle.run_rules.specs.Facts.{node_at}
 use Rattle.run_base_laws.specs.FreezeLaws.{was_asked}
-use Rattle.run_base_laws.specs.InTurnLaws.{GoesOn, said_in}
+use Rattle.run_base_laws.specs.InTurnLaws.{NeedsNoRollback, said_in}
 use Rattle.run_rules.specs.Lawful.{Comes, History, IsLawfulRun, MayHappen, facts_at}
 use Rattle.run_rules.specs.Trail.{is_prepare}
 use Rattle.run_base_laws.proofs.BirthRunLemmas.{births_are_trees, nodes_name_the_born}
@@ -33,7 +33,7 @@ use Rattle.tree_laws.proofs.PrefixLemmas.{so_far, f_at}
 use Rattle.tree_laws.proofs.TimeLemmas.{Part, part_on, part_of, part_lawful, may_of, sent_end}
 use Rattle.commit_laws.specs.DeliveryLaws.{IsBusy}
 use Rattle.commit_laws.specs.StillLaws.{DroppedNone}
-use Rattle.run_claims.specs.Undisturbed.{Commit, Undisturbed, IsDelivery}
+use Rattle.run_claims.specs.Undisturbed.{Commit, Undisturbed, IsFirstDelivery}
 use Rattle.commit_laws.proofs.HeardLemmas.{prepares_are_heard}
 use Rattle.commit_laws.proofs.RootLemmas.{undisturbed_roots_leave}
 use Rattle.commit_laws.proofs.StillLemmas.{messages_come, undisturbed_collects_end}
@@ -87,7 +87,7 @@ module _ (t : History) (whole : IsLawfulRun t) (c : Commit t.places t.commands t
           let same_call : stmts.Commit c.comment ≡ rows.1 = cc in
           subst IsOfRows (sym same_call) rows.3
 
-  walk : (mid rest : List Happening) → mid ++ rest ≡ c.during → AllByRecursion IsDelivery rest → ((i : ℕ) → opens_at (after ++ mid) i ≡ opens_at c.before i) → (i : ℕ) → opens_at (after ++ c.during) i ≡ opens_at c.before i
+  walk : (mid rest : List Happening) → mid ++ rest ≡ c.during → AllByRecursion IsFirstDelivery rest → ((i : ℕ) → opens_at (after ++ mid) i ≡ opens_at c.before i) → (i : ℕ) → opens_at (after ++ c.during) i ≡ opens_at c.before i
   walk mid [] is all now i = subst (λ xs. opens_at (after ++ xs) i ≡ opens_at c.before i) (sym (append-nil mid) ∙ is) (now i)
   walk mid (happenings.Turn h ∷ rest) is all now i =
       let all_is : (after ++ mid) ++ happenings.Turn h ∷ rest ≡ t.trace
@@ -120,7 +120,7 @@ module _ (t : History) (whole : IsLawfulRun t) (c : Commit t.places t.commands t
     me : c.live.me ≡ r
     me = call.me t whole c
 
-    goes : GoesOn c.kept c.live
+    goes : NeedsNoRollback c.kept c.live
     goes top = subst (λ n. (session_at c.kept.sessions n).code ≡ None) (sym (ap (λ (b : BranchId). b.session) me ∙ call.own t whole c)) u.goes_on
 
     wide : x.edge ≤ length c.live.edges

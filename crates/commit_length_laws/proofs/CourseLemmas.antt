@@ -26,7 +26,7 @@ use Rattle.run_branch_laws.proofs.FreezeRunLemmas.{prepare_finds_rest}
 use Rattle.run_base_laws.proofs.SaidPostLemmas.{prepares_are_said}
 use Rattle.tree_laws.proofs.PrefixLemmas.{f_at, one_on}
 use Rattle.tree_laws.proofs.TimeLemmas.{may_of}
-use Rattle.run_claims.specs.Undisturbed.{Commit, IsCalm, IsDelivery, branches_in, branches_by, disturbs, is_disturbed}
+use Rattle.run_claims.specs.Undisturbed.{Commit, NoneComesIn, IsFirstDelivery, branches_in, branches_by, disturbs, is_disturbed}
 use Rattle.commit_laws.proofs.NetLemmas.{numbered_all}
 use Rattle.commit_length_laws.proofs.WorthLemmas.{worth, says_worth, node_worth, asked_worth}
 use Rattle.commit_length_laws.proofs.SayLemmas.{SaidSo}
@@ -60,7 +60,7 @@ module _ (t : History) (whole : IsLawfulRun t) (c : Commit t.places t.commands t
 
     -- ---- a delivery
 
-    module _ (calm : AllByRecursion (IsCalm (branches_by t.places t.commands t.trace c.root)) t.trace) (v : Turn) (turn : h ≡ happenings.Turn v) (uncut : v.cut ≡ false) (number : ℕ) (took : v.took ≡ Some (record { number = number; again = false })) (k : NodeState)
+    module _ (calm : AllByRecursion (NoneComesIn (branches_by t.places t.commands t.trace c.root)) t.trace) (v : Turn) (turn : h ≡ happenings.Turn v) (uncut : v.cut ≡ false) (number : ℕ) (took : v.took ≡ Some (record { number = number; again = false })) (k : NodeState)
         (may : MayTurn t.places f v k) (now : AllFly Course f.net) where
       abbrev p : Place
       p = place_at t.places v.node
@@ -92,8 +92,8 @@ module _ (t : History) (whole : IsLawfulRun t) (c : Commit t.places t.commands t
 
       is_calm : disturbs m.kind ≡ false
       is_calm =
-          let all : IsCalm (branches_by t.places t.commands t.trace c.root) h = mid_all (IsCalm (branches_by t.places t.commands t.trace c.root)) hs h rest (subst (AllByRecursion (IsCalm (branches_by t.places t.commands t.trace c.root))) (sym is) calm) in
-          let calm_turn : is_disturbed (branches_in bs c.root) v.input ≡ false = subst (IsCalm (branches_in bs c.root)) turn all in
+          let all : NoneComesIn (branches_by t.places t.commands t.trace c.root) h = mid_all (NoneComesIn (branches_by t.places t.commands t.trace c.root)) hs h rest (subst (AllByRecursion (NoneComesIn (branches_by t.places t.commands t.trace c.root))) (sym is) calm) in
+          let calm_turn : is_disturbed (branches_in bs c.root) v.input ≡ false = subst (NoneComesIn (branches_in bs c.root)) turn all in
           let message : (is_among m.to (branches_in bs c.root) && disturbs m.kind) ≡ false = subst (λ i. is_disturbed (branches_in bs c.root) i ≡ false) takes.input_is calm_turn in
           let began : born_at bs m.to ≡ Some mine.0 = subst (λ b. born_at bs b ≡ Some mine.0) mine.2 mine.1 in
           second_false (is_among m.to (branches_in bs c.root)) (disturbs m.kind) message (is_in bs c.root m.to mine.0 began mine.3)
@@ -159,8 +159,8 @@ module _ (t : History) (whole : IsLawfulRun t) (c : Commit t.places t.commands t
 
   -- ---- all deliveries
 
-  module _ (calm : AllByRecursion (IsCalm (branches_by t.places t.commands t.trace c.root)) t.trace) where
-    one_more : (hs : List Happening) (h : Happening) (rest : List Happening) → hs ++ h ∷ rest ≡ t.trace → (y : Happening) → h ≡ y → IsDelivery y → AllFly Course (f_at t hs).net
+  module _ (calm : AllByRecursion (NoneComesIn (branches_by t.places t.commands t.trace c.root)) t.trace) where
+    one_more : (hs : List Happening) (h : Happening) (rest : List Happening) → hs ++ h ∷ rest ≡ t.trace → (y : Happening) → h ≡ y → IsFirstDelivery y → AllFly Course (f_at t hs).net
         → (1 + all_worth g far (f_at t (hs ++ h ∷ [])) ≤ all_worth g far (f_at t hs)) × AllFly Course (f_at t (hs ++ h ∷ [])).net
     one_more hs h rest is (happenings.Turn v) turn it now =
         let may = subst (MayHappen t.places t.commands (f_at t hs)) turn (may_of t whole hs h rest is) in
@@ -178,7 +178,7 @@ module _ (t : History) (whole : IsLawfulRun t) (c : Commit t.places t.commands t
     one_more hs h rest is (happenings.Started n boot) turn it now = absurd it
 
     -- so they are few
-    pub few_more : (hs mid : List Happening) → hs ++ mid ≡ t.trace → AllByRecursion IsDelivery mid → AllFly Course (f_at t hs).net → length mid ≤ all_worth g far (f_at t hs)
+    pub few_more : (hs mid : List Happening) → hs ++ mid ≡ t.trace → AllByRecursion IsFirstDelivery mid → AllFly Course (f_at t hs).net → length mid ≤ all_worth g far (f_at t hs)
     few_more hs [] is all now = omega arith
     few_more hs (h ∷ mid) is all now =
         let next = one_more hs h mid is h refl all.0 now in

@@ -18,7 +18,7 @@ use Rattle.run_base_laws.specs.BirthLaws.{Began, LiveIs}
 use Rattle.run_rules.specs.Data.{Took, Turn}
 use Rattle.run_rules.specs.Data.happenings
 use Rattle.run_rules.specs.Facts.{Facts, place_at, taken, facts_after}
-use Rattle.run_base_laws.specs.InTurnLaws.{GoesOn}
+use Rattle.run_base_laws.specs.InTurnLaws.{NeedsNoRollback}
 use Rattle.run_rules.specs.Lawful.{Comes, IsOwed, MayTurn, History, IsLawfulRun}
 use Rattle.run_base_laws.proofs.BirthRunLemmas.{nodes_name_the_born}
 use Rattle.run_base_laws.proofs.EventsStandLemmas.{run_stands}
@@ -84,7 +84,7 @@ module _ (t : History) (whole : IsLawfulRun t) (c : Commit t.places t.commands t
     pub said_so : AllByRecursion (SaidSo c.root) d.says
     pub works : WorksOn k d.after
 
-  goes : (session_at k.sessions c.session).code ≡ None → GoesOn k c.live
+  goes : (session_at k.sessions c.session).code ≡ None → NeedsNoRollback k c.live
   goes none top =
       let its = (roots_are_of_sessions s lawful v.node k c.up c.session c.root c.of).0 in
       let number : c.live.me.session ≡ c.session = ap (λ (i : BranchId). i.session) me ∙ its in

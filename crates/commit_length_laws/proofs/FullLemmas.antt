@@ -16,7 +16,7 @@ use Rattle.run_rules.specs.Births.{Born, births_of, births_after}
 use Rattle.run_base_laws.specs.BirthLaws.{Began, ChildrenAre, LiveIs}
 use Rattle.run_rules.specs.Data.{Happening, Command}
 use Rattle.run_rules.specs.Facts.{Facts, first_facts, node_at, facts_after, facts_of}
-use Rattle.run_base_laws.specs.InTurnLaws.{GoesOn, WaitsFor, call_at}
+use Rattle.run_base_laws.specs.InTurnLaws.{NeedsNoRollback, WaitsFor, call_at}
 use Rattle.run_rules.specs.Lawful.{IsPlace, IsLawful, History, IsLawfulRun}
 use Rattle.run_base_laws.specs.RunEvents.{events_after}
 use Rattle.run_base_laws.proofs.BirthRunLemmas.{StandBorn, stand_born_on, stand_born_first, nodes_name_the_born}
@@ -89,7 +89,7 @@ module _ (t : History) (whole : IsLawfulRun t) where
   fits_at : (n : ℕ) (k : NodeState) → node_at f n ≡ Some k → (b : BranchId) (l : Live) → live_at k b ≡ Some l → LiveFits said k l (work_at k b)
   fits_at n k up b l live = (let all : NodeFits said k = subst (λ o. IfSome o (NodeFits said)) up (stand.nodes n) in all.each b l live)
 
-  module _ (n : ℕ) (k : NodeState) (up : node_at f n ≡ Some k) (l : Live) (live : live_at k l.me ≡ Some l) (goes : GoesOn k l) (free : (work_at k l.me).going ≡ None) where
+  module _ (n : ℕ) (k : NodeState) (up : node_at f n ≡ Some k) (l : Live) (live : live_at k l.me ≡ Some l) (goes : NeedsNoRollback k l) (free : (work_at k l.me).going ≡ None) where
     abbrev w : Work
     w = work_at k l.me
 

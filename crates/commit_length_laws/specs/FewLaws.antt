@@ -8,7 +8,7 @@ use Rattle.node_rules.specs.Data.{Place}
 use Rattle.net_bag.specs.Net.{first_flying}
 use Rattle.run_rules.specs.Data.{Command, Happening}
 use Rattle.run_rules.specs.Lawful.{History, IsLawfulRun}
-use Rattle.run_claims.specs.Undisturbed.{Commit, IsDelivery, IsCalm, facts_by, branches_by}
+use Rattle.run_claims.specs.Undisturbed.{Commit, IsFirstDelivery, NoneComesIn, facts_by, branches_by}
 
 -- A COMMIT flows: nothing is in flight when it is called, and the turn of the call is whole. From then on messages are
 -- delivered in whole turns, each for the first time, and nothing else happens. No rollback and no question of the recoverer
@@ -16,8 +16,8 @@ use Rattle.run_claims.specs.Undisturbed.{Commit, IsDelivery, IsCalm, facts_by, b
 pub record Flows (places : List Place) (asked : List Command) (trace : List Happening) (c : Commit places asked trace) : Type 0 where
   pub still : first_flying (facts_by places asked c.before).net ≡ None
   pub whole : c.call.cut ≡ false
-  pub delivers : AllByRecursion IsDelivery c.during
-  pub calm : AllByRecursion (IsCalm (branches_by places asked trace c.root)) trace
+  pub delivers : AllByRecursion IsFirstDelivery c.during
+  pub calm : AllByRecursion (NoneComesIn (branches_by places asked trace c.root)) trace
 
 -- In every lawful run such a COMMIT has had at most 2,880 messages delivered.
 abbrev pub DeliveriesAreFew : Type 0

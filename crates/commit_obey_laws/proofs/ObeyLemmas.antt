@@ -21,7 +21,7 @@ use Rattle.node_rules.proofs.StandLemmas.{StandsSo, stands_so, live_so}
 use Rattle.run_rules.specs.Data.{Turn, Happening, Took}
 use Rattle.run_rules.specs.Data.happenings
 use Rattle.run_base_laws.specs.EventLaws.{AtEachEvent, EachEventFrom}
-use Rattle.run_base_laws.specs.EventRows.{RowIs, IsKnown, IsForcedAs, IsDone}
+use Rattle.run_base_laws.specs.EventRows.{RowIs, IsKnown, IsForcedAs, IsGoneForGood}
 use Rattle.run_rules.specs.Facts.{Facts, node_at, facts_of}
 use Rattle.run_rules.specs.BranchRecords.{toward_at}
 use Rattle.run_rules.specs.Lawful.{IsOwed, Comes, History, IsLawfulRun}
@@ -135,7 +135,7 @@ module _ (t : History) (whole : IsLawfulRun t) (hs : List Happening) (u : Turn) 
     no_commit j (inl at) = absurd (cc (at, sealed))
     no_commit j (inr learnt) = absurd (cc (learnt, unlearned))
 
-    not_done : IsDone e b → ⊥
+    not_done : IsGoneForGood e b → ⊥
     not_done (inl rolled) = absurd (cc (rolled, unlearned))
     not_done (inr forgot) = (let knows = ((inv_at t whole hs part).forgets b forgot).0 in no_commit knows.0 knows.1)
 

@@ -12,8 +12,9 @@ pub fn decisions_are_obeyed()
     ensures { DecisionsAreObeyed }
 {}
 
-/// So it is by the book: where a decision comes from toward to a sealed branch of which the book does not have it yet that it
-/// met one, the turn writes that the branch ended with it, or how it met it, where the book has its forced outcome.
+/// The same, said of the book: where a decision comes from the side of the site to a sealed branch, and the book does not
+/// say yet that the branch met one, the turn writes that it ended with this decision; or, where the book has an outcome that
+/// somebody forced, that it met it, and whether the two differ.
 pub fn every_decision_is_obeyed()
     ensures { EveryDecisionIsObeyed }
 {}

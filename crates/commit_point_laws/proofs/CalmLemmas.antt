@@ -27,7 +27,7 @@ use Rattle.run_rules.specs.Trail.{is_prepare}
 use Rattle.run_branch_laws.specs.WalkLaws.{was_sent}
 use Rattle.run_base_laws.proofs.TurnEventLemmas.{all_both}
 use Rattle.commit_laws.specs.DeliveryLaws.{CameInTurn, IsBusy}
-use Rattle.run_claims.specs.Undisturbed.{Commit, Undisturbed, branches_in, IsCalm, IsDelivery, disturbs, is_disturbed}
+use Rattle.run_claims.specs.Undisturbed.{Commit, Undisturbed, branches_in, NoneComesIn, IsFirstDelivery, disturbs, is_disturbed}
 use Rattle.commit_laws.specs.WaitLaws.{AllCame}
 use Rattle.commit_laws.proofs.CameLemmas.{deliveries_came}
 use Rattle.commit_laws.proofs.HeardLemmas.{prepares_are_heard}
@@ -85,7 +85,7 @@ module _ (t : History) (whole : IsLawfulRun t) (c : Commit t.places t.commands t
   pub never_disturbed : (hs : List Happening) (w : Turn) (rest : List Happening) → hs ++ happenings.Turn w ∷ rest ≡ t.trace → (b : Born) → Began bs b → b.root ≡ c.root → (from : BranchId) (kind : Kind) → disturbs kind ≡ true → Came w.input from b.me kind → ⊥
   never_disturbed hs w rest is b began of from kind disturbing came =
       let calm : is_disturbed (branches_in bs c.root) w.input ≡ false
-      = all_at (IsCalm (branches_in bs c.root)) hs (happenings.Turn w) rest (subst (λ xs. AllByRecursion (IsCalm (branches_in bs c.root)) xs) (sym is) u.calm) in
+      = all_at (NoneComesIn (branches_in bs c.root)) hs (happenings.Turn w) rest (subst (λ xs. AllByRecursion (NoneComesIn (branches_in bs c.root)) xs) (sym is) u.calm) in
       let here : (is_among b.me (branches_in bs c.root) && disturbs kind) ≡ false = sym (ap (is_disturbed (branches_in bs c.root)) came.is) ∙ calm in
       let there : (is_among b.me (branches_in bs c.root) && disturbs kind) ≡ true = ap (λ q. q && disturbs kind) (among t whole c u b began of) ∙ disturbing in
       absurd (cc (here, there))
@@ -99,7 +99,7 @@ module _ (t : History) (whole : IsLawfulRun t) (c : Commit t.places t.commands t
     pub uncut : turn.cut ≡ false
     pub comes : ((n : ℕ) × (comment : Option (List ℕ)) × IsCall turn.input n (stmts.Commit comment)) ⊎ ((x : Took) × (turn.took ≡ Some x))
 
-  delivery_plain : (h : Happening) → IsDelivery h → IsPlain h
+  delivery_plain : (h : Happening) → IsFirstDelivery h → IsPlain h
   delivery_plain (happenings.Turn w) is = record { turn = w; is = refl; uncut = is.0; comes = inr (_, is.2) }
   delivery_plain (happenings.Stopped n) is = absurd is
   delivery_plain (happenings.Started n boot) is = absurd is
@@ -115,7 +115,7 @@ module _ (t : History) (whole : IsLawfulRun t) (c : Commit t.places t.commands t
       by [] it = (let here : h ≡ happenings.Turn c.call = cc in record { turn = c.call; is = here; uncut = u.whole; comes = inl (c.session, c.comment, c.asks) })
       by (x ∷ xs) it =
           let later : xs ++ h ∷ rest ≡ c.during = (let both : x ∷ (xs ++ h ∷ rest) ≡ happenings.Turn c.call ∷ c.during = it in cc) in
-          delivery_plain h (all_at IsDelivery xs h rest (subst (λ ys. AllByRecursion IsDelivery ys) (sym later) u.delivers))
+          delivery_plain h (all_at IsFirstDelivery xs h rest (subst (λ ys. AllByRecursion IsFirstDelivery ys) (sym later) u.delivers))
 
   -- ---- messages
 

@@ -28,7 +28,7 @@ use Rattle.tree_laws.specs.LeaveLaws.{LeftSo}
 use Rattle.tree_laws.proofs.FateLemmas.{drops_alone}
 use Rattle.tree_laws.proofs.LeaveLemmas.{was_there}
 use Rattle.tree_laws.proofs.TimeLemmas.{part_on, sent_end}
-use Rattle.commit_laws.specs.WaitLaws.{HasStopped}
+use Rattle.commit_laws.specs.WaitLaws.{NodeHasStopped}
 use Rattle.commit_laws.proofs.ReadyStepLemmas.{one_sent}
 use Rattle.commit_laws.proofs.StopLemmas.{cut_stops, stopped_end}
 use Rattle.commit_point_laws.specs.PointLaws.{is_point, SealedPassOn}
@@ -41,7 +41,7 @@ use Rattle.tree_laws.proofs.AtTurn.{at_turn}
 module _ (t : History) (whole : IsLawfulRun t) (b : BranchId) (c : BranchId) (told : was_sent is_below (said_in (facts_at t)) b c ≡ true) where
   -- it passed CommitPoint on, or its node has stopped
   abbrev Passes : Type 0
-  Passes = (was_sent is_point (said_in (facts_at t)) b c ≡ true) ⊎ HasStopped (facts_at t) b
+  Passes = (was_sent is_point (said_in (facts_at t)) b c ≡ true) ⊎ NodeHasStopped (facts_at t) b
 
   module _ (hs : List Happening) (u : Turn) (rest : List Happening) (is : hs ++ happenings.Turn u ∷ rest ≡ t.trace) (none : exit (e_at t hs) b ≡ None)
       (z : Exit) (other : z ≢ Dropped) (left : exit (events_after t.places t.commands (f_at t hs) (happenings.Turn u) (e_at t hs)) b ≡ Some z) where

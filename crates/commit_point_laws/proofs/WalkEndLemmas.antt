@@ -21,7 +21,7 @@ use Rattle.tree_laws.proofs.ForestLemmas.{told_sent}
 use Rattle.tree_laws.proofs.ForestRunLemmas.{run_known, runs_have_forests}
 use Rattle.commit_laws.specs.StillLaws.{DroppedNone}
 use Rattle.run_claims.specs.Undisturbed.{Commit, Undisturbed}
-use Rattle.commit_laws.specs.WaitLaws.{HasStopped, AllCame}
+use Rattle.commit_laws.specs.WaitLaws.{NodeHasStopped, AllCame}
 use Rattle.commit_laws.proofs.RootLemmas.{undisturbed_roots_leave}
 use Rattle.commit_point_laws.specs.EndLaws.{UndisturbedTowardsLeave, WalkEnd, Has_decided, Has_no_changes, UndisturbedWalksEnd}
 use Rattle.commit_point_laws.specs.PointLaws.{is_point, IsNotLive}
@@ -99,8 +99,8 @@ module _ (t : History) (whole : IsLawfulRun t) (c : Commit t.places t.commands t
       | inr told ↦ passed told (sealed_pass_on t whole b n sealed y2 told)
     ]
       where
-        passed : was_sent is_below said b y2 ≡ true → (was_sent is_point said b y2 ≡ true) ⊎ HasStopped f b → ⊥
-        passed told (inr stopped) = all.up mine.born mine.began mine_of (subst (HasStopped f) (sym mine.is_me) stopped)
+        passed : was_sent is_below said b y2 ≡ true → (was_sent is_point said b y2 ≡ true) ⊎ NodeHasStopped f b → ⊥
+        passed told (inr stopped) = all.up mine.born mine.began mine_of (subst (NodeHasStopped f) (sym mine.is_me) stopped)
         passed told (inl sent) =
             let gone : IsNotLive f y2 = point_heard t whole c u all mine.born mine.began mine_of y2 (subst (λ j. was_sent is_point said j y2 ≡ true) (sym mine.is_me) sent) in
             let there : node_at f y2.node ≡ Some w.kept = subst (λ j. node_at f j.node ≡ Some w.kept) its_own.is_me w.up in

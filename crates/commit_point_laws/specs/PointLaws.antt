@@ -17,7 +17,7 @@ use Rattle.run_base_laws.specs.InTurnLaws.{said_in}
 use Rattle.run_rules.specs.Lawful.{History, IsLawfulRun, facts_at}
 use Rattle.run_base_laws.specs.RunEvents.{events_of}
 use Rattle.run_branch_laws.specs.WalkLaws.{is_below, was_sent}
-use Rattle.commit_laws.specs.WaitLaws.{HasStopped}
+use Rattle.commit_laws.specs.WaitLaws.{NodeHasStopped}
 
 -- whether a message is CommitPoint
 abbrev pub is_point : Kind → Bool
@@ -56,7 +56,7 @@ PointsAreHeard = (t : History) → IsLawfulRun t → AllByRecursion (λ x. x.fat
 -- stopped since.
 abbrev pub SealedPassOn : Type 0
 SealedPassOn = (t : History) → IsLawfulRun t → (b : BranchId) (n : ℕ) → exit (events_of t) b ≡ Some (Sealed n) → (c : BranchId) → was_sent is_below (said_in (facts_at t)) b c ≡ true
-    → (was_sent is_point (said_in (facts_at t)) b c ≡ true) ⊎ HasStopped (facts_at t) b
+    → (was_sent is_point (said_in (facts_at t)) b c ≡ true) ⊎ NodeHasStopped (facts_at t) b
 
 -- In every lawful run a branch that is gone without changes told no child that the walk comes there.
 abbrev pub QuietTellNone : Type 0

@@ -35,7 +35,7 @@ use Rattle.tree_laws.proofs.ForestRunLemmas.{run_known}
 use Rattle.tree_laws.proofs.PrefixLemmas.{f_at, e_at}
 use Rattle.tree_laws.proofs.HeardLemmas.{left_were_asked}
 use Rattle.tree_laws.proofs.TimeLemmas.{Part, part_of, part_lawful, rest_lawful, born_end, events_join}
-use Rattle.run_claims.specs.Undisturbed.{Commit, IsDelivery}
+use Rattle.run_claims.specs.Undisturbed.{Commit, IsFirstDelivery}
 use Rattle.commit_spread_laws.proofs.FirstLemmas.{commits_come_first}
 use Rattle.commit_spread_laws.specs.BeforeLaws.{NoneSealedBefore, NoneForced}
 use Rattle.tree_laws.proofs.MoreLemmas.{inv_at}
@@ -162,17 +162,17 @@ module _ (places : List Place) (asked : List Command) (b : BranchId) where
       let wrote : IfSome u.wrote IsUnforced = of_wrote p may.0 u (serves places f u may.0 may.1) (λ w. IfSome w IsUnforced) tt (unforced_on p u.input calm (serves places f u may.0 may.1).step) in
       forced_same b (λ x later. later_forced b x later) (turn_added f (facts_after places asked f (happenings.Turn u)) u e) ∙ wrote_force u.node e b u.wrote wrote
 
-  delivered_forces : (f : Facts) (h : Happening) (e : List Event) → MayHappen places asked f h → IsDelivery h → forced (events_after places asked f h e) b ≡ forced e b
+  delivered_forces : (f : Facts) (h : Happening) (e : List Event) → MayHappen places asked f h → IsFirstDelivery h → forced (events_after places asked f h e) b ≡ forced e b
   delivered_forces f (happenings.Turn u) e may is = turn_forces f u e may (delivery_calm f may.0 u.node u.input u.took may.1.comes _ is.2)
   delivered_forces f _ e may is = absurd is
 
-  deliveries_force : (f : Facts) (hs : List Happening) (e : List Event) → IsLawful places asked f hs → AllByRecursion IsDelivery hs → forced (events_from places asked f hs e) b ≡ forced e b
+  deliveries_force : (f : Facts) (hs : List Happening) (e : List Event) → IsLawful places asked f hs → AllByRecursion IsFirstDelivery hs → forced (events_from places asked f hs e) b ≡ forced e b
   unfolding events_from IsLawful
   deliveries_force f [] e may all = refl
   deliveries_force f (h ∷ hs) e may all = deliveries_force (facts_after places asked f h) hs (events_after places asked f h e) may.1 all.1 ∙ delivered_forces f h e may.0 all.0
 
   -- a COMMIT, and deliveries
-  commit_forces : (f : Facts) (u : Turn) (hs : List Happening) (e : List Event) (n : ℕ) (comment : Option (List ℕ)) → IsCall u.input n (stmts.Commit comment) → IsLawful places asked f (happenings.Turn u ∷ hs) → AllByRecursion IsDelivery hs
+  commit_forces : (f : Facts) (u : Turn) (hs : List Happening) (e : List Event) (n : ℕ) (comment : Option (List ℕ)) → IsCall u.input n (stmts.Commit comment) → IsLawful places asked f (happenings.Turn u ∷ hs) → AllByRecursion IsFirstDelivery hs
       → forced (events_from places asked f (happenings.Turn u ∷ hs) e) b ≡ forced e b
   unfolding events_from IsLawful
   commit_forces f u hs e n comment asks lawful all =

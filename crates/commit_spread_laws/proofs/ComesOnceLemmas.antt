@@ -25,7 +25,7 @@ use Rattle.run_base_laws.proofs.SaidPostLemmas.{prepares_are_said}
 use Rattle.tree_laws.proofs.PrefixLemmas.{so_far, f_at, one_on, facts_join}
 use Rattle.tree_laws.proofs.TimeLemmas.{Part, part_of, part_lawful, may_of, sent_end}
 use Rattle.commit_laws.specs.OnceLaws.{count_sent}
-use Rattle.run_claims.specs.Undisturbed.{Commit, Undisturbed, IsDelivery}
+use Rattle.run_claims.specs.Undisturbed.{Commit, Undisturbed, IsFirstDelivery}
 use Rattle.commit_laws.proofs.OnceLemmas.{prepares_are_sent_once}
 use Rattle.commit_spread_laws.specs.GotLaws.{GotPrepare}
 use Rattle.commit_spread_laws.proofs.DeliveredLemmas.{stays_delivered, turn_delivers}
@@ -145,8 +145,8 @@ module _ (t : History) (whole : IsLawfulRun t) (c : Commit t.places t.commands t
         absurd (cc (input, call, message))
 
     -- it comes once
-    delivery : IsDelivery (happenings.Turn v)
-    delivery = subst IsDelivery turn (elim (split_at IsDelivery c.before (happenings.Turn c.call) c.during hs h rest (is ∙ sym c.is) u.delivers) [
+    delivery : IsFirstDelivery (happenings.Turn v)
+    delivery = subst IsFirstDelivery turn (elim (split_at IsFirstDelivery c.before (happenings.Turn c.call) c.during hs h rest (is ∙ sym c.is) u.delivers) [
       | inl old ↦ absurd (asked_before old.0 old.1)
       | inr (inl call) ↦ absurd (is_no_call call)
       | inr (inr so) ↦ so

@@ -20,7 +20,7 @@ use Rattle.node_rules.specs.NodeState.{NodeState, TurnDraft, live_id, kept_row_i
 use Rattle.node_rules.specs.Commit.{next_on_decision, decision_at, first_decision, next_turn}
 use Rattle.node_rules.specs.Turn.{BranchStatus, Is_live, Is_kept, Is_gone, turn_of, heard, draft_of, committed_turn, kind_turn, status_of}
 use Rattle.node_rules.proofs.StandLemmas.{StandsSo, stands_so, live_so}
-use Rattle.run_base_laws.specs.EventRows.{RowIs, IsKnown, IsForcedAs, IsDone}
+use Rattle.run_base_laws.specs.EventRows.{RowIs, IsKnown, IsForcedAs, IsGoneForGood}
 use Rattle.run_rules.specs.Facts.{node_at, facts_after}
 use Rattle.run_rules.specs.Lawful.{IsOwed, MayHappen, History, IsLawfulRun, facts_at}
 use Rattle.run_base_laws.specs.RunEvents.{with_event, wrote_event, with_record, events_after, events_of}
@@ -36,7 +36,7 @@ use Rattle.tree_laws.proofs.AckForestLemmas.{gone_before}
 use Rattle.tree_laws.proofs.PrefixLemmas.{so_far, e_at, more_on}
 use Rattle.tree_laws.proofs.TimeLemmas.{Part, part_on, part_lawful, may_of, exit_end}
 use Rattle.commit_laws.specs.DeliveryLaws.{CameInTurn}
-use Rattle.commit_laws.specs.WaitLaws.{HasStopped}
+use Rattle.commit_laws.specs.WaitLaws.{NodeHasStopped}
 use Rattle.commit_laws.proofs.CameLemmas.{deliveries_came}
 use Rattle.commit_laws.proofs.StopLemmas.{stopped_end, cut_stops}
 use Rattle.commit_spread_laws.specs.HearLaws.{HasHeard, CommitsAreHeard, RowHasHeard, RowsHaveHeard}
@@ -78,7 +78,7 @@ module _ (t : History) (whole : IsLawfulRun t) (m : Msg) (came : CameInTurn t.tr
   open at_turn t whole came.before came.turn came.later came.is use {h, s as s0, f, e, part, part_after as part_z, lawful, p as place, after}
 
   abbrev Heard : Type 0
-  Heard = (learned (events_of t) b ≡ Some (decisions.Commit n)) ⊎ HasStopped (facts_at t) b
+  Heard = (learned (events_of t) b ≡ Some (decisions.Commit n)) ⊎ NodeHasStopped (facts_at t) b
 
   pub may : MayHappen t.places t.commands f h
   may = may_of t whole hs h came.later came.is
@@ -155,7 +155,7 @@ module _ (t : History) (whole : IsLawfulRun t) (m : Msg) (came : CameInTurn t.tr
   gone_heard : status_of k0 b ≡ Is_gone → Heard
   gone_heard gone = by (gone_are_done s0 lawful b k up (gone_before k input b gone) was_sealed.0 was_sealed.1)
     where
-      by : IsDone e b → Heard
+      by : IsGoneForGood e b → Heard
       by (inl rolled) = learned_is decisions.Rollback rolled
       by (inr forgot) = (let knows = ((inv_at t whole hs part).forgets b forgot).0 in knows_is b knows.0 refl knows.1)
 
@@ -246,7 +246,7 @@ row_heard t whole from to (kinds.Committed n) heard_so =
     next_of s me toward (inl way) = (let both : Some ((forest_of t).toward s.me) ≡ Some from = sym way.0 ∙ toward in let one : (forest_of t).toward s.me ≡ from = cc in ap (forest_of t).toward (sym me) ∙ one)
     next_of s me toward (inr none) = (let no = none.0 in absurd (cc (no, toward)))
 
-    by : (k : NodeState) (s : KeptRow) → s.me ≡ to → s.toward ≡ Some from → RowFits (forest_of t) s.me s.toward → (o : Option Decision) → s.decision ≡ o → IsKnown (events_of t) s o → (s.decision ≢ None) ⊎ HasStopped (facts_at t) to
+    by : (k : NodeState) (s : KeptRow) → s.me ≡ to → s.toward ≡ Some from → RowFits (forest_of t) s.me s.toward → (o : Option Decision) → s.decision ≡ o → IsKnown (events_of t) s o → (s.decision ≢ None) ⊎ NodeHasStopped (facts_at t) to
     by k s me toward fits (Some o) some known = inl (λ none. absurd (cc (some, none)))
     by k s me toward fits None none known = elim (heard_so (next_of s me toward fits) s.scn (subst (λ i. exit (events_of t) i ≡ Some (Sealed s.scn)) me known.0)) [
       | inl learnt ↦ (let unlearnt : learned (events_of t) to ≡ None = subst (λ i. learned (events_of t) i ≡ None) me known.1 in absurd (cc (learnt, unlearnt)))

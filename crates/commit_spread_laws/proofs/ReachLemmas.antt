@@ -22,7 +22,7 @@ use Rattle.tree_laws.specs.Forests.{forest_of}
 use Rattle.tree_laws.proofs.ForestLemmas as trees
 use Rattle.tree_laws.proofs.ForestRunLemmas.{run_known}
 use Rattle.tree_laws.proofs.HeardLemmas.{left_were_asked}
-use Rattle.commit_laws.specs.WaitLaws.{HasStopped}
+use Rattle.commit_laws.specs.WaitLaws.{NodeHasStopped}
 use Rattle.commit_laws.proofs.NetLemmas.{numbered_all}
 use Rattle.commit_laws.proofs.SentLemmas.{IsSent, sent_found}
 use Rattle.commit_spread_laws.specs.HearLaws.{HasHeard}
@@ -60,7 +60,7 @@ module _ (t : History) (whole : IsLawfulRun t) (root : BranchId) (all : HasAllCo
   -- from one that knows it, it comes to a sealed one beyond
   comes_on : (b y : BranchId) → Beyond p b y → p.root y ≡ root → p.root b ≡ root → Knows e y n → (m : ℕ) → exit e b ≡ Some (Sealed m) → learned e b ≡ Some (decisions.Commit n)
   comes_on b y edge of_y of_b knows m sealed = elim (commits_are_told t whole y b n knows edge (λ quiet. absurd (cc (quiet, sealed)))) [
-    | inr stopped ↦ (let born = born_of y knows of_y in absurd (all.up born.0 born.1 born.3 (subst (HasStopped (facts_at t)) (sym born.2) stopped)))
+    | inr stopped ↦ (let born = born_of y knows of_y in absurd (all.up born.0 born.1 born.3 (subst (NodeHasStopped (facts_at t)) (sym born.2) stopped)))
     | inl sent ↦ came (sent_found (is_commit_at n) y b (facts_at t).net.packets sent)
   ]
     where
@@ -74,7 +74,7 @@ module _ (t : History) (whole : IsLawfulRun t) (root : BranchId) (all : HasAllCo
           let here : HasHeard t y b (kinds.Committed n) = heard_as t y b n x.packet.msg.kind x.is_kind (subst (λ i. HasHeard t y i x.packet.msg.kind) x.is_to (subst (λ i. HasHeard t i x.packet.msg.to x.packet.msg.kind) x.is_from so)) in
           elim (here edge.next m sealed) [
             | inl learnt ↦ learnt
-            | inr stopped ↦ (let below = sealed_born in absurd (all.up below.0 below.1 below.3 (subst (HasStopped (facts_at t)) (sym below.2) stopped)))
+            | inr stopped ↦ (let below = sealed_born in absurd (all.up below.0 below.1 below.3 (subst (NodeHasStopped (facts_at t)) (sym below.2) stopped)))
           ]
         where
           sealed_born : (z : Born) × Began bs z × (z.me ≡ b) × (z.root ≡ root)

@@ -19,7 +19,7 @@ use Rattle.tree_laws.proofs.PrefixLemmas.{f_at, one_on, more_on}
 use Rattle.tree_laws.proofs.TimeLemmas.{part_on, exit_on, keep_on}
 use Rattle.commit_laws.specs.StillLaws.{DroppedNone, AbortsNone}
 use Rattle.run_claims.specs.Undisturbed.{Commit, Undisturbed}
-use Rattle.commit_laws.specs.WaitLaws.{HasStopped}
+use Rattle.commit_laws.specs.WaitLaws.{NodeHasStopped}
 use Rattle.commit_laws.proofs.RootLemmas.{undisturbed_roots_leave}
 use Rattle.commit_laws.proofs.StillLemmas.{never_stopped, undisturbed_collects_end}
 use Rattle.commit_laws.proofs.StopLemmas.{stop_stops, stopped_end}
@@ -36,7 +36,7 @@ module _ (t : History) (whole : IsLawfulRun t) (c : Commit t.places t.commands t
     open at_happening t whole hs h rest is use {f, e, after, part_after as part_z, may as may_h}
 
     -- a branch that one drops
-    drop_stops : (y : Happening) → h ≡ y → MayHappen t.places t.commands f y → (x : Born) → Began bs x → x.root ≡ c.root → x.parent ≢ None → exit e x.me ≡ None → exit (events_after t.places t.commands f y e) x.me ≡ Some Dropped → HasStopped (f_at t after) x.me
+    drop_stops : (y : Happening) → h ≡ y → MayHappen t.places t.commands f y → (x : Born) → Began bs x → x.root ≡ c.root → x.parent ≢ None → exit e x.me ≡ None → exit (events_after t.places t.commands f y e) x.me ≡ Some Dropped → NodeHasStopped (f_at t after) x.me
     drop_stops (happenings.Turn v) turn may x began of below none dropped = turn_stops t whole c u hs h rest is now v turn may.0 may.1 x began of below none dropped
     drop_stops (happenings.Stopped m) it may x began of below none dropped = elim (exit_made x.me Dropped (stop_added f (facts_after t.places t.commands f (happenings.Stopped m)) m e) dropped) [
       | inl old ↦ absurd (cc (old, none))
@@ -56,7 +56,7 @@ module _ (t : History) (whole : IsLawfulRun t) (c : Commit t.places t.commands t
           let both : Some old.0 ≡ Some Dropped = sym later ∙ follows in
           let it : old.0 ≡ Dropped = cc in
           absurd (now.0 x began of below (subst (λ y. exit e x.me ≡ Some y) it old.1)))
-      | inr none ↦ (let stops : HasStopped (f_at t after) x.me = drop_stops h refl may_h x began of below none follows in
+      | inr none ↦ (let stops : NodeHasStopped (f_at t after) x.me = drop_stops h refl may_h x began of below none follows in
           never_stopped t whole c u x began of (stopped_end t whole x.me after part_z.rest part_z.is (λ gone. absurd (cc (gone, dropped))) stops))
     ]
       where

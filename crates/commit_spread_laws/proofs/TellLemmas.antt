@@ -39,7 +39,7 @@ use Rattle.tree_laws.proofs.PrefixLemmas.{so_far, f_at, e_at, one_on, more_on}
 use Rattle.tree_laws.proofs.SettleRunLemmas.{records_heard}
 use Rattle.tree_laws.proofs.SiteLemmas.{later_undecided}
 use Rattle.tree_laws.proofs.TimeLemmas.{may_of, each_at, exit_end, keep_on}
-use Rattle.commit_laws.specs.WaitLaws.{HasStopped}
+use Rattle.commit_laws.specs.WaitLaws.{NodeHasStopped}
 use Rattle.commit_laws.proofs.StopLemmas.{stopped_on, cut_stops}
 use Rattle.commit_spread_laws.specs.TellLaws.{is_commit_at, CommitsAreTold}
 use Rattle.tree_laws.proofs.FitRowLemmas.{RowFits, rows_fit}
@@ -127,7 +127,7 @@ module _ (t : History) (whole : IsLawfulRun t) (b x : BranchId) (edge : Beyond (
 
   -- it told the commit, or its node has stopped
   abbrev Told : ℕ → List Happening → Type 0
-  Told n hs = (was_sent (is_commit_at n) (said_in (f_at t hs)) b x ≡ true) ⊎ HasStopped (f_at t hs) b
+  Told n hs = (was_sent (is_commit_at n) (said_in (f_at t hs)) b x ≡ true) ⊎ NodeHasStopped (f_at t hs) b
 
   abbrev ReportsAll : List Happening → Type 0
   ReportsAll hs = (n : ℕ) → Knows (e_at t hs) b n → Told n hs

@@ -35,8 +35,8 @@ use Rattle.tree_laws.proofs.LeaveLemmas.{messages_exit}
 use Rattle.tree_laws.proofs.TimeLemmas.{fact_at, born_end}
 use Rattle.run_branch_laws.proofs.AbortStepLemmas.{Was_gone, Hears_one, AbortSo, aborts_on}
 use Rattle.commit_laws.specs.LeaveLaws.{Reason, Seals, Decides, Says_read_only, Gets_rollback, Is_rolled_back, Is_asked, Hears_abort, TurnsHaveReasons}
-use Rattle.run_claims.specs.Undisturbed.{Commit, Undisturbed, branches_in, disturbs, is_disturbed, IsCalm}
-use Rattle.commit_laws.specs.WaitLaws.{HasStopped}
+use Rattle.run_claims.specs.Undisturbed.{Commit, Undisturbed, branches_in, disturbs, is_disturbed, NoneComesIn}
+use Rattle.commit_laws.specs.WaitLaws.{NodeHasStopped}
 use Rattle.commit_laws.proofs.ReasonRunLemmas.{leavers_have_reasons}
 use Rattle.commit_laws.proofs.StillLemmas.{among}
 use Rattle.commit_laws.proofs.StopLemmas.{cut_stops}
@@ -153,8 +153,8 @@ module _ (t : History) (whole : IsLawfulRun t) (c : Commit t.places t.commands t
         -- neither a rollback nor a question came to it
         undisturbed : (from : BranchId) (kind : Kind) → disturbs kind ≡ true → Came v.input from x.me kind → ⊥
         undisturbed from kind so came =
-            let calm : IsCalm (branches_in bs c.root) h = mid_all (IsCalm (branches_in bs c.root)) hs h rest (subst (AllByRecursion (IsCalm (branches_in bs c.root))) (sym is) u.calm) in
-            let calm_turn : is_disturbed (branches_in bs c.root) v.input ≡ false = subst (IsCalm (branches_in bs c.root)) turn calm in
+            let calm : NoneComesIn (branches_in bs c.root) h = mid_all (NoneComesIn (branches_in bs c.root)) hs h rest (subst (AllByRecursion (NoneComesIn (branches_in bs c.root))) (sym is) u.calm) in
+            let calm_turn : is_disturbed (branches_in bs c.root) v.input ≡ false = subst (NoneComesIn (branches_in bs c.root)) turn calm in
             let calm_message : (is_among x.me (branches_in bs c.root) && disturbs kind) ≡ false = subst (λ i. is_disturbed (branches_in bs c.root) i ≡ false) came.is calm_turn in
             both_not (is_among x.me (branches_in bs c.root)) (disturbs kind) (among t whole c u x began of) so calm_message
 
@@ -198,7 +198,7 @@ module _ (t : History) (whole : IsLawfulRun t) (c : Commit t.places t.commands t
             let parent : l.parent ≡ x.parent = sym placed.is_parent ∙ ap (λ (y : Born). y.parent) it in
             no_reason l.parent wrote sent (reasons k may.up x.me l live (λ root. below (sym parent ∙ root)) (none_found o.after.lives x.me gone))
 
-        left_so : (cut : Bool) → v.cut ≡ cut → IsOwed p k v.input v.wrote v.sent cut → is_among x.me (lives_at (node_at f v.node)) ≡ true → is_among x.me (lives_at (node_at g0 v.node)) ≡ false → HasStopped (f_at t after) x.me
+        left_so : (cut : Bool) → v.cut ≡ cut → IsOwed p k v.input v.wrote v.sent cut → is_among x.me (lives_at (node_at f v.node)) ≡ true → is_among x.me (lives_at (node_at g0 v.node)) ≡ false → NodeHasStopped (f_at t after) x.me
         left_so true cut owed was gone =
             let own : x.me.node ≡ v.node = among_node v.node x.me (node_at f v.node) refl was in
             cut_stops t whole x.me hs h rest is v turn k may.up (sym own) cut
@@ -207,7 +207,7 @@ module _ (t : History) (whole : IsLawfulRun t) (c : Commit t.places t.commands t
             let l = among_found k.lives x.me (subst (λ y. is_among x.me (lives_at y) ≡ true) may.up was) in
             absurd (whole_not l.0 l.1 (subst (λ y. is_among x.me (lives_at y) ≡ false) here gone) owed.0 owed.1)
 
-        pub turn_stops : HasStopped (f_at t after) x.me
+        pub turn_stops : NodeHasStopped (f_at t after) x.me
         turn_stops = elim (exit_made x.me Dropped (turn_added f g0 v e) dropped) [
           | inl old ↦ (let older : exit e x.me ≡ Some Dropped = wrote_dropped v.node e v.wrote x.me old in absurd (cc (older, none)))
           | inr made ↦ (let so = later_exit x.me made.0 Dropped made.1 made.2 in left_so v.cut refl may.owed so.0 so.1)

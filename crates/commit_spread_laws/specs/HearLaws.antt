@@ -13,12 +13,12 @@ use Rattle.run_rules.specs.Facts.{node_at}
 use Rattle.run_rules.specs.Lawful.{History, IsLawfulRun, facts_at}
 use Rattle.run_base_laws.specs.RunEvents.{events_of}
 use Rattle.tree_laws.specs.Forests.{forest_of}
-use Rattle.commit_laws.specs.WaitLaws.{HasStopped}
+use Rattle.commit_laws.specs.WaitLaws.{NodeHasStopped}
 
 -- a sealed branch to which toward told a commit has learned it, or its node has stopped since it began
 abbrev pub HasHeard : History → BranchId → BranchId → Kind → Type 0
 HasHeard t from to (kinds.Committed n) = (forest_of t).toward to ≡ from → (m : ℕ) → exit (events_of t) to ≡ Some (Sealed m)
-    → (learned (events_of t) to ≡ Some (decisions.Commit n)) ⊎ HasStopped (facts_at t) to
+    → (learned (events_of t) to ≡ Some (decisions.Commit n)) ⊎ NodeHasStopped (facts_at t) to
 HasHeard t from to _ = Unit {0}
 
 -- In every lawful run it is so of each Committed that was delivered.
@@ -28,7 +28,7 @@ CommitsAreHeard = (t : History) → IsLawfulRun t → AllByRecursion (λ x. x.fa
 -- a branch whose row has the sender as toward knows its decision by that row, or its node has stopped since it began
 abbrev pub RowHasHeard : History → BranchId → BranchId → Kind → Type 0
 RowHasHeard t from to (kinds.Committed n) = (k : NodeState) (s : KeptRow) → node_at (facts_at t) to.node ≡ Some k → kept_row_at k to ≡ Some s → s.toward ≡ Some from
-    → (s.decision ≢ None) ⊎ HasStopped (facts_at t) to
+    → (s.decision ≢ None) ⊎ NodeHasStopped (facts_at t) to
 RowHasHeard t from to _ = Unit {0}
 
 -- So in every lawful run it is so of each row.

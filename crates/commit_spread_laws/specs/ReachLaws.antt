@@ -11,12 +11,12 @@ use Rattle.run_rules.specs.Data.fates
 use Rattle.run_rules.specs.Lawful.{History, IsLawfulRun, facts_at}
 use Rattle.run_base_laws.specs.RunEvents.{events_of}
 use Rattle.tree_laws.specs.Forests.{forest_of}
-use Rattle.commit_laws.specs.WaitLaws.{HasStopped}
+use Rattle.commit_laws.specs.WaitLaws.{NodeHasStopped}
 
 -- All messages of a transaction came, and no node of its branches has stopped since they began.
 pub record HasAllCome (t : History) (root : BranchId) : Type 0 where
   pub messages : AllByRecursion (λ x. (b : Born) → Began (births_of t) b → b.me ≡ x.msg.from → b.root ≡ root → x.fate ≡ fates.Delivered) (facts_at t).net.packets
-  pub up : (b : Born) → Began (births_of t) b → b.root ≡ root → HasStopped (facts_at t) b.me → ⊥
+  pub up : (b : Born) → Began (births_of t) b → b.root ≡ root → NodeHasStopped (facts_at t) b.me → ⊥
 
 -- In every lawful run each sealed branch of such a transaction has learned the commit that its site decided.
 abbrev pub CommitsReachAll : Type 0

@@ -9,7 +9,7 @@ use Rattle.run_rules.specs.Lawful.{History, IsLawfulRun, facts_at}
 use Rattle.run_base_laws.specs.RunEvents.{events_of}
 use Rattle.run_branch_laws.specs.WalkLaws.{was_sent}
 use Rattle.tree_laws.specs.Forests.{forest_of}
-use Rattle.commit_laws.specs.WaitLaws.{HasStopped}
+use Rattle.commit_laws.specs.WaitLaws.{NodeHasStopped}
 
 -- whether a message tells the commit of this SCN
 abbrev pub is_commit_at : ℕ → Kind → Bool
@@ -20,4 +20,4 @@ is_commit_at n _ = false
 -- without changes, or its node has stopped since.
 abbrev pub CommitsAreTold : Type 0
 CommitsAreTold = (t : History) → IsLawfulRun t → (b x : BranchId) (n : ℕ) → Knows (events_of t) b n → Beyond (forest_of t) x b → exit (events_of t) x ≢ Some Quiet
-    → (was_sent (is_commit_at n) (said_in (facts_at t)) b x ≡ true) ⊎ HasStopped (facts_at t) b
+    → (was_sent (is_commit_at n) (said_in (facts_at t)) b x ≡ true) ⊎ NodeHasStopped (facts_at t) b

@@ -17,7 +17,7 @@ use Rattle.node_disk.specs.declared.incoming.Incoming.{Incoming}
 use Rattle.node_disk.specs.declared.incoming.Incoming.TheVariants as comings
 use Rattle.node_disk.specs.declared.node.Node.{Node}
 use Rattle.node_disk.proofs.NeedLemmas.{all_mailed, room_of}
-use Rattle.lone_node.specs.Played.{low_limit, IsPlayed, is_prepare, IsCalled, IsComing, is_commit, commits, is_working_phase, works, has_parent, IsWorking, HasParent, Meets, bytes_of, images_of, IsKeptWithin, IsAlone}
+use Rattle.lone_node.specs.Played.{low_limit, IsPlayed, is_prepare, IsCalled, IsComing, is_commit, commits, is_working_phase, works, has_parent, IsWorking, HasParent, MeetsLives, bytes_of, images_of, IsKeptWithin, IsAlone}
 use Rattle.node_rules.specs.Data.{Stmt, BranchId, Phase, Live, Msg, Place, Input}
 use Rattle.node_rules.specs.Data.inputs
 use Rattle.node_rules.specs.Data.phases
@@ -147,7 +147,7 @@ within_given n bound few within = omega (arith, few, within)
 -- ---- turns
 
 module _ (bound : ℕ) (p : Place) (k : NodeState) (asks : Bool) (incoming : Incoming) (input : Input) (kept : IsKeptWithin bound p k) (few : bound < 1000000) (coming : IsComing asks incoming)
-    (meets : Meets asks incoming k.lives) (read : IsReadAs incoming input) where
+    (meets : MeetsLives asks incoming k.lives) (read : IsReadAs incoming input) where
   is : IsPlayedInput asks input
   is = input_of asks incoming input coming read
 
@@ -204,17 +204,17 @@ is_working phases.Ready is = absurd cc
 
 -- ---- of a node
 
-pub takes : (bound : ℕ) (asks : Bool) (node : Node DiskState) (incoming : Incoming) → IsAlone bound node → bound < 1000000 → IsComing asks incoming → Meets asks incoming (kept_of node).lives
+pub takes : (bound : ℕ) (asks : Bool) (node : Node DiskState) (incoming : Incoming) → IsAlone bound node → bound < 1000000 → IsComing asks incoming → MeetsLives asks incoming (kept_of node).lives
     → (input : Input) → IsReadAs incoming input → MayTake (place_of node) (kept_of node) input
 takes bound asks node incoming alone few coming meets input read = can_take bound (place_of node) (kept_of node) asks incoming input alone.kept few coming meets read
 
 pub spellable : TurnsKeepBytes → RecordsHaveBytes → (bound : ℕ) (asks : Bool) (node : Node DiskState) (incoming : Incoming) → IsAlone bound node → bound < 1000000 → IsComing asks incoming
-    → Meets asks incoming (kept_of node).lives → (input : Input) → IsReadAs incoming input → IsSpellable (turn_at node input)
+    → MeetsLives asks incoming (kept_of node).lives → (input : Input) → IsReadAs incoming input → IsSpellable (turn_at node input)
 spellable bytes_law records_law bound asks node incoming alone few coming meets input read =
     has_spelling bound (place_of node) (kept_of node) asks incoming input alone.kept few coming meets read bytes_law records_law
 
 pub still_alone : TurnsKeepBytes → NumbersStayWithin → (bound : ℕ) (asks : Bool) (before after : Node DiskState) (incoming : Incoming) (e : DurableTurn) → IsAlone bound before → bound < 1000000
-    → IsComing asks incoming → Meets asks incoming (kept_of before).lives → IsReadAs incoming e.input → Tells (turn_at before e.input) (kept_of after) e → IsRunning bytes_of images_of after
+    → IsComing asks incoming → MeetsLives asks incoming (kept_of before).lives → IsReadAs incoming e.input → Tells (turn_at before e.input) (kept_of after) e → IsRunning bytes_of images_of after
     → IsReady (place_of after) (kept_of after) → place_of after ≡ place_of before → CanBeStarted bytes_of images_of (disk_of after) → IsAlone (bound + 1) after
 still_alone bytes_law numbers_law bound asks before after incoming e alone few coming meets read tells running ready place starts =
     let p : Place = place_of before in

@@ -99,7 +99,7 @@ abbrev pub HasParent : Live → Type 0
 HasParent l = IsTrue (is_some l.parent)
 
 -- COMMIT meets branches that work, and Prepare meets branches with a parent.
-pub record Meets (asks : Bool) (incoming : Incoming) (lives : List Live) : Type 0 where
+pub record MeetsLives (asks : Bool) (incoming : Incoming) (lives : List Live) : Type 0 where
   pub commit : commits incoming ≡ true → AllByRecursion IsWorking lives
   pub prepare : asks ≡ true → AllByRecursion HasParent lives
 

@@ -3,7 +3,7 @@ ghost use Rattle.std.specs.Prelude.{◌≡◌, ◌<◌, ◌+◌, true, OnOk};
 ghost use Rattle.std.specs.List.{AllByRecursion};
 ghost use Rattle.node_disk.specs.OnDisk.{disk_of, kept_of};
 ghost use Rattle.node_disk.specs.Starts.{CanBeStarted};
-ghost use Rattle.lone_node.specs.Played.{commits as commits_by, works as works_by, IsWorking, HasParent, IsComing, Meets, bytes_of, images_of, IsAlone};
+ghost use Rattle.lone_node.specs.Played.{commits as commits_by, works as works_by, IsWorking, HasParent, IsComing, MeetsLives, bytes_of, images_of, IsAlone};
 
 use crate::coming::{Comes, incoming};
 use block_disk::MemDisk;
@@ -56,7 +56,7 @@ fn all_have_parents(lives: &[Live]) -> bool
 
 /// Whether live branches may meet this.
 fn may_meet(lives: &[Live], incoming: &Incoming, asks: bool) -> bool
-    ensures { result ≡ true → Meets asks incoming.now lives.now }
+    ensures { result ≡ true → MeetsLives asks incoming.now lives.now }
 {
     (!commits(incoming) || all_work(lives)) && (!asks || all_have_parents(lives))
 }
@@ -64,7 +64,7 @@ fn may_meet(lives: &[Live], incoming: &Incoming, asks: bool) -> bool
 /// Whether a node with these live branches, whose numbers are within this bound, may take this.
 fn may_take(bound: u64, lives: &[Live], incoming: &Incoming, asks: bool) -> bool
     ensures few { result ≡ true → bound < 1000000 }
-    ensures meets { result ≡ true → Meets asks incoming.now lives.now }
+    ensures meets { result ≡ true → MeetsLives asks incoming.now lives.now }
 {
     bound < TURN_LIMIT && may_meet(lives, incoming, asks)
 }
@@ -93,7 +93,7 @@ fn turn(
     requires alone { IsAlone bound node.old }
     requires few { bound < 1000000 }
     requires coming { IsComing asks incoming }
-    requires meets { Meets asks incoming (kept_of node.old).lives }
+    requires meets { MeetsLives asks incoming (kept_of node.old).lives }
     ensures alone { OnOk result (IsAlone (bound + 1) node.new) }
     ensures starts { CanBeStarted bytes_of images_of (disk_of node.new) }
 {

@@ -9,7 +9,7 @@ use Rattle.dtx_values.specs.Limits.{script_limit}
 use Rattle.make_script.specs.declared.transaction.Transaction.{Transaction}
 use Rattle.make_script.specs.Draws.{drawn_after, last_draw, transactions}
 use Rattle.make_script.specs.Script.{Line, commit_line, digit, end_lines, first_lines, last_lines, line_text, lines, lines_of, loses, loss_line, other_row, own_row, recovery_line, script_of, text_of, transaction_count, values_text}
-use Rattle.make_script.specs.Read.{IsWithin}
+use Rattle.make_script.specs.Read.{ScriptsAreWithin}
 use Rattle.make_script.proofs.ScriptLemmas.{IsFit, all_fit}
 
 decimal_short : (n : ℕ) → n < 2 ^ 64 → length (decimal n) ≤ 20
@@ -102,7 +102,7 @@ first_long = refl
 last_long : length (text_of last_lines) ≡ 164
 last_long = refl
 
-pub is_within : IsWithin
+pub is_within : ScriptsAreWithin
 unfolding lines
 is_within number =
     let ts = transactions number transaction_count in

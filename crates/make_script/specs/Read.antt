@@ -9,5 +9,5 @@ abbrev pub IsRead : Type 0
 IsRead = (number : ℕ) → asked (script_of number) ≡ Ok (commands_of number)
 
 -- the script of each number is within the limit
-abbrev pub IsWithin : Type 0
-IsWithin = (number : ℕ) → length (script_of number) ≤ script_limit
+abbrev pub ScriptsAreWithin : Type 0
+ScriptsAreWithin = (number : ℕ) → length (script_of number) ≤ script_limit

@@ -97,8 +97,8 @@ abbrev pub count_told : AnswerLine → ℕ
 count_told line = count_in line.said
 
 -- the counts of the last four answers, added up
-abbrev pub rows_told : List AnswerLine → ℕ
-rows_told lines = sum_by count_told (drop (length lines - 4) lines)
+abbrev pub pending_total : List AnswerLine → ℕ
+pending_total lines = sum_by count_told (drop (length lines - 4) lines)
 
 -- ---- the summary
 
@@ -117,4 +117,4 @@ summary_of number cs lines book pending =
     ++ (count_line (codes "sealed") (count_by (is_of_kind kinds.Sealed) book)
     ++ (count_line (codes "ended") (count_by (is_of_kind kinds.Ended) book)
     ++ (count_line (codes "pending") pending
-    ++ count_line (codes "rows") (rows_told lines))))))))
+    ++ count_line (codes "rows") (pending_total lines))))))))

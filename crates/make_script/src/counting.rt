@@ -1,6 +1,6 @@
 //! What is counted of the run of a made script.
 ghost use Rattle.std.specs.Prelude.{◌≡◌, ◌<◌, ◌^◌, count_by};
-ghost use Rattle.make_script.specs.Summary.{commit_count, count_in as count_in_said, ends_so as ends_so_by, is_answered as is_answered_by, is_commit as is_commit_command, is_committed as is_committed_by, is_of_kind as is_of_kind_by, number_in as number_in_cells, number_of as number_of_rows, rows_told as rows_told_by};
+ghost use Rattle.make_script.specs.Summary.{commit_count, count_in as count_in_said, ends_so as ends_so_by, is_answered as is_answered_by, is_commit as is_commit_command, is_committed as is_committed_by, is_of_kind as is_of_kind_by, number_in as number_in_cells, number_of as number_of_rows, pending_total as pending_total_by};
 
 use book::{AnswerLine, Entry, Said};
 use dtx_values::{Answer, Done, Row, Value};
@@ -128,8 +128,8 @@ fn count_in(said: &Said) -> u128
 }
 
 /// The counts of the last four answers, added up.
-pub fn rows_told(lines: &[AnswerLine]) -> u128
-    ensures { result ≡ rows_told_by lines.now }
+pub fn pending_total(lines: &[AnswerLine]) -> u128
+    ensures { result ≡ pending_total_by lines.now }
 {
     let mut sum = 0;
     for line in &lines[lines.len().saturating_sub(4)..] {

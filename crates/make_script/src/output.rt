@@ -2,7 +2,7 @@
 ghost use Rattle.std.specs.Prelude.{◌≡◌, ◌++◌, IfOk, OnOk};
 ghost use Rattle.make_script.specs.Summary.{count_line, summary_of};
 
-use crate::counting::{CommitEnd, EntryKind, count_commits, count_entries, rows_told};
+use crate::counting::{CommitEnd, EntryKind, count_commits, count_entries, pending_total};
 use book::{AnswerLine, Entry};
 use itoa::Buffer;
 use script_read::Command;
@@ -61,6 +61,6 @@ pub fn summary(
         count_entries(EntryKind::Ended, book) as u128,
     )?;
     put_count(&mut out, b"pending", pending)?;
-    put_count(&mut out, b"rows", rows_told(lines))?;
+    put_count(&mut out, b"rows", pending_total(lines))?;
     Ok(out)
 }

@@ -12,7 +12,7 @@ use Rattle.node_rules.specs.NodeState.{NodeState, Branch, TurnDraft as DraftByRu
 use Rattle.node_state.specs.Changed.{change_item, with_item}
 use Rattle.node_state.specs.Works.{work_of, change_work}
 use Rattle.node_drafts.specs.declared.draft.TurnDraft.{TurnDraft}
-use Rattle.node_drafts.specs.Gives.{Gives}
+use Rattle.node_drafts.specs.Gives.{GivesDraft}
 use Rattle.node_calls.specs.Handled.{at_live}
 
 module _ {A : Type 0} (id : A → BranchId) where
@@ -49,8 +49,8 @@ module _ {A : Type 0} (id : A → BranchId) where
 nobody : (k : NodeState) (b : BranchId) (f : Branch → DraftByRules) → item_at live_id k.lives b ≡ None → at_live k f (branch_at k b) ≡ nothing k
 nobody k b f none = ap (λ o. at_live k f (with_work k o)) none
 
-pub nothing_so : (k : NodeState) (b : BranchId) (f : Branch → DraftByRules) (draft : TurnDraft) → item_at live_id k.lives b ≡ None → Gives (nothing k) k draft → Gives (at_live k f (branch_at k b)) k draft
-nothing_so k b f draft none does = subst (λ d. Gives d k draft) (sym (nobody k b f none)) does
+pub nothing_so : (k : NodeState) (b : BranchId) (f : Branch → DraftByRules) (draft : TurnDraft) → item_at live_id k.lives b ≡ None → GivesDraft (nothing k) k draft → GivesDraft (at_live k f (branch_at k b)) k draft
+nothing_so k b f draft none does = subst (λ d. GivesDraft d k draft) (sym (nobody k b f none)) does
 
 -- the live branch of an id, with its calls
 abbrev pub branch_here : NodeState → BranchId → Live → Branch

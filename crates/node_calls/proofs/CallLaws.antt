@@ -17,7 +17,7 @@ use Rattle.node_state.specs.Changed.{change_item, with_item}
 use Rattle.node_state.specs.Lives.{advised}
 use Rattle.node_state.specs.Works.{change_work, with_call_taken, work_of}
 use Rattle.node_drafts.specs.declared.draft.TurnDraft.{TurnDraft}
-use Rattle.node_drafts.specs.Gives.{Gives}
+use Rattle.node_drafts.specs.Gives.{GivesDraft}
 use Rattle.node_calls.specs.Handled.{at_live}
 use Rattle.node_calls.proofs.BranchLaws.{branch_here, calls_changed, changed_twice, found_changed, somebody, work_branch}
 use Rattle.node_calls.proofs.OpenedLaws.{calls_again}
@@ -52,19 +52,19 @@ module _ (p : Place) (k : NodeState) (b : BranchId) (l : Live) (is : item_at liv
   by_number a at = somebody k b l (λ x. on_exec p k x from call given advice s) is ∙ ap (exec_by p k (branch_here k b l) from call given advice s) at
 
   -- a call of before, or one that is not answered yet
-  pub ignored_so : (draft : TurnDraft) → admit (work_of k.works b).came call ≡ admits.Ignore → Gives (nothing k) k draft → Gives (at_live k (λ x. on_exec p k x from call given advice s) (branch_at k b)) k draft
-  ignored_so draft at does = subst (λ d. Gives d k draft) (sym (by_number admits.Ignore at)) does
+  pub ignored_so : (draft : TurnDraft) → admit (work_of k.works b).came call ≡ admits.Ignore → GivesDraft (nothing k) k draft → GivesDraft (at_live k (λ x. on_exec p k x from call given advice s) (branch_at k b)) k draft
+  ignored_so draft at does = subst (λ d. GivesDraft d k draft) (sym (by_number admits.Ignore at)) does
 
   -- the last one, answered before
-  pub again_so : (draft : TurnDraft) → admit (work_of k.works b).came call ≡ admits.Again → Gives (saying k (says_again (branch_here k b l) from (work_of k.works b).came.reply)) k draft
-      → Gives (at_live k (λ x. on_exec p k x from call given advice s) (branch_at k b)) k draft
-  again_so draft at does = subst (λ d. Gives d k draft) (sym (by_number admits.Again at)) does
+  pub again_so : (draft : TurnDraft) → admit (work_of k.works b).came call ≡ admits.Again → GivesDraft (saying k (says_again (branch_here k b l) from (work_of k.works b).came.reply)) k draft
+      → GivesDraft (at_live k (λ x. on_exec p k x from call given advice s) (branch_at k b)) k draft
+  again_so draft at does = subst (λ d. GivesDraft d k draft) (sym (by_number admits.Again at)) does
 
   -- a first one
   pub run_so : (lives : List Live) (works : List Work) (after : NodeState) (draft : TurnDraft) → admit (work_of k.works b).came call ≡ admits.Run
       → lives ≡ change_item live_id (advised advice) k.lives b → works ≡ change_work (with_call_taken call) k.works b
-      → Gives (at_live (record k { lives = lives; works = works }) (λ x. statement_at p (record k { lives = lives; works = works }) x s given) (branch_at (record k { lives = lives; works = works }) b)) after draft
-      → Gives (at_live k (λ x. on_exec p k x from call given advice s) (branch_at k b)) after draft
+      → GivesDraft (at_live (record k { lives = lives; works = works }) (λ x. statement_at p (record k { lives = lives; works = works }) x s given) (branch_at (record k { lives = lives; works = works }) b)) after draft
+      → GivesDraft (at_live k (λ x. on_exec p k x from call given advice s) (branch_at k b)) after draft
   run_so lives works after draft at is_lives is_works does =
       let m : NodeState = record k { lives = lives; works = works } in
       let x : Branch = takes_call (branch_here k b l) call advice in
@@ -76,4 +76,4 @@ module _ (p : Place) (k : NodeState) (b : BranchId) (l : Live) (is : item_at liv
       ap (λ q. at_live q (λ y. statement_at p q y s given) (branch_at q b)) put
       ∙ ap (at_live (with_branch k x) (λ y. statement_at p (with_branch k x) y s given)) (found_changed k b x me (work_branch k.works b ∙ sym me))
       ∙ goes_again p k x s given (way_of p k.stored.durable x.live given s) in
-      subst (λ d. Gives d after draft) (code ∙ sym (by_number admits.Run at)) does
+      subst (λ d. GivesDraft d after draft) (code ∙ sym (by_number admits.Run at)) does

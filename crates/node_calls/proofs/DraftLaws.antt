@@ -23,13 +23,13 @@ use Rattle.node_state.specs.Sessions.{transaction_ended}
 use Rattle.node_rules.specs.Calls.{answered, answer_ends, answer_says, answered_sessions, call_pends, calls_over, exec_to, kept_reply, nobody_at, opens_through, replies, reply_fields}
 use Rattle.node_state.specs.Works.{answered_with, called_over, change_work, given_up, waits_for_child, work_of}
 use Rattle.node_drafts.specs.declared.draft.TurnDraft.{TurnDraft}
-use Rattle.node_drafts.specs.Gives.{Gives}
+use Rattle.node_drafts.specs.Gives.{GivesDraft}
 use Rattle.node_calls.specs.Handled.{at_live}
 use Rattle.node_calls.proofs.BranchLaws.{put_back, branch_here, somebody}
 
 -- a draft of the rules, from its parts
-gives_so : (d e : DraftByRules) (after : NodeState) (draft : TurnDraft) → d ≡ e → after ≡ e.after → draft ≡ record { wrote = e.wrote; says = e.says; ended = e.ended } → Gives d after draft
-gives_so d e after draft is new done = subst (λ x. Gives x after draft) (sym is) (record { after = new; wrote = ap (λ x. x.wrote) done; says = ap (λ x. x.says) done; ended = ap (λ x. x.ended) done })
+gives_so : (d e : DraftByRules) (after : NodeState) (draft : TurnDraft) → d ≡ e → after ≡ e.after → draft ≡ record { wrote = e.wrote; says = e.says; ended = e.ended } → GivesDraft d after draft
+gives_so d e after draft is new done = subst (λ x. GivesDraft x after draft) (sym is) (record { after = new; wrote = ap (λ x. x.wrote) done; says = ap (λ x. x.says) done; ended = ap (λ x. x.ended) done })
 
 -- a draft that only sends messages, and one that only ends a call
 abbrev sends : List Post → TurnDraft
@@ -68,13 +68,13 @@ module _ (k : NodeState) (b : BranchId) (l : Live) (is : item_at live_id k.lives
     -- at a root
     pub client_answered : (after : NodeState) (draft : TurnDraft) → l.parent ≡ None
         → after ≡ record k { works = change_work (answered_with None) k.works b; sessions = with_call k.sessions l.me.session pending.NoCall }
-        → draft ≡ record { wrote = None; says = []; ended = (record { session = l.me.session; answer = a }) ∷ [] } → Gives (at_live k (λ x. answered k x a) (branch_at k b)) after draft
+        → draft ≡ record { wrote = None; says = []; ended = (record { session = l.me.session; answer = a }) ∷ [] } → GivesDraft (at_live k (λ x. answered k x a) (branch_at k b)) after draft
     client_answered after draft root new done = gives_so (at_live k (λ x. answered k x a) (branch_at k b)) (answered_by k.lives None) after draft (answered_so None root) new done
 
     -- below the root
     pub parent_answered : (parent : BranchId) (fields : ReplyFields) (says : List Post) (after : NodeState) (draft : TurnDraft) → l.parent ≡ Some parent → fields ≡ reply_fields l a
         → says ≡ replies (branch_here k b l) parent fields → after ≡ record k { works = change_work (answered_with (Some fields)) k.works b } → draft ≡ sends says
-        → Gives (at_live k (λ x. answered k x a) (branch_at k b)) after draft
+        → GivesDraft (at_live k (λ x. answered k x a) (branch_at k b)) after draft
     parent_answered parent fields says after draft at same said new done =
         gives_so (at_live k (λ x. answered k x a) (branch_at k b)) (answered_by k.lives (Some parent)) after draft (answered_so (Some parent) at)
         (new ∙ ap (λ f. record k { works = change_work (answered_with (Some f)) k.works b }) same) (done ∙ ap sends (said ∙ ap (replies (branch_here k b l) parent) same))
@@ -93,7 +93,7 @@ module _ (k : NodeState) (b : BranchId) (l : Live) (is : item_at live_id k.lives
     -- to a child
     pub called_so : (i : ℕ) (says : List Post) (works : List Work) (sessions : List Session) (draft : TurnDraft) → works ≡ change_work (called_over i s given) k.works b → sessions ≡ call_pends k.sessions l
         → says ≡ exec_to k.sessions (branch_here k b l) i s given (peer_of l i) → draft ≡ sends says
-        → Gives (at_live k (λ x. calls_over k x i s given) (branch_at k b)) (with_calls k works sessions) draft
+        → GivesDraft (at_live k (λ x. calls_over k x i s given) (branch_at k b)) (with_calls k works sessions) draft
     called_so i says works sessions draft w_is s_is said done =
         gives_so (at_live k (λ x. calls_over k x i s given) (branch_at k b)) (called_by i k.lives) (with_calls k works sessions) draft
         (somebody k b l (λ x. calls_over k x i s given) is ∙ ap (called_by i) (put_back live_id k.lives b l is))
@@ -110,7 +110,7 @@ module _ (k : NodeState) (b : BranchId) (l : Live) (is : item_at live_id k.lives
     -- over a link that is used for the first time
     pub opened_so : (node : ℕ) (link : List ℕ) (says : List Post) (works : List Work) (sessions : List Session) (draft : TurnDraft) → works ≡ change_work (waits_for_child link s given) k.works b
         → sessions ≡ call_pends k.sessions l → says ≡ post l.me (nobody_at node) (kinds.Open (next_edge l) l.root (l.depth + 1)) → draft ≡ sends says
-        → Gives (at_live k (λ x. opens_through k x node link s given) (branch_at k b)) (with_calls k works sessions) draft
+        → GivesDraft (at_live k (λ x. opens_through k x node link s given) (branch_at k b)) (with_calls k works sessions) draft
     opened_so node link says works sessions draft w_is s_is said done =
         gives_so (at_live k (λ x. opens_through k x node link s given) (branch_at k b)) (waits_by node link k.lives) (with_calls k works sessions) draft
         (somebody k b l (λ x. opens_through k x node link s given) is ∙ ap (waits_by node link) (put_back live_id k.lives b l is))
@@ -130,7 +130,7 @@ module _ (k : NodeState) (b : BranchId) (l : Live) (is : item_at live_id k.lives
 
     pub given_up_so : (a : Answer) (works : List Work) (idle sessions : List Session) (draft : TurnDraft) → works ≡ change_work given_up k.works b → idle ≡ with_call k.sessions n pending.NoCall
         → sessions ≡ needs_rollback idle n (dtx 3 []).code → a ≡ answers.Refused (dtx 3 (one (waited_link l (branch_here k b l).work.going))) → draft ≡ ends n a
-        → Gives (statement_given_up k n (branch_at k b)) (with_calls k works sessions) draft
+        → GivesDraft (statement_given_up k n (branch_at k b)) (with_calls k works sessions) draft
     given_up_so a works idle sessions draft w_is i_is s_is told done =
         gives_so (statement_given_up k n (branch_at k b)) (given_up_by k.lives) (with_calls k works sessions) draft
         (ap (λ o. statement_given_up k n (with_work k o)) is
@@ -151,7 +151,7 @@ module _ (k : NodeState) (b : BranchId) (l : Live) (is : item_at live_id k.lives
 
     pub rolled_back_so : (after : NodeState) (draft : TurnDraft) → after ≡ record (without_branch k l.me) { sessions = transaction_ended k.sessions n }
         → draft ≡ record { wrote = None; says = to_children l kinds.Rollback; ended = (record { session = n; answer = answers.Did dones.RolledBack 0 }) ∷ [] }
-        → Gives (rollback_by k n (branch_at k b)) after draft
+        → GivesDraft (rollback_by k n (branch_at k b)) after draft
     rolled_back_so after draft new done =
         gives_so (rollback_by k n (branch_at k b)) rolled_back after draft (ap (λ o. rollback_by k n (with_work k o)) is) new done
 
@@ -159,9 +159,9 @@ module _ (k : NodeState) (b : BranchId) (l : Live) (is : item_at live_id k.lives
 
 module _ (k : NodeState) (b : BranchId) (none : item_at live_id k.lives b ≡ None) (n : ℕ) where
   -- no statement is given up
-  pub none_given_up : (draft : TurnDraft) → Gives (nothing k) k draft → Gives (statement_given_up k n (branch_at k b)) k draft
-  none_given_up draft does = subst (λ d. Gives d k draft) (sym (ap (λ o. statement_given_up k n (with_work k o)) none)) does
+  pub none_given_up : (draft : TurnDraft) → GivesDraft (nothing k) k draft → GivesDraft (statement_given_up k n (branch_at k b)) k draft
+  none_given_up draft does = subst (λ d. GivesDraft d k draft) (sym (ap (λ o. statement_given_up k n (with_work k o)) none)) does
 
   -- and only the call ends
-  pub none_to_roll_back : (draft : TurnDraft) → Gives (ending k n (answers.Did dones.RolledBack 0)) k draft → Gives (rollback_by k n (branch_at k b)) k draft
-  none_to_roll_back draft does = subst (λ d. Gives d k draft) (sym (ap (λ o. rollback_by k n (with_work k o)) none)) does
+  pub none_to_roll_back : (draft : TurnDraft) → GivesDraft (ending k n (answers.Did dones.RolledBack 0)) k draft → GivesDraft (rollback_by k n (branch_at k b)) k draft
+  none_to_roll_back draft does = subst (λ d. GivesDraft d k draft) (sym (ap (λ o. rollback_by k n (with_work k o)) none)) does

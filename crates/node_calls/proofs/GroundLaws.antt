@@ -15,7 +15,7 @@ use Rattle.node_rules.specs.Statement.{StmtOutcome, Refuses, Reads, Writes, answ
 use Rattle.node_state.specs.Changed.{change_item}
 use Rattle.node_state.specs.Lives.{changed_by}
 use Rattle.node_drafts.specs.declared.draft.TurnDraft.{TurnDraft}
-use Rattle.node_drafts.specs.Gives.{Gives}
+use Rattle.node_drafts.specs.Gives.{GivesDraft}
 use Rattle.node_memory.specs.declared.memory.Memory.{Memory}
 use Rattle.node_memory.specs.Parts.{kept_in, stored_in, HasOwnUndo}
 use Rattle.node_calls.specs.Handled.{at_live, did_changes}
@@ -82,9 +82,9 @@ module _ (m : Memory) (own : HasOwnUndo m) (b : BranchId) (s : Stmt) (t : Table)
   pub ran_here : {E : Type 0} (l : Live) (given : ℕ) (told : Answer) (store : Contents) (locks : List Lock) (lives : List Live) (after : NodeState) (result : Result TurnDraft E)
       → item_at live_id m.lives b ≡ Some l → way_of m.place (stored_in m).durable l given s ≡ Runs_here t → told ≡ answer_of_run at_store
       → store ≡ store_after_run m.store b t at_store → locks ≡ locks_after m.locks b t at_store → lives ≡ change_item live_id (changed_by (makes_changes at_store)) m.lives b
-      → IfOk result (λ draft. Gives (at_live (with_parts m store locks lives) (λ x. answered (with_parts m store locks lives) x told) (branch_at (with_parts m store locks lives) b)) after draft)
-      → IfOk result (λ draft. Gives (at_live (kept_in m) (λ x. statement_at m.place (kept_in m) x s given) (branch_at (kept_in m) b)) after draft)
+      → IfOk result (λ draft. GivesDraft (at_live (with_parts m store locks lives) (λ x. answered (with_parts m store locks lives) x told) (branch_at (with_parts m store locks lives) b)) after draft)
+      → IfOk result (λ draft. GivesDraft (at_live (kept_in m) (λ x. statement_at m.place (kept_in m) x s given) (branch_at (kept_in m) b)) after draft)
   ran_here l given told store locks lives after result is way t_is s_is l_is v_is does =
       let k = with_parts m store locks lives in
       ran_so m.place (kept_in m) b l is s given t by_rules k after result way refl (kept_is store locks lives s_is l_is v_is)
-      (subst (λ a. IfOk result (λ draft. Gives (at_live k (λ x. answered k x a) (branch_at k b)) after draft)) (t_is ∙ ap answer_of_run ran_is) does)
+      (subst (λ a. IfOk result (λ draft. GivesDraft (at_live k (λ x. answered k x a) (branch_at k b)) after draft)) (t_is ∙ ap answer_of_run ran_is) does)

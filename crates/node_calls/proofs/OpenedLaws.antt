@@ -17,9 +17,9 @@ use Rattle.session_tree.specs.Live.{peer_of}
 use Rattle.node_state.specs.Changed.{change_item, with_item}
 use Rattle.node_state.specs.Works.{change_work, with_child, work_of}
 use Rattle.node_drafts.specs.declared.draft.TurnDraft.{TurnDraft}
-use Rattle.node_drafts.specs.Gives.{Gives}
+use Rattle.node_drafts.specs.Gives.{GivesDraft}
 use Rattle.node_calls.specs.declared.opened.Waited.{Waited}
-use Rattle.node_calls.specs.Handled.{at_live, goes_on, waited_for, waits_for, HasRoomFor, HasRoomWhile}
+use Rattle.node_calls.specs.Handled.{at_live, goes_on, waited_for, waits_for, ChildrenLeaveRoom, HasRoomWhile}
 use Rattle.node_calls.proofs.BranchLaws.{work_branch, branch_here, somebody, found_changed, changed_twice, calls_changed}
 
 -- what a branch does with what waited for its child, and nothing where nothing did
@@ -68,11 +68,11 @@ pub numbers_with_child : (ws : List Work) (b : BranchId) (i : ℕ) → next_call
 numbers_with_child ws b i low = subst (λ n. n < 2 ^ 32) (sym (ap (λ w. next_call w i) (child_added ws b) ∙ next_same (work_of ws b) i)) low
 
 -- what waits for a child has room for it
-room_of : (children : ℕ) (g : Going) (waits : Waits) (w : Waited) → waits_for g waits ≡ Some w → HasRoomFor children waits → children < branch_limit
+room_of : (children : ℕ) (g : Going) (waits : Waits) (w : Waited) → waits_for g waits ≡ Some w → ChildrenLeaveRoom children waits → children < branch_limit
 room_of children g (waiting.ForReply i) w found room = absurd cc
 room_of children g (waiting.ForOpened link) w found room = room
 
-room_if : (children : ℕ) (g : Going) (here : Bool) (w : Waited) → (if here then waits_for g g.waits else None) ≡ Some w → HasRoomFor children g.waits → children < branch_limit
+room_if : (children : ℕ) (g : Going) (here : Bool) (w : Waited) → (if here then waits_for g g.waits else None) ≡ Some w → ChildrenLeaveRoom children g.waits → children < branch_limit
 room_if children g true w found room = room_of children g g.waits w found room
 room_if children g false w found room = absurd cc
 
@@ -100,15 +100,15 @@ module _ (k : NodeState) (b : BranchId) (l : Live) (is : item_at live_id k.lives
   at_once = somebody k b l (λ x. on_opened k x from edge strength) is ∙ opened_is k it from edge strength (work_of k.works b).going
 
   -- nothing waits for this child
-  pub opened_ignored : (draft : TurnDraft) → waited_for edge (next_edge l) (work_of k.works b).going ≡ None → Gives (nothing k) k draft
-      → Gives (at_live k (λ x. on_opened k x from edge strength) (branch_at k b)) k draft
-  opened_ignored draft none does = subst (λ d. Gives d k draft) (sym (at_once ∙ ap (goes_if k it from strength) none)) does
+  pub opened_ignored : (draft : TurnDraft) → waited_for edge (next_edge l) (work_of k.works b).going ≡ None → GivesDraft (nothing k) k draft
+      → GivesDraft (at_live k (λ x. on_opened k x from edge strength) (branch_at k b)) k draft
+  opened_ignored draft none does = subst (λ d. GivesDraft d k draft) (sym (at_once ∙ ap (goes_if k it from strength) none)) does
 
   -- the branch with its new child, called
   pub opened_so : (w : Waited) (e : Edge) (given : ℕ) (lives : List Live) (works : List Work) (after : NodeState) (draft : TurnDraft) → waited_for edge (next_edge l) (work_of k.works b).going ≡ Some w
       → e ≡ new_edge from w.link strength → given ≡ w.room - 1 → lives ≡ change_item live_id (λ y. add_edge y e) k.lives b → works ≡ change_work with_child k.works b
-      → Gives (at_live (record k { lives = lives; works = works }) (λ x. calls_over (record k { lives = lives; works = works }) x edge w.statement given) (branch_at (record k { lives = lives; works = works }) b)) after draft
-      → Gives (at_live k (λ x. on_opened k x from edge strength) (branch_at k b)) after draft
+      → GivesDraft (at_live (record k { lives = lives; works = works }) (λ x. calls_over (record k { lives = lives; works = works }) x edge w.statement given) (branch_at (record k { lives = lives; works = works }) b)) after draft
+      → GivesDraft (at_live k (λ x. on_opened k x from edge strength) (branch_at k b)) after draft
   opened_so w e given lives works after draft waits is_e is_given is_lives is_works does =
       let m : NodeState = record k { lives = lives; works = works } in
       let x = with_edge it (new_edge from w.link strength) in
@@ -124,4 +124,4 @@ module _ (k : NodeState) (b : BranchId) (l : Live) (is : item_at live_id k.lives
       ∙ calls_again k x edge w.statement (w.room - 1) in
       let rules : at_live k (λ y. on_opened k y from edge strength) (branch_at k b) ≡ calls_over k x edge w.statement (w.room - 1) =
       at_once ∙ ap (goes_if k it from strength) waits ∙ ap (λ i. calls_over k x i w.statement (w.room - 1)) (sym (number_is edge (next_edge l) (work_of k.works b).going w waits)) in
-      subst (λ d. Gives d after draft) (code ∙ sym rules) does
+      subst (λ d. GivesDraft d after draft) (code ∙ sym rules) does

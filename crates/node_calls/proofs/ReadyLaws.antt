@@ -18,12 +18,12 @@ use Rattle.node_ready_laws.proofs.GiveLemmas.{sum_few}
 use Rattle.node_ready_laws.specs.Gives.{ChildrenAreFew, NextCallsAreWithin}
 use Rattle.node_ready_laws.specs.Ids.{NewIdsAreNew}
 use Rattle.node_ready_laws.specs.Names.{EmptyNameIsFree}
-use Rattle.node_ready_laws.specs.Shapes.{count_limit, IsShaped, HasRoom as HasRoomShape, HasRoomFor as HasRoomForShape}
+use Rattle.node_ready_laws.specs.Shapes.{count_limit, IsShaped, LinksAllow as HasRoomShape, HasRoomFor as HasRoomForShape}
 use Rattle.node_state.specs.Lives.{as_told, heard, told}
 use Rattle.node_memory.specs.declared.memory.Memory.{Memory}
 use Rattle.node_memory.specs.Parts.{kept_in}
-use Rattle.node_calls.specs.Handled.{HasNumbers, HasRoomFor, HasRoomWhile}
-use Rattle.node_calls.specs.Ready.{IsUsable, BranchesMayOpen, OpenedMayCome, RepliesMayCome, StatementsMayCome, TransactionsMayBegin}
+use Rattle.node_calls.specs.Handled.{EdgesHaveNumbers, ChildrenLeaveRoom, HasRoomWhile}
+use Rattle.node_calls.specs.Ready.{IsReadyUpTo, BranchesMayOpen, OpenedMayCome, RepliesMayCome, StatementsMayCome, TransactionsMayBegin}
 
 -- ---- items by number
 
@@ -70,7 +70,7 @@ module _ (i : ℕ) (weight : Option ℕ) (n : ℕ) (few : n ≤ count_limit) whe
 
 -- ---- room for a child
 
-room_for : (links children : ℕ) (waits : Waits) → links ≤ branch_limit → HasRoomForShape links children waits → HasRoomFor children waits
+room_for : (links children : ℕ) (waits : Waits) → links ≤ branch_limit → HasRoomForShape links children waits → ChildrenLeaveRoom children waits
 room_for links children (waiting.ForOpened link) low room = omega (arith, low, room)
 room_for links children (waiting.ForReply i) low room = tt
 
@@ -81,11 +81,11 @@ room_while links children (Some g) low room = room_for links children g.waits lo
 -- ---- the conditions
 
 module _ (few : ChildrenAreFew) (next : NextCallsAreWithin) (empty : EmptyNameIsFree) (new : NewIdsAreNew) where
-  has_few : (n : ℕ) (m : Memory) → IsUsable n m → (b : BranchId) (o : Option Live) → item_at live_id m.lives b ≡ o → IfSome o (λ l. count l < 2 ^ 16)
+  has_few : (n : ℕ) (m : Memory) → IsReadyUpTo n m → (b : BranchId) (o : Option Live) → item_at live_id m.lives b ≡ o → IfSome o (λ l. count l < 2 ^ 16)
   has_few n m now b None is = tt
   has_few n m now b (Some l) is = (few m.place (kept_in m) b l now.links now.ready.shape is).1
 
-  has_numbers : (n : ℕ) (m : Memory) → IsUsable n m → (b : BranchId) → HasNumbers m b
+  has_numbers : (n : ℕ) (m : Memory) → IsReadyUpTo n m → (b : BranchId) → EdgesHaveNumbers m b
   has_numbers n m now b i = let low = next (kept_in m) n now.within b i in omega (arith, low, now.low)
 
   pub statements_may_come : StatementsMayCome
@@ -105,7 +105,7 @@ module _ (few : ChildrenAreFew) (next : NextCallsAreWithin) (empty : EmptyNameIs
   pub branches_may_open : BranchesMayOpen
   branches_may_open n m now = (omega (arith, now.within.opens, now.low), (new m.place (kept_in m) now.ready.ids).0.0)
 
-  has_room : (n : ℕ) (m : Memory) → IsUsable n m → (b : BranchId) (o : Option Live) → item_at live_id m.lives b ≡ o → IfSome o (λ l. HasRoomWhile (length l.edges) (works_of m.works b).going)
+  has_room : (n : ℕ) (m : Memory) → IsReadyUpTo n m → (b : BranchId) (o : Option Live) → item_at live_id m.lives b ≡ o → IfSome o (λ l. HasRoomWhile (length l.edges) (works_of m.works b).going)
   has_room n m now b None is = tt
   has_room n m now b (Some l) is =
       let shape : IsShaped m.place.links l (works_of m.works b) = now.ready.shape.each b l is in
@@ -114,7 +114,7 @@ module _ (few : ChildrenAreFew) (next : NextCallsAreWithin) (empty : EmptyNameIs
   pub opened_may_come : OpenedMayCome
   opened_may_come n m now b = (has_room n m now b (item_at live_id m.lives b) refl, has_numbers n m now b)
 
-  has_few_with : (n : ℕ) (m : Memory) → IsUsable n m → (b : BranchId) (weight : Option ℕ) (told : ℕ) → told ≤ count_limit → (i : ℕ) (o : Option Live) → item_at live_id m.lives b ≡ o
+  has_few_with : (n : ℕ) (m : Memory) → IsReadyUpTo n m → (b : BranchId) (weight : Option ℕ) (told : ℕ) → told ≤ count_limit → (i : ℕ) (o : Option Live) → item_at live_id m.lives b ≡ o
       → IfSome o (λ l. count (heard i weight told l) < 2 ^ 16)
   has_few_with n m now b weight told low i None is = tt
   has_few_with n m now b weight told low i (Some l) is =

@@ -16,7 +16,7 @@ use Rattle.node_state.specs.Changed.{change_item, with_item}
 use Rattle.node_state.specs.Lives.{heard, told}
 use Rattle.node_state.specs.Works.{work_of}
 use Rattle.node_drafts.specs.declared.draft.TurnDraft.{TurnDraft}
-use Rattle.node_drafts.specs.Gives.{Gives}
+use Rattle.node_drafts.specs.Gives.{GivesDraft}
 use Rattle.node_calls.specs.Handled.{at_live}
 use Rattle.node_calls.proofs.BranchLaws.{put_twice, branch_here, somebody}
 
@@ -58,14 +58,14 @@ module _ (k : NodeState) (b : BranchId) (l : Live) (is : item_at live_id k.lives
   at_once = somebody k b l (λ x. on_reply k x from call weight count a) is
 
   -- a Reply that is not waited for
-  pub reply_ignored : (draft : TurnDraft) → reply_of (branch_here k b l) from call ≡ None → Gives (nothing k) k draft → Gives (at_live k (λ x. on_reply k x from call weight count a) (branch_at k b)) k draft
-  reply_ignored draft none does = subst (λ d. Gives d k draft) (sym (at_once ∙ ap (reply_by k (branch_here k b l) weight count a) none)) does
+  pub reply_ignored : (draft : TurnDraft) → reply_of (branch_here k b l) from call ≡ None → GivesDraft (nothing k) k draft → GivesDraft (at_live k (λ x. on_reply k x from call weight count a) (branch_at k b)) k draft
+  reply_ignored draft none does = subst (λ d. GivesDraft d k draft) (sym (at_once ∙ ap (reply_by k (branch_here k b l) weight count a) none)) does
 
   -- one that is
   pub reply_so : (i : ℕ) (e : Edge) (result : Answer) (lives : List Live) (sessions : List Session) (after : NodeState) (draft : TurnDraft) → reply_of (branch_here k b l) from call ≡ Some (at_number i e)
       → result ≡ heard_answer l e.link a → lives ≡ change_item live_id (heard i weight count) k.lives b → sessions ≡ heard_sessions k.sessions l a
-      → Gives (at_live (record k { lives = lives; sessions = sessions }) (λ x. answered (record k { lives = lives; sessions = sessions }) x result) (branch_at (record k { lives = lives; sessions = sessions }) b)) after draft
-      → Gives (at_live k (λ x. on_reply k x from call weight count a) (branch_at k b)) after draft
+      → GivesDraft (at_live (record k { lives = lives; sessions = sessions }) (λ x. answered (record k { lives = lives; sessions = sessions }) x result) (branch_at (record k { lives = lives; sessions = sessions }) b)) after draft
+      → GivesDraft (at_live k (λ x. on_reply k x from call weight count a) (branch_at k b)) after draft
   reply_so i e result lives sessions after draft waits is_result is_lives is_sessions does =
       let n : NodeState = record k { sessions = heard_sessions k.sessions l a } in
       let m : NodeState = record k { lives = lives; sessions = sessions } in
@@ -84,4 +84,4 @@ module _ (k : NodeState) (b : BranchId) (l : Live) (is : item_at live_id k.lives
       let rules : at_live k (λ x. on_reply k x from call weight count a) (branch_at k b) ≡ answered n (record { live = y; work = work_of k.works b }) (heard_answer l e.link a) =
       at_once ∙ ap (reply_by k (branch_here k b l) weight count a) waits
       ∙ ap (λ es. answered n (record { live = record l { edges = es }; work = work_of k.works b }) (heard_answer l e.link a)) (sym (ap (told i weight count l.edges) edge)) in
-      subst (λ d. Gives d after draft) (code ∙ sym rules) does
+      subst (λ d. GivesDraft d after draft) (code ∙ sym rules) does

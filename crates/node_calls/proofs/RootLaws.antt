@@ -16,7 +16,7 @@ use Rattle.node_rules.specs.Sessions.{session_at}
 use Rattle.node_rules.specs.Calls.{next_call, statement_at}
 use Rattle.node_rules.specs.Client.{begun, begun_lives, refuses, root_by, statement_by, statement_call}
 use Rattle.node_drafts.specs.declared.draft.TurnDraft.{TurnDraft}
-use Rattle.node_drafts.specs.Gives.{Gives}
+use Rattle.node_drafts.specs.Gives.{GivesDraft}
 use Rattle.node_ready_laws.specs.Rows.{HasRows}
 use Rattle.node_ready_laws.specs.Following.{listed_in}
 use Rattle.node_state.specs.Works.{work_of}
@@ -27,21 +27,21 @@ use Rattle.node_calls.specs.Handled.{at_live, refuses_again, TakesStatement}
 -- ---- at the root of a session
 
 -- a session without a root
-rootless : (p : Place) (k : NodeState) (n : ℕ) (s : Stmt) (after : NodeState) (draft : TurnDraft) → (session_at k.sessions n).root ≡ None → Gives (nothing k) after draft → Gives (statement_call p k n s) after draft
-rootless p k n s after draft none does = subst (λ d. Gives d after draft) (sym (ap (λ root. statement_by p k n s (session_at k.sessions n).code (root_by k root)) none)) does
+rootless : (p : Place) (k : NodeState) (n : ℕ) (s : Stmt) (after : NodeState) (draft : TurnDraft) → (session_at k.sessions n).root ≡ None → GivesDraft (nothing k) after draft → GivesDraft (statement_call p k n s) after draft
+rootless p k n s after draft none does = subst (λ d. GivesDraft d after draft) (sym (ap (λ root. statement_by p k n s (session_at k.sessions n).code (root_by k root)) none)) does
 
 -- and one with a root
 rooted : (p : Place) (k : NodeState) (n : ℕ) (s : Stmt) (root : BranchId) (after : NodeState) (draft : TurnDraft) → (session_at k.sessions n).root ≡ Some root
-    → Gives (statement_by p k n s (session_at k.sessions n).code (branch_at k root)) after draft → Gives (statement_call p k n s) after draft
-rooted p k n s root after draft is does = subst (λ d. Gives d after draft) (sym (ap (λ o. statement_by p k n s (session_at k.sessions n).code (root_by k o)) is)) does
+    → GivesDraft (statement_by p k n s (session_at k.sessions n).code (branch_at k root)) after draft → GivesDraft (statement_call p k n s) after draft
+rooted p k n s root after draft is does = subst (λ d. GivesDraft d after draft) (sym (ap (λ o. statement_by p k n s (session_at k.sessions n).code (root_by k o)) is)) does
 
 -- which may be what a node keeps once a transaction has begun
-pub rootless_in : (p : Place) (k m : NodeState) (n : ℕ) (s : Stmt) (draft : TurnDraft) → m ≡ k → (session_at m.sessions n).root ≡ None → Gives (nothing m) m draft → Gives (statement_call p k n s) m draft
-rootless_in p k m n s draft is none does = subst (λ j. Gives (statement_call p j n s) m draft) is (rootless p m n s m draft none does)
+pub rootless_in : (p : Place) (k m : NodeState) (n : ℕ) (s : Stmt) (draft : TurnDraft) → m ≡ k → (session_at m.sessions n).root ≡ None → GivesDraft (nothing m) m draft → GivesDraft (statement_call p k n s) m draft
+rootless_in p k m n s draft is none does = subst (λ j. GivesDraft (statement_call p j n s) m draft) is (rootless p m n s m draft none does)
 
 pub rooted_in : (p q : Place) (k m : NodeState) (n : ℕ) (s : Stmt) (root : BranchId) (after : NodeState) (draft : TurnDraft) → m ≡ k → q ≡ p → (session_at m.sessions n).root ≡ Some root
-    → Gives (statement_by q m n s (session_at m.sessions n).code (branch_at m root)) after draft → Gives (statement_call p k n s) after draft
-rooted_in p q k m n s root after draft is here at does = subst (λ r. Gives (statement_call r k n s) after draft) here (subst (λ j. Gives (statement_call q j n s) after draft) is (rooted q m n s root after draft at does))
+    → GivesDraft (statement_by q m n s (session_at m.sessions n).code (branch_at m root)) after draft → GivesDraft (statement_call p k n s) after draft
+rooted_in p q k m n s root after draft is here at does = subst (λ r. GivesDraft (statement_call r k n s) after draft) here (subst (λ j. GivesDraft (statement_call q j n s) after draft) is (rooted q m n s root after draft at does))
 
 statement_is : (p : Place) (k : NodeState) (n : ℕ) (s : Stmt) (o : Option Branch) → statement_by p k n s None o ≡ at_live k (λ x. statement_at p k x s 0) o
 statement_is p k n s None = refl
@@ -53,22 +53,22 @@ refused_is p k n code s (Some x) = refl
 
 -- a statement of a transaction that may go on
 pub statement_so : (p : Place) (k : NodeState) (n : ℕ) (s : Stmt) (code : Option ℕ) (root : BranchId) (after : NodeState) (draft : TurnDraft) → code ≡ None
-    → Gives (at_live k (λ x. statement_at p k x s 0) (branch_at k root)) after draft → Gives (statement_by p k n s code (branch_at k root)) after draft
+    → GivesDraft (at_live k (λ x. statement_at p k x s 0) (branch_at k root)) after draft → GivesDraft (statement_by p k n s code (branch_at k root)) after draft
 statement_so p k n s code root after draft none does =
-    subst (λ d. Gives d after draft) (sym (ap (λ o. statement_by p k n s o (branch_at k root)) none ∙ statement_is p k n s (branch_at k root))) does
+    subst (λ d. GivesDraft d after draft) (sym (ap (λ o. statement_by p k n s o (branch_at k root)) none ∙ statement_is p k n s (branch_at k root))) does
 
 -- and of one that can only be rolled back
 pub refused_so : (p : Place) (k : NodeState) (n : ℕ) (s : Stmt) (code : Option ℕ) (answered : ℕ) (root : BranchId) (after : NodeState) (draft : TurnDraft) → code ≡ Some answered
-    → Gives (refuses_again k n answered (branch_at k root)) after draft → Gives (statement_by p k n s code (branch_at k root)) after draft
+    → GivesDraft (refuses_again k n answered (branch_at k root)) after draft → GivesDraft (statement_by p k n s code (branch_at k root)) after draft
 refused_so p k n s code answered root after draft is does =
-    subst (λ d. Gives d after draft) (sym (ap (λ o. statement_by p k n s o (branch_at k root)) is ∙ refused_is p k n answered s (branch_at k root))) does
+    subst (λ d. GivesDraft d after draft) (sym (ap (λ o. statement_by p k n s o (branch_at k root)) is ∙ refused_is p k n answered s (branch_at k root))) does
 
 module _ (k : NodeState) (n code : ℕ) (root : BranchId) (draft : TurnDraft) where
-  pub nobody_refused : item_at live_id k.lives root ≡ None → Gives (nothing k) k draft → Gives (refuses_again k n code (branch_at k root)) k draft
-  nobody_refused none does = subst (λ d. Gives d k draft) (sym (ap (λ o. refuses_again k n code (with_work k o)) none)) does
+  pub nobody_refused : item_at live_id k.lives root ≡ None → GivesDraft (nothing k) k draft → GivesDraft (refuses_again k n code (branch_at k root)) k draft
+  nobody_refused none does = subst (λ d. GivesDraft d k draft) (sym (ap (λ o. refuses_again k n code (with_work k o)) none)) does
 
-  pub somebody_refused : (l : Live) → item_at live_id k.lives root ≡ Some l → Gives (refuses k n (ora 2067 (one (decimal code)))) k draft → Gives (refuses_again k n code (branch_at k root)) k draft
-  somebody_refused l is does = subst (λ d. Gives d k draft) (sym (ap (λ o. refuses_again k n code (with_work k o)) is)) does
+  pub somebody_refused : (l : Live) → item_at live_id k.lives root ≡ Some l → GivesDraft (refuses k n (ora 2067 (one (decimal code)))) k draft → GivesDraft (refuses_again k n code (branch_at k root)) k draft
+  somebody_refused l is does = subst (λ d. GivesDraft d k draft) (sym (ap (λ o. refuses_again k n code (with_work k o)) is)) does
 
 -- ---- a root that begins
 

@@ -6,7 +6,7 @@ use Rattle.node_rules.specs.NodeState.{NodeState, Branch, TurnDraft as DraftByRu
 use Rattle.node_rules.specs.Calls.{gone_reply, on_exec, on_opened, on_reply}
 use Rattle.node_rules.specs.Turn.{BranchStatus, Is_live, Is_kept, Is_gone, exec_turn, kept_or_gone, live_or, opened_turn, reply_turn, status_of}
 use Rattle.node_drafts.specs.declared.draft.TurnDraft.{TurnDraft}
-use Rattle.node_drafts.specs.Gives.{Gives}
+use Rattle.node_drafts.specs.Gives.{GivesDraft}
 use Rattle.node_calls.specs.Handled.{at_live}
 
 -- what a live branch does alone
@@ -24,14 +24,14 @@ module _ (k : NodeState) (f : Branch → DraftByRules) (turn : BranchStatus → 
   turn_so kept gone b = stand_so kept gone (branch_at k b) (kept_row_at k b)
 
 module _ (k : NodeState) (from b : BranchId) (after : NodeState) (draft : TurnDraft) where
-  pub opened_alike : (edge strength : ℕ) → Gives (at_live k (λ x. on_opened k x from edge strength) (branch_at k b)) after draft → Gives (opened_turn k from edge strength (status_of k b)) after draft
+  pub opened_alike : (edge strength : ℕ) → GivesDraft (at_live k (λ x. on_opened k x from edge strength) (branch_at k b)) after draft → GivesDraft (opened_turn k from edge strength (status_of k b)) after draft
   opened_alike edge strength does =
-      subst (λ d. Gives d after draft) (sym (turn_so k (λ x. on_opened k x from edge strength) (opened_turn k from edge strength) (λ x. refl) (λ s. refl) refl b)) does
+      subst (λ d. GivesDraft d after draft) (sym (turn_so k (λ x. on_opened k x from edge strength) (opened_turn k from edge strength) (λ x. refl) (λ s. refl) refl b)) does
 
-  pub reply_alike : (call : ℕ) (weight : Option ℕ) (count : ℕ) (a : Answer) → Gives (at_live k (λ x. on_reply k x from call weight count a) (branch_at k b)) after draft
-      → Gives (reply_turn k from call weight count a (status_of k b)) after draft
+  pub reply_alike : (call : ℕ) (weight : Option ℕ) (count : ℕ) (a : Answer) → GivesDraft (at_live k (λ x. on_reply k x from call weight count a) (branch_at k b)) after draft
+      → GivesDraft (reply_turn k from call weight count a (status_of k b)) after draft
   reply_alike call weight count a does =
-      subst (λ d. Gives d after draft) (sym (turn_so k (λ x. on_reply k x from call weight count a) (reply_turn k from call weight count a) (λ x. refl) (λ s. refl) refl b)) does
+      subst (λ d. GivesDraft d after draft) (sym (turn_so k (λ x. on_reply k x from call weight count a) (reply_turn k from call weight count a) (λ x. refl) (λ s. refl) refl b)) does
 
 live_by : (k : NodeState) (b : BranchId) (x : Branch) (o : Option Branch) (s : Option KeptRow) → branch_at k b ≡ o → Is_live x ≡ live_or o s → branch_at k b ≡ Some x
 live_by k b x (Some y) s is stands = let it : Is_live x ≡ Is_live y = stands in let same : x ≡ y = cc in is ∙ ap Some (sym same)
@@ -44,16 +44,16 @@ live_here k b x stands = live_by k b x (branch_at k b) (kept_row_at k b) refl st
 
 module _ (p : Place) (k : NodeState) (from b : BranchId) (call given : ℕ) (advice : Option Advice) (s : Stmt) (after : NodeState) (draft : TurnDraft) where
   -- a live branch takes the call
-  pub lives_so : (x : Branch) → Is_live x ≡ status_of k b → Gives (at_live k (λ y. on_exec p k y from call given advice s) (branch_at k b)) after draft
-      → Gives (exec_turn p k from b call given advice s (status_of k b)) after draft
+  pub lives_so : (x : Branch) → Is_live x ≡ status_of k b → GivesDraft (at_live k (λ y. on_exec p k y from call given advice s) (branch_at k b)) after draft
+      → GivesDraft (exec_turn p k from b call given advice s (status_of k b)) after draft
   lives_so x stands does =
       let f = λ (y : Branch). on_exec p k y from call given advice s in
-      subst (λ d. Gives d after draft) (ap (at_live k f) (live_here k b x stands) ∙ ap (exec_turn p k from b call given advice s) stands) does
+      subst (λ d. GivesDraft d after draft) (ap (at_live k f) (live_here k b x stands) ∙ ap (exec_turn p k from b call given advice s) stands) does
 
   -- a kept one ignores it
-  pub exec_kept : (row : KeptRow) → Is_kept row ≡ status_of k b → Gives (nothing k) after draft → Gives (exec_turn p k from b call given advice s (status_of k b)) after draft
-  exec_kept row stands does = subst (λ d. Gives d after draft) (ap (exec_turn p k from b call given advice s) stands) does
+  pub exec_kept : (row : KeptRow) → Is_kept row ≡ status_of k b → GivesDraft (nothing k) after draft → GivesDraft (exec_turn p k from b call given advice s (status_of k b)) after draft
+  exec_kept row stands does = subst (λ d. GivesDraft d after draft) (ap (exec_turn p k from b call given advice s) stands) does
 
   -- and a gone one refuses it
-  pub exec_gone : Is_gone ≡ status_of k b → Gives (saying k (gone_reply b from call)) after draft → Gives (exec_turn p k from b call given advice s (status_of k b)) after draft
-  exec_gone stands does = subst (λ d. Gives d after draft) (ap (exec_turn p k from b call given advice s) stands) does
+  pub exec_gone : Is_gone ≡ status_of k b → GivesDraft (saying k (gone_reply b from call)) after draft → GivesDraft (exec_turn p k from b call given advice s (status_of k b)) after draft
+  exec_gone stands does = subst (λ d. GivesDraft d after draft) (ap (exec_turn p k from b call given advice s) stands) does

@@ -19,7 +19,7 @@ use Rattle.node_state.specs.Changed.{change_item, with_item}
 use Rattle.node_state.specs.Lives.{changed_by}
 use Rattle.node_state.specs.Works.{work_of}
 use Rattle.node_drafts.specs.declared.draft.TurnDraft.{TurnDraft}
-use Rattle.node_drafts.specs.Gives.{Gives}
+use Rattle.node_drafts.specs.Gives.{GivesDraft}
 use Rattle.node_calls.specs.Handled.{at_live}
 use Rattle.node_calls.proofs.BranchLaws.{branch_here, somebody}
 use Rattle.node_calls.proofs.ReplyLaws.{answered_again}
@@ -29,23 +29,23 @@ module _ (p : Place) (k : NodeState) (b : BranchId) (l : Live) (is : item_at liv
   by_way way at = somebody k b l (λ x. statement_at p k x s given) is ∙ ap (goes p k (branch_here k b l) s given) at
 
   goes_so : {E : Type 0} (way : Way) (f : Branch → DraftByRules) (after : NodeState) (result : Result TurnDraft E) → way_of p k.stored.durable l given s ≡ way → goes p k (branch_here k b l) s given way ≡ f (branch_here k b l)
-      → IfOk result (λ draft. Gives (at_live k f (branch_at k b)) after draft) → IfOk result (λ draft. Gives (at_live k (λ x. statement_at p k x s given) (branch_at k b)) after draft)
-  goes_so way f after result at same does = subst (λ d. IfOk result (λ draft. Gives d after draft)) (somebody k b l f is ∙ sym (by_way way at ∙ same)) does
+      → IfOk result (λ draft. GivesDraft (at_live k f (branch_at k b)) after draft) → IfOk result (λ draft. GivesDraft (at_live k (λ x. statement_at p k x s given) (branch_at k b)) after draft)
+  goes_so way f after result at same does = subst (λ d. IfOk result (λ draft. GivesDraft d after draft)) (somebody k b l f is ∙ sym (by_way way at ∙ same)) does
 
   -- it is refused
   pub refused_so : {E : Type 0} (r : Refusal) (after : NodeState) (result : Result TurnDraft E) → way_of p k.stored.durable l given s ≡ Nowhere_to r
-      → IfOk result (λ draft. Gives (at_live k (λ x. answered k x (answers.Refused r)) (branch_at k b)) after draft) → IfOk result (λ draft. Gives (at_live k (λ x. statement_at p k x s given) (branch_at k b)) after draft)
+      → IfOk result (λ draft. GivesDraft (at_live k (λ x. answered k x (answers.Refused r)) (branch_at k b)) after draft) → IfOk result (λ draft. GivesDraft (at_live k (λ x. statement_at p k x s given) (branch_at k b)) after draft)
   refused_so r after result at does = goes_so (Nowhere_to r) (λ x. answered k x (answers.Refused r)) after result at refl does
 
   -- it goes to a child
   pub over_so : {E : Type 0} (i : ℕ) (table : List ℕ) (passed : Stmt) (after : NodeState) (result : Result TurnDraft E) → way_of p k.stored.durable l given s ≡ Over i table → passed ≡ passed_on s table
-      → IfOk result (λ draft. Gives (at_live k (λ x. calls_over k x i passed given) (branch_at k b)) after draft) → IfOk result (λ draft. Gives (at_live k (λ x. statement_at p k x s given) (branch_at k b)) after draft)
+      → IfOk result (λ draft. GivesDraft (at_live k (λ x. calls_over k x i passed given) (branch_at k b)) after draft) → IfOk result (λ draft. GivesDraft (at_live k (λ x. statement_at p k x s given) (branch_at k b)) after draft)
   over_so i table passed after result at same does =
       goes_so (Over i table) (λ x. calls_over k x i passed given) after result at (ap (λ t. calls_over k (branch_here k b l) i t given) (sym same)) does
 
   -- it opens a link
   pub through_so : {E : Type 0} (node : ℕ) (link table to : List ℕ) (passed : Stmt) (after : NodeState) (result : Result TurnDraft E) → way_of p k.stored.durable l given s ≡ Through node link table → passed ≡ passed_on s table → to ≡ link
-      → IfOk result (λ draft. Gives (at_live k (λ x. opens_through k x node to passed given) (branch_at k b)) after draft) → IfOk result (λ draft. Gives (at_live k (λ x. statement_at p k x s given) (branch_at k b)) after draft)
+      → IfOk result (λ draft. GivesDraft (at_live k (λ x. opens_through k x node to passed given) (branch_at k b)) after draft) → IfOk result (λ draft. GivesDraft (at_live k (λ x. statement_at p k x s given) (branch_at k b)) after draft)
   through_so node link table to passed after result at same is_link does =
       goes_so (Through node link table) (λ x. opens_through k x node to passed given) after result at
       (ap (λ t. opens_through k (branch_here k b l) node link t given) (sym same) ∙ ap (λ n. opens_through k (branch_here k b l) node n passed given) (sym is_link)) does
@@ -53,7 +53,7 @@ module _ (p : Place) (k : NodeState) (b : BranchId) (l : Live) (is : item_at liv
   -- it runs here
   pub ran_so : {E : Type 0} (t : Table) (r : StmtOutcome) (m after : NodeState) (result : Result TurnDraft E) → way_of p k.stored.durable l given s ≡ Runs_here t → r ≡ ran p k b s t
       → m ≡ record k { owns = owns_after k.owns b (view k b t.name) r; locks = locks_after k.locks b t r; lives = change_item live_id (changed_by (makes_changes r)) k.lives b }
-      → IfOk result (λ draft. Gives (at_live m (λ x. answered m x (answer_of_run r)) (branch_at m b)) after draft) → IfOk result (λ draft. Gives (at_live k (λ x. statement_at p k x s given) (branch_at k b)) after draft)
+      → IfOk result (λ draft. GivesDraft (at_live m (λ x. answered m x (answer_of_run r)) (branch_at m b)) after draft) → IfOk result (λ draft. GivesDraft (at_live k (λ x. statement_at p k x s given) (branch_at k b)) after draft)
   ran_so t r m after result at is_r is_m does =
       let n : NodeState = node_after_run k b t r in
       let y : Live = changed_by (makes_changes r) l in
@@ -70,7 +70,7 @@ module _ (p : Place) (k : NodeState) (b : BranchId) (l : Live) (is : item_at liv
       by_way (Runs_here t) at
       ∙ ap (λ c. answered (node_after_run k c t (ran p k c s t)) (record { live = after_run l (ran p k c s t); work = work_of k.works b }) (answer_of_run (ran p k c s t))) me
       ∙ ap (λ q. answered (node_after_run k b t q) (record { live = after_run l q; work = work_of k.works b }) (answer_of_run q)) (sym is_r) in
-      subst (λ d. IfOk result (λ draft. Gives d after draft)) (code ∙ sym rules) does
+      subst (λ d. IfOk result (λ draft. GivesDraft d after draft)) (code ∙ sym rules) does
 
 -- ---- a link that is used for the first time
 

@@ -60,26 +60,26 @@ did_changes (answers.Did d n) = nat_lt 0 n
 did_changes _ = false
 
 -- a branch, where it is live, has told of so few branches that a Reply can tell them
-abbrev pub HasFew : Memory → BranchId → Type 0
-HasFew m b = IfSome (item_at live_id m.lives b) (λ l. count l < 2 ^ 16)
+abbrev pub ReplyFits : Memory → BranchId → Type 0
+ReplyFits m b = IfSome (item_at live_id m.lives b) (λ l. count l < 2 ^ 16)
 
 -- each of its edges has a next call number
-abbrev pub HasNumbers : Memory → BranchId → Type 0
-HasNumbers m b = (i : ℕ) → next_call (work_of m.works b) i < 2 ^ 32
+abbrev pub EdgesHaveNumbers : Memory → BranchId → Type 0
+EdgesHaveNumbers m b = (i : ℕ) → next_call (work_of m.works b) i < 2 ^ 32
 
 -- so many children leave room for the one that is waited for
-abbrev pub HasRoomFor : ℕ → Waits → Type 0
-HasRoomFor children (waiting.ForOpened link) = children < branch_limit
-HasRoomFor children (waiting.ForReply i) = Unit {0}
+abbrev pub ChildrenLeaveRoom : ℕ → Waits → Type 0
+ChildrenLeaveRoom children (waiting.ForOpened link) = children < branch_limit
+ChildrenLeaveRoom children (waiting.ForReply i) = Unit {0}
 
 -- where a statement is under way
 abbrev pub HasRoomWhile : ℕ → Option Going → Type 0
 HasRoomWhile children None = Unit {0}
-HasRoomWhile children (Some g) = HasRoomFor children g.waits
+HasRoomWhile children (Some g) = ChildrenLeaveRoom children g.waits
 
 -- a branch, where it is live, has room for the child that it waits for
-abbrev pub HasRoom : Memory → BranchId → Type 0
-HasRoom m b = IfSome (item_at live_id m.lives b) (λ l. HasRoomWhile (length l.edges) (work_of m.works b).going)
+abbrev pub BranchHasRoom : Memory → BranchId → Type 0
+BranchHasRoom m b = IfSome (item_at live_id m.lives b) (λ l. HasRoomWhile (length l.edges) (work_of m.works b).going)
 
 -- with what the Reply of any child tells it has told of few branches still
 abbrev pub HasFewWith : Memory → BranchId → Option ℕ → ℕ → Type 0
@@ -87,8 +87,8 @@ HasFewWith m b weight told = (i : ℕ) → IfSome (item_at live_id m.lives b) (�
 
 -- What a node needs where a statement comes to a branch of it.
 pub record TakesStatement (m : Memory) (b : BranchId) (s : Stmt) : Type 0 where
-  pub few : HasFew m b
-  pub numbers : HasNumbers m b
+  pub few : ReplyFits m b
+  pub numbers : EdgesHaveNumbers m b
   pub nodes : length m.place.names ≤ node_limit
   pub nameless : has_table s ≡ false → is_used m.catalog [] ≡ false  -- a form without a table names the empty name
   pub rows : HasRows (kept_in m)

@@ -1,7 +1,7 @@
 //! ALTER SESSION ADVISE.
 ghost use Rattle.std.specs.Prelude.{◌≡◌, IfOk};
 ghost use Rattle.node_rules.specs.Client.{advise as advise_of};
-ghost use Rattle.node_drafts.specs.Gives.{Gives};
+ghost use Rattle.node_drafts.specs.Gives.{GivesDraft};
 ghost use Rattle.node_memory.specs.Parts.{kept_in};
 
 use dtx_values::{Advice, Answer, Done};
@@ -16,7 +16,7 @@ pub fn advise(
     session: u32,
     advice: Option<Advice>,
 ) -> Result<TurnDraft, AllocError>
-    ensures gives { IfOk result (λ draft. Gives (advise_of (kept_in memory.old) session advice) (kept_in memory.new) draft) }
+    ensures gives { IfOk result (λ draft. GivesDraft (advise_of (kept_in memory.old) session advice) (kept_in memory.new) draft) }
     ensures place { memory.new.place ≡ memory.old.place }
 {
     let draft = TurnDraft::ending(alloc, session, Answer::Did(Done::SessionAltered, 0))?;

@@ -6,9 +6,9 @@ ghost use Rattle.node_rules.specs.NodeState.{branch_at};
 ghost use Rattle.node_rules.specs.Calls.{answered, replies as replies_of};
 ghost use Rattle.node_rules.specs.Sessions.{with_call};
 ghost use Rattle.node_state.specs.Works.{answered_with, change_work, work_of};
-ghost use Rattle.node_drafts.specs.Gives.{Gives, branch_with};
+ghost use Rattle.node_drafts.specs.Gives.{GivesDraft, branch_with};
 ghost use Rattle.node_memory.specs.Parts.{kept_in};
-ghost use Rattle.node_calls.specs.Handled.{at_live, HasFew};
+ghost use Rattle.node_calls.specs.Handled.{at_live, ReplyFits};
 
 use dtx_values::{Answer, Duplicate};
 use link_session::ReplyFields;
@@ -29,9 +29,9 @@ pub(crate) fn answer(
     branch: &BranchId,
     answer: Answer,
 ) -> Result<TurnDraft, AllocError>
-    requires { HasFew memory.old branch.now }
+    requires { ReplyFits memory.old branch.now }
     ensures gives { IfOk result (λ draft.
-        Gives (at_live (kept_in memory.old) (λ x. answered (kept_in memory.old) x answer) (branch_at (kept_in memory.old) branch.now)) (kept_in memory.new) draft) }
+        GivesDraft (at_live (kept_in memory.old) (λ x. answered (kept_in memory.old) x answer) (branch_at (kept_in memory.old) branch.now)) (kept_in memory.new) draft) }
     ensures place { memory.new.place ≡ memory.old.place }
 {
     let Some(live) = memory.lives.get(branch) else {

@@ -6,9 +6,9 @@ ghost use Rattle.session_tree.specs.Live.{fresh_live};
 ghost use Rattle.node_rules.specs.NodeState.{branch_at, live_id};
 ghost use Rattle.node_rules.specs.Sessions.{session_at};
 ghost use Rattle.node_rules.specs.Client.{begun, begun_by, new_root as new_root_of, fresh_root as fresh_root_of, statement_by, statement_call as statement_call_of};
-ghost use Rattle.node_drafts.specs.Gives.{Gives};
+ghost use Rattle.node_drafts.specs.Gives.{GivesDraft};
 ghost use Rattle.node_memory.specs.Parts.{kept_in};
-ghost use Rattle.node_calls.specs.Handled.{refuses_again, HasFew, TakesStatement};
+ghost use Rattle.node_calls.specs.Handled.{refuses_again, ReplyFits, TakesStatement};
 
 use crate::opening::strength_of;
 use crate::routing::statement_at;
@@ -32,7 +32,7 @@ pub fn statement_call(
     requires seq { (session_at memory.old.sessions session).seq + 1 < 2 ^ 32 }
     requires new { item_at live_id memory.old.lives (new_root_of memory.old.place (kept_in memory.old) session) ≡ None }
     requires takes { (root : BranchId) → TakesStatement memory.old root statement.now }
-    ensures gives { IfOk result (λ draft. Gives (statement_call_of memory.old.place (begun memory.old.place (kept_in memory.old) session) session statement.now) (kept_in memory.new) draft) }
+    ensures gives { IfOk result (λ draft. GivesDraft (statement_call_of memory.old.place (begun memory.old.place (kept_in memory.old) session) session statement.now) (kept_in memory.new) draft) }
     ensures place { memory.new.place ≡ memory.old.place }
 {
     begin(memory, alloc, session)?;
@@ -115,7 +115,7 @@ fn statement_in(
 ) -> Result<TurnDraft, AllocError>
     requires { TakesStatement memory.old root.now statement.now }
     ensures gives { IfOk result (λ draft.
-        Gives (statement_by memory.old.place (kept_in memory.old) session statement.now (session_at memory.old.sessions session).code (branch_at (kept_in memory.old) root.now)) (kept_in memory.new) draft) }
+        GivesDraft (statement_by memory.old.place (kept_in memory.old) session statement.now (session_at memory.old.sessions session).code (branch_at (kept_in memory.old) root.now)) (kept_in memory.new) draft) }
     ensures place { memory.new.place ≡ memory.old.place }
 {
     match memory.sessions.at(session).code {
@@ -136,7 +136,7 @@ fn refuse_again(
     root: &BranchId,
     code: u16,
 ) -> Result<TurnDraft, AllocError>
-    ensures { IfOk result (λ draft. Gives (refuses_again (kept_in memory.now) session code (branch_at (kept_in memory.now) root.now)) (kept_in memory.now) draft) }
+    ensures { IfOk result (λ draft. GivesDraft (refuses_again (kept_in memory.now) session code (branch_at (kept_in memory.now) root.now)) (kept_in memory.now) draft) }
 {
     match memory.lives.get(root) {
         None => Ok(TurnDraft::nothing(alloc)),

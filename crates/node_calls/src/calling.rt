@@ -8,7 +8,7 @@ ghost use Rattle.node_rules.specs.Data.kinds;
 ghost use Rattle.session_tree.specs.Live.{next_edge};
 ghost use Rattle.node_rules.specs.Calls.{advice_of as advice_of_branch, call_pends, calls_over, exec_to, next_call, nobody_at as nobody_at_node, opens_through};
 ghost use Rattle.node_state.specs.Works.{work_of};
-ghost use Rattle.node_drafts.specs.Gives.{Gives, branch_with};
+ghost use Rattle.node_drafts.specs.Gives.{GivesDraft, branch_with};
 ghost use Rattle.node_memory.specs.Parts.{kept_in};
 ghost use Rattle.node_calls.specs.Handled.{at_live};
 
@@ -37,7 +37,7 @@ pub(crate) fn call_over(
 ) -> Result<TurnDraft, AllocError>
     requires { next_call (work_of memory.old.works branch.now) number < 2 ^ 32 }
     ensures gives { IfOk result (λ draft.
-        Gives (at_live (kept_in memory.old) (λ x. calls_over (kept_in memory.old) x number statement given) (branch_at (kept_in memory.old) branch.now)) (kept_in memory.new) draft) }
+        GivesDraft (at_live (kept_in memory.old) (λ x. calls_over (kept_in memory.old) x number statement given) (branch_at (kept_in memory.old) branch.now)) (kept_in memory.new) draft) }
     ensures place { memory.new.place ≡ memory.old.place }
 {
     let Some(live) = memory.lives.get(branch) else {
@@ -88,7 +88,7 @@ pub(crate) fn open_through(
 ) -> Result<TurnDraft, AllocError>
     requires { IfSome (item_at live_id memory.old.lives branch.now) (λ live. live.depth < depth_limit) }
     ensures gives { IfOk result (λ draft.
-        Gives (at_live (kept_in memory.old) (λ x. opens_through (kept_in memory.old) x node link statement given) (branch_at (kept_in memory.old) branch.now)) (kept_in memory.new) draft) }
+        GivesDraft (at_live (kept_in memory.old) (λ x. opens_through (kept_in memory.old) x node link statement given) (branch_at (kept_in memory.old) branch.now)) (kept_in memory.new) draft) }
     ensures place { memory.new.place ≡ memory.old.place }
 {
     let Some(live) = memory.lives.get(branch) else {

@@ -6,7 +6,7 @@ ghost use Rattle.node_rules.specs.NodeState.{NodeState};
 ghost use Rattle.node_rules.specs.Client.{writes as writes_of, refuses as refuses_of, create_table as create_table_of, create_link as create_link_of, create_synonym as create_synonym_of, set_recovery as set_recovery_of};
 ghost use Rattle.node_ready_laws.specs.Rows.{HasRows};
 ghost use Rattle.node_ready_laws.specs.Following.{MayFollow};
-ghost use Rattle.node_drafts.specs.Gives.{Gives};
+ghost use Rattle.node_drafts.specs.Gives.{GivesDraft};
 ghost use Rattle.node_memory.specs.Parts.{kept_in, stored_in};
 
 use dtx_values::{Answer, Done, Duplicate, INVALID_SQL, Link, Listing, Synonym, Table};
@@ -18,14 +18,14 @@ use std::alloc::{AllocError, Global};
 
 /// A text that no statement has: ORA-00900.
 pub fn refuse_text(alloc: Global, session: u32) -> Result<TurnDraft, AllocError>
-    ensures gives { IfOk result (λ draft. (k : NodeState) → Gives (refuses_of k session (ora 900 [])) k draft) }
+    ensures gives { IfOk result (λ draft. (k : NodeState) → GivesDraft (refuses_of k session (ora 900 [])) k draft) }
 {
     refuse(alloc, session, INVALID_SQL)
 }
 
 // The call of a session ends with a refusal that names nothing.
 fn refuse(alloc: Global, session: u32, code: u16) -> Result<TurnDraft, AllocError>
-    ensures { IfOk result (λ draft. (k : NodeState) → Gives (refuses_of k session (ora code [])) k draft) }
+    ensures { IfOk result (λ draft. (k : NodeState) → GivesDraft (refuses_of k session (ora code [])) k draft) }
 {
     TurnDraft::ending(alloc, session, Answer::Refused(plain(alloc, code)))
 }
@@ -38,7 +38,7 @@ pub fn create_table(
     table: &Table,
 ) -> Result<TurnDraft, AllocError>
     requires { HasRows (kept_in memory.old) }
-    ensures gives { IfOk result (λ draft. Gives (create_table_of (kept_in memory.old) session table.now) (kept_in memory.new) draft) }
+    ensures gives { IfOk result (λ draft. GivesDraft (create_table_of (kept_in memory.old) session table.now) (kept_in memory.new) draft) }
     ensures place { memory.new.place ≡ memory.old.place }
 {
     if memory.catalog.is_used(&table.name) {
@@ -56,7 +56,7 @@ pub fn create_link(
     session: u32,
     link: &Link,
 ) -> Result<TurnDraft, AllocError>
-    ensures gives { IfOk result (λ draft. Gives (create_link_of (kept_in memory.old) session link.now) (kept_in memory.new) draft) }
+    ensures gives { IfOk result (λ draft. GivesDraft (create_link_of (kept_in memory.old) session link.now) (kept_in memory.new) draft) }
     ensures place { memory.new.place ≡ memory.old.place }
 {
     if memory.catalog.is_link_used(&link.name) {
@@ -74,7 +74,7 @@ pub fn create_synonym(
     session: u32,
     synonym: &Synonym,
 ) -> Result<TurnDraft, AllocError>
-    ensures gives { IfOk result (λ draft. Gives (create_synonym_of (kept_in memory.old) session synonym.now) (kept_in memory.new) draft) }
+    ensures gives { IfOk result (λ draft. GivesDraft (create_synonym_of (kept_in memory.old) session synonym.now) (kept_in memory.new) draft) }
     ensures place { memory.new.place ≡ memory.old.place }
 {
     if memory.catalog.is_used(&synonym.name) {
@@ -92,7 +92,7 @@ pub fn set_recovery(
     session: u32,
     on: bool,
 ) -> Result<TurnDraft, AllocError>
-    ensures gives { IfOk result (λ draft. Gives (set_recovery_of (kept_in memory.old) session on) (kept_in memory.new) draft) }
+    ensures gives { IfOk result (λ draft. GivesDraft (set_recovery_of (kept_in memory.old) session on) (kept_in memory.new) draft) }
     ensures place { memory.new.place ≡ memory.old.place }
 {
     let redo = RedoRecord::Param(Param::Recovery(on));
@@ -108,7 +108,7 @@ fn write(
     done: Done,
 ) -> Result<TurnDraft, AllocError>
     requires { MayFollow (stored_in memory.old) redo }
-    ensures gives { IfOk result (λ draft. Gives (writes_of (kept_in memory.old) session redo done) (kept_in memory.new) draft) }
+    ensures gives { IfOk result (λ draft. GivesDraft (writes_of (kept_in memory.old) session redo done) (kept_in memory.new) draft) }
     ensures place { memory.new.place ≡ memory.old.place }
 {
     match ended(alloc, session, Answer::Did(done, 0)) {

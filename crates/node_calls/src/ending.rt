@@ -2,7 +2,7 @@
 ghost use Rattle.std.specs.Prelude.{◌≡◌, IfOk};
 ghost use Rattle.node_rules.specs.Client.{rollback_by as rollback_by_of, root_at};
 ghost use Rattle.node_rules.specs.NodeState.{branch_at};
-ghost use Rattle.node_drafts.specs.Gives.{Gives};
+ghost use Rattle.node_drafts.specs.Gives.{GivesDraft};
 ghost use Rattle.node_memory.specs.Parts.{kept_in};
 
 use dtx_values::{Answer, Done};
@@ -19,7 +19,7 @@ pub fn rollback_by(
     alloc: Global,
     session: u32,
 ) -> Result<TurnDraft, AllocError>
-    ensures gives { IfOk result (λ draft. Gives (rollback_by_of (kept_in memory.old) session (root_at (kept_in memory.old) session)) (kept_in memory.new) draft) }
+    ensures gives { IfOk result (λ draft. GivesDraft (rollback_by_of (kept_in memory.old) session (root_at (kept_in memory.old) session)) (kept_in memory.new) draft) }
     ensures place { memory.new.place ≡ memory.old.place }
 {
     match memory.sessions.at(session).root {
@@ -35,7 +35,7 @@ fn rollback_root(
     session: u32,
     root: &BranchId,
 ) -> Result<TurnDraft, AllocError>
-    ensures gives { IfOk result (λ draft. Gives (rollback_by_of (kept_in memory.old) session (branch_at (kept_in memory.old) root.now)) (kept_in memory.new) draft) }
+    ensures gives { IfOk result (λ draft. GivesDraft (rollback_by_of (kept_in memory.old) session (branch_at (kept_in memory.old) root.now)) (kept_in memory.new) draft) }
     ensures place { memory.new.place ≡ memory.old.place }
 {
     let Some(live) = memory.lives.get(root) else {

@@ -3,7 +3,7 @@ ghost use Rattle.std.specs.Prelude.{◌≡◌, IfOk};
 ghost use Rattle.node_rules.specs.NodeState.{branch_at};
 ghost use Rattle.node_rules.specs.Calls.{on_exec as on_exec_of, says_again as says_again_of};
 ghost use Rattle.node_state.specs.Works.{work_of};
-ghost use Rattle.node_drafts.specs.Gives.{Gives, branch_with};
+ghost use Rattle.node_drafts.specs.Gives.{GivesDraft, branch_with};
 ghost use Rattle.node_memory.specs.Parts.{kept_in};
 ghost use Rattle.node_calls.specs.Handled.{at_live, TakesStatement};
 
@@ -34,7 +34,7 @@ pub(crate) fn on_exec(
 ) -> Result<TurnDraft, AllocError>
     requires { TakesStatement memory.old to.now statement.now }
     ensures gives { IfOk result (λ draft.
-        Gives (at_live (kept_in memory.old) (λ x. on_exec_of memory.old.place (kept_in memory.old) x from call given advice statement.now) (branch_at (kept_in memory.old) to.now)) (kept_in memory.new) draft) }
+        GivesDraft (at_live (kept_in memory.old) (λ x. on_exec_of memory.old.place (kept_in memory.old) x from call given advice statement.now) (branch_at (kept_in memory.old) to.now)) (kept_in memory.new) draft) }
     ensures place { memory.new.place ≡ memory.old.place }
 {
     let Some(live) = memory.lives.get(to) else {

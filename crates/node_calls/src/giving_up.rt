@@ -6,7 +6,7 @@ ghost use Rattle.sql_check.specs.Words.{one};
 ghost use Rattle.node_rules.specs.NodeState.{branch_at};
 ghost use Rattle.node_rules.specs.Client.{statement_given_up as statement_given_up_of, waited_link as waited_link_of};
 ghost use Rattle.node_state.specs.Works.{work_of};
-ghost use Rattle.node_drafts.specs.Gives.{Gives};
+ghost use Rattle.node_drafts.specs.Gives.{GivesDraft};
 ghost use Rattle.node_memory.specs.Parts.{kept_in};
 
 use dtx_values::Answer;
@@ -27,7 +27,7 @@ pub fn statement_given_up(
     session: u32,
     root: &BranchId,
 ) -> Result<TurnDraft, AllocError>
-    ensures gives { IfOk result (λ draft. Gives (statement_given_up_of (kept_in memory.old) session (branch_at (kept_in memory.old) root.now)) (kept_in memory.new) draft) }
+    ensures gives { IfOk result (λ draft. GivesDraft (statement_given_up_of (kept_in memory.old) session (branch_at (kept_in memory.old) root.now)) (kept_in memory.new) draft) }
     ensures place { memory.new.place ≡ memory.old.place }
 {
     let Some(live) = memory.lives.get(root) else {

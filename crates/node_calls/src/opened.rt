@@ -5,9 +5,9 @@ ghost use Rattle.session_tree.specs.Live.{new_edge as new_edge_of, next_edge as 
 ghost use Rattle.node_rules.specs.NodeState.{branch_at};
 ghost use Rattle.node_rules.specs.Calls.{on_opened as on_opened_of};
 ghost use Rattle.node_state.specs.Works.{work_of};
-ghost use Rattle.node_drafts.specs.Gives.{Gives};
+ghost use Rattle.node_drafts.specs.Gives.{GivesDraft};
 ghost use Rattle.node_memory.specs.Parts.{kept_in};
-ghost use Rattle.node_calls.specs.Handled.{at_live, HasNumbers, HasRoom, waited_for as waited_for_of, waits_for as waits_for_of};
+ghost use Rattle.node_calls.specs.Handled.{at_live, EdgesHaveNumbers, BranchHasRoom, waited_for as waited_for_of, waits_for as waits_for_of};
 
 use crate::calling::call_over;
 use dtx_values::{Duplicate, Name};
@@ -40,10 +40,10 @@ pub(crate) fn on_opened(
     edge: u8,
     strength: u8,
 ) -> Result<TurnDraft, AllocError>
-    requires room { HasRoom memory.old to.now }
-    requires numbers { HasNumbers memory.old to.now }
+    requires room { BranchHasRoom memory.old to.now }
+    requires numbers { EdgesHaveNumbers memory.old to.now }
     ensures gives { IfOk result (λ draft.
-        Gives (at_live (kept_in memory.old) (λ x. on_opened_of (kept_in memory.old) x from edge strength) (branch_at (kept_in memory.old) to.now)) (kept_in memory.new) draft) }
+        GivesDraft (at_live (kept_in memory.old) (λ x. on_opened_of (kept_in memory.old) x from edge strength) (branch_at (kept_in memory.old) to.now)) (kept_in memory.new) draft) }
     ensures place { memory.new.place ≡ memory.old.place }
 {
     let Some(live) = memory.lives.get(to) else {

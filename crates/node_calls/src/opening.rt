@@ -4,7 +4,7 @@ ghost use Rattle.tran_ids.specs.Listed.{item_at};
 ghost use Rattle.session_tree.specs.Live.{fresh_live};
 ghost use Rattle.node_rules.specs.NodeState.{live_id};
 ghost use Rattle.node_rules.specs.Calls.{new_opening as new_opening_of, next_child as next_child_of, on_open as on_open_of, strength_of as strength_of_node};
-ghost use Rattle.node_drafts.specs.Gives.{Gives};
+ghost use Rattle.node_drafts.specs.Gives.{GivesDraft};
 ghost use Rattle.node_memory.specs.Parts.{kept_in};
 
 use dtx_values::Listing;
@@ -26,7 +26,7 @@ pub fn on_open(
 ) -> Result<TurnDraft, AllocError>
     requires sessions { 65 + length memory.old.opens < 2 ^ 32 }
     requires new { item_at live_id memory.old.lives (next_child_of memory.old.place (kept_in memory.old)) ≡ None }
-    ensures gives { IfOk result (λ draft. Gives (on_open_of memory.old.place (kept_in memory.old) parent edge root depth) (kept_in memory.new) draft) }
+    ensures gives { IfOk result (λ draft. GivesDraft (on_open_of memory.old.place (kept_in memory.old) parent edge root depth) (kept_in memory.new) draft) }
     ensures place { memory.new.place ≡ memory.old.place }
 {
     match memory.opens.find(&parent, edge) {

@@ -6,7 +6,7 @@ ghost use Rattle.session_tree.specs.Live.{edge_at as edge_at_number};
 ghost use Rattle.node_rules.specs.NodeState.{branch_at};
 ghost use Rattle.node_rules.specs.Calls.{heard_sessions, on_reply as on_reply_of, reply_edge, reply_going, reply_of};
 ghost use Rattle.node_state.specs.Works.{work_of};
-ghost use Rattle.node_drafts.specs.Gives.{Gives, branch_with};
+ghost use Rattle.node_drafts.specs.Gives.{GivesDraft, branch_with};
 ghost use Rattle.node_memory.specs.Parts.{kept_in};
 ghost use Rattle.node_calls.specs.Handled.{at_live, replier_as, HasFewWith};
 
@@ -43,7 +43,7 @@ pub(crate) fn on_reply(
 ) -> Result<TurnDraft, AllocError>
     requires { HasFewWith memory.old to.now weight count }
     ensures gives { IfOk result (λ draft.
-        Gives (at_live (kept_in memory.old) (λ x. on_reply_of (kept_in memory.old) x from call weight count told) (branch_at (kept_in memory.old) to.now)) (kept_in memory.new) draft) }
+        GivesDraft (at_live (kept_in memory.old) (λ x. on_reply_of (kept_in memory.old) x from call weight count told) (branch_at (kept_in memory.old) to.now)) (kept_in memory.new) draft) }
     ensures place { memory.new.place ≡ memory.old.place }
 {
     let Some(live) = memory.lives.get(to) else {

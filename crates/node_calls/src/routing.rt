@@ -9,7 +9,7 @@ ghost use Rattle.node_rules.specs.Calls.{statement_at as statement_at_of};
 ghost use Rattle.node_rules.specs.Statement.{makes_changes};
 ghost use Rattle.node_state.specs.Changed.{change_item};
 ghost use Rattle.node_state.specs.Lives.{changed_by};
-ghost use Rattle.node_drafts.specs.Gives.{Gives};
+ghost use Rattle.node_drafts.specs.Gives.{GivesDraft};
 ghost use Rattle.node_memory.specs.Parts.{kept_in};
 ghost use Rattle.node_calls.specs.Handled.{at_live, did_changes, TakesStatement};
 
@@ -39,7 +39,7 @@ pub(crate) fn statement_at(
 ) -> Result<TurnDraft, AllocError>
     requires { TakesStatement memory.old branch.now statement.now }
     ensures gives { IfOk result (λ draft.
-        Gives (at_live (kept_in memory.old) (λ x. statement_at_of memory.old.place (kept_in memory.old) x statement.now given) (branch_at (kept_in memory.old) branch.now)) (kept_in memory.new) draft) }
+        GivesDraft (at_live (kept_in memory.old) (λ x. statement_at_of memory.old.place (kept_in memory.old) x statement.now given) (branch_at (kept_in memory.old) branch.now)) (kept_in memory.new) draft) }
     ensures place { memory.new.place ≡ memory.old.place }
 {
     let Some(live) = memory.lives.get(branch) else {

@@ -1,9 +1,9 @@
 //! Messages of calls, by what their branch is at the node: live, kept or gone.
 ghost use Rattle.std.specs.Prelude.{◌≡◌, IfOk};
 ghost use Rattle.node_rules.specs.Turn.{exec_turn as exec_turn_of, opened_turn as opened_turn_of, reply_turn as reply_turn_of, status_of};
-ghost use Rattle.node_drafts.specs.Gives.{Gives};
+ghost use Rattle.node_drafts.specs.Gives.{GivesDraft};
 ghost use Rattle.node_memory.specs.Parts.{kept_in};
-ghost use Rattle.node_calls.specs.Handled.{HasFewWith, HasNumbers, HasRoom, TakesStatement};
+ghost use Rattle.node_calls.specs.Handled.{HasFewWith, EdgesHaveNumbers, BranchHasRoom, TakesStatement};
 
 use crate::executing::on_exec;
 use crate::opened::on_opened;
@@ -29,7 +29,7 @@ pub fn exec_turn(
 ) -> Result<TurnDraft, AllocError>
     requires { TakesStatement memory.old to.now statement.now }
     ensures gives { IfOk result (λ draft.
-        Gives (exec_turn_of memory.old.place (kept_in memory.old) from to.now call given advice statement.now (status_of (kept_in memory.old) to.now)) (kept_in memory.new) draft) }
+        GivesDraft (exec_turn_of memory.old.place (kept_in memory.old) from to.now call given advice statement.now (status_of (kept_in memory.old) to.now)) (kept_in memory.new) draft) }
     ensures place { memory.new.place ≡ memory.old.place }
 {
     match memory.status_of(to) {
@@ -54,10 +54,10 @@ pub fn opened_turn(
     edge: u8,
     strength: u8,
 ) -> Result<TurnDraft, AllocError>
-    requires room { HasRoom memory.old to.now }
-    requires numbers { HasNumbers memory.old to.now }
+    requires room { BranchHasRoom memory.old to.now }
+    requires numbers { EdgesHaveNumbers memory.old to.now }
     ensures gives { IfOk result (λ draft.
-        Gives (opened_turn_of (kept_in memory.old) from edge strength (status_of (kept_in memory.old) to.now)) (kept_in memory.new) draft) }
+        GivesDraft (opened_turn_of (kept_in memory.old) from edge strength (status_of (kept_in memory.old) to.now)) (kept_in memory.new) draft) }
     ensures place { memory.new.place ≡ memory.old.place }
 {
     let draft = on_opened(memory, alloc, from, to, edge, strength)?;
@@ -77,7 +77,7 @@ pub fn reply_turn(
 ) -> Result<TurnDraft, AllocError>
     requires { HasFewWith memory.old to.now weight count }
     ensures gives { IfOk result (λ draft.
-        Gives (reply_turn_of (kept_in memory.old) from call weight count told (status_of (kept_in memory.old) to.now)) (kept_in memory.new) draft) }
+        GivesDraft (reply_turn_of (kept_in memory.old) from call weight count told (status_of (kept_in memory.old) to.now)) (kept_in memory.new) draft) }
     ensures place { memory.new.place ≡ memory.old.place }
 {
     let draft = on_reply(memory, alloc, from, to, call, weight, count, told)?;

@@ -6,7 +6,7 @@ ghost use Rattle.node_rules.specs.Data.records;
 ghost use Rattle.node_rules.specs.Sessions.{commit_answer as commit_answer_of, commit_complete as commit_complete_of, commit_ended};
 ghost use Rattle.node_memory.specs.Parts.{stored_in, kept_in};
 ghost use Rattle.node_ready_laws.specs.Following.{MayFollow};
-ghost use Rattle.node_drafts.specs.Gives.{Gives};
+ghost use Rattle.node_drafts.specs.Gives.{GivesDraft};
 ghost use Rattle.node_commit.specs.Branches.{at_kept, learned as learned_of, with_wrote};
 
 use crate::session_ends::{decision_answers, end_decided};
@@ -121,7 +121,7 @@ pub(crate) fn next_turn(
     from: BranchId,
     next: Next,
 ) -> Result<TurnDraft, AllocError>
-    ensures gives { IfOk result (λ draft. Gives (at_kept (kept_in memory.old) branch.now (λ s. next_turn_of (kept_in memory.old) s from next)) (kept_in memory.new) draft) }
+    ensures gives { IfOk result (λ draft. GivesDraft (at_kept (kept_in memory.old) branch.now (λ s. next_turn_of (kept_in memory.old) s from next)) (kept_in memory.new) draft) }
     ensures place { memory.new.place ≡ memory.old.place }
 {
     let Some(row) = memory.kept_row_at(branch) else {
@@ -164,7 +164,7 @@ pub(crate) fn on_ack(
     branch: &BranchId,
     from: BranchId,
 ) -> Result<TurnDraft, AllocError>
-    ensures gives { IfOk result (λ draft. Gives (at_kept (kept_in memory.old) branch.now (λ s. on_ack_of (kept_in memory.old) s from)) (kept_in memory.new) draft) }
+    ensures gives { IfOk result (λ draft. GivesDraft (at_kept (kept_in memory.old) branch.now (λ s. on_ack_of (kept_in memory.old) s from)) (kept_in memory.new) draft) }
     ensures place { memory.new.place ≡ memory.old.place }
 {
     match memory.hear_ack(alloc, branch, &from) {

@@ -8,7 +8,7 @@ ghost use Rattle.node_rules.specs.Prepare.{own_changes, decided_of, decides as d
 ghost use Rattle.node_rules.specs.Sessions.{commit_answer, commit_complete as commit_complete_of};
 ghost use Rattle.node_memory.specs.Parts.{kept_in};
 ghost use Rattle.node_memory.specs.Leaving.{IsOwnDecision};
-ghost use Rattle.node_drafts.specs.Gives.{Gives};
+ghost use Rattle.node_drafts.specs.Gives.{GivesDraft};
 ghost use Rattle.node_commit.specs.Branches.{at_live, ended_if, left_by};
 
 use crate::looking::live_of;
@@ -126,7 +126,7 @@ pub(crate) fn decides(
     branch: &BranchId,
 ) -> Result<TurnDraft, AllocError>
     requires { memory.old.clock < 2 ^ 48 - 1 }
-    ensures gives { IfOk result (λ draft. Gives (at_live (kept_in memory.old) branch.now (λ l. decides_of (kept_in memory.old) l)) (kept_in memory.new) draft) }
+    ensures gives { IfOk result (λ draft. GivesDraft (at_live (kept_in memory.old) branch.now (λ l. decides_of (kept_in memory.old) l)) (kept_in memory.new) draft) }
     ensures place { memory.new.place ≡ memory.old.place }
 {
     match live_of(memory, branch) {

@@ -3,7 +3,7 @@ ghost use Rattle.std.specs.Prelude.{◌≡◌, ◌-◌, ◌<◌, ◌^◌, ◌++�
 ghost use Rattle.node_rules.specs.Force.{branch_to_force as branch_to_force_of, forces as forces_of, force_commit as force_commit_of, force_rollback as force_rollback_of, purge as purge_of};
 ghost use Rattle.node_rules.specs.Sessions.{commit_answer as commit_answer_of, tran_refusal as tran_refusal_of};
 ghost use Rattle.node_memory.specs.Parts.{kept_in};
-ghost use Rattle.node_drafts.specs.Gives.{Gives};
+ghost use Rattle.node_drafts.specs.Gives.{GivesDraft};
 ghost use Rattle.node_commit.specs.Branches.{hides_named};
 
 use crate::committing::taken_in;
@@ -59,7 +59,7 @@ fn forces(
     given: bool,
     answer: Answer,
 ) -> Result<TurnDraft, AllocError>
-    ensures gives { IfOk result (λ draft. Gives (forces_of (kept_in memory.old) session branch decision given answer) (kept_in memory.new) draft) }
+    ensures gives { IfOk result (λ draft. GivesDraft (forces_of (kept_in memory.old) session branch decision given answer) (kept_in memory.new) draft) }
     ensures place { memory.new.place ≡ memory.old.place }
 {
     let ends = forced_ends(alloc, &memory.sessions, session, &branch, answer)?;
@@ -82,7 +82,7 @@ fn force_committed(
     branch: BranchId,
 ) -> Result<TurnDraft, AllocError>
     requires { memory.old.clock < 2 ^ 48 - 1 }
-    ensures gives { IfOk result (λ draft. Gives (force_commit_of (kept_in memory.old) session scn (Ok branch)) (kept_in memory.new) draft) }
+    ensures gives { IfOk result (λ draft. GivesDraft (force_commit_of (kept_in memory.old) session scn (Ok branch)) (kept_in memory.new) draft) }
     ensures place { memory.new.place ≡ memory.old.place }
 {
     let answer = Answer::Did(Done::Committed, 0);
@@ -120,7 +120,7 @@ fn force_commit(
     named: Result<BranchId, Refusal>,
 ) -> Result<TurnDraft, AllocError>
     requires { memory.old.clock < 2 ^ 48 - 1 }
-    ensures gives { IfOk result (λ draft. Gives (force_commit_of (kept_in memory.old) session scn named) (kept_in memory.new) draft) }
+    ensures gives { IfOk result (λ draft. GivesDraft (force_commit_of (kept_in memory.old) session scn named) (kept_in memory.new) draft) }
     ensures place { memory.new.place ≡ memory.old.place }
 {
     match named {
@@ -136,7 +136,7 @@ fn force_rollback(
     session: u32,
     named: Result<BranchId, Refusal>,
 ) -> Result<TurnDraft, AllocError>
-    ensures gives { IfOk result (λ draft. Gives (force_rollback_of (kept_in memory.old) session named) (kept_in memory.new) draft) }
+    ensures gives { IfOk result (λ draft. GivesDraft (force_rollback_of (kept_in memory.old) session named) (kept_in memory.new) draft) }
     ensures place { memory.new.place ≡ memory.old.place }
 {
     match named {
@@ -165,7 +165,7 @@ pub fn commit_force(
     scn: Option<u64>,
 ) -> Result<TurnDraft, AllocError>
     requires { memory.old.clock < 2 ^ 48 - 1 }
-    ensures gives { IfOk result (λ draft. Gives (force_commit_of (kept_in memory.old) session scn (branch_to_force_of memory.old.place.names memory.old.kept id.now)) (kept_in memory.new) draft) }
+    ensures gives { IfOk result (λ draft. GivesDraft (force_commit_of (kept_in memory.old) session scn (branch_to_force_of memory.old.place.names memory.old.kept id.now)) (kept_in memory.new) draft) }
     ensures place { memory.new.place ≡ memory.old.place }
 {
     let names = memory.place.names.as_slice();
@@ -180,7 +180,7 @@ pub fn rollback_force(
     session: u32,
     id: &[u8],
 ) -> Result<TurnDraft, AllocError>
-    ensures gives { IfOk result (λ draft. Gives (force_rollback_of (kept_in memory.old) session (branch_to_force_of memory.old.place.names memory.old.kept id.now)) (kept_in memory.new) draft) }
+    ensures gives { IfOk result (λ draft. GivesDraft (force_rollback_of (kept_in memory.old) session (branch_to_force_of memory.old.place.names memory.old.kept id.now)) (kept_in memory.new) draft) }
     ensures place { memory.new.place ≡ memory.old.place }
 {
     let names = memory.place.names.as_slice();
@@ -196,7 +196,7 @@ fn hides(
     id: &[u8],
     found: Option<BranchId>,
 ) -> Result<TurnDraft, AllocError>
-    ensures gives { IfOk result (λ draft. Gives (hides_named (kept_in memory.old) session id.now found) (kept_in memory.new) draft) }
+    ensures gives { IfOk result (λ draft. GivesDraft (hides_named (kept_in memory.old) session id.now found) (kept_in memory.new) draft) }
     ensures place { memory.new.place ≡ memory.old.place }
 {
     match found {
@@ -221,7 +221,7 @@ pub fn purge(
     mixed: bool,
     id: &[u8],
 ) -> Result<TurnDraft, AllocError>
-    ensures gives { IfOk result (λ draft. Gives (purge_of (kept_in memory.old) session mixed id.now) (kept_in memory.new) draft) }
+    ensures gives { IfOk result (λ draft. GivesDraft (purge_of (kept_in memory.old) session mixed id.now) (kept_in memory.new) draft) }
     ensures place { memory.new.place ≡ memory.old.place }
 {
     let found = may_purge(alloc, memory.kept.as_slice(), id, mixed)?;

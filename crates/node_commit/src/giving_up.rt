@@ -3,7 +3,7 @@ ghost use Rattle.std.specs.Prelude.{◌≡◌, None, IfOk};
 ghost use Rattle.node_rules.specs.NodeState.{live_at as live_at_of};
 ghost use Rattle.node_rules.specs.Client.{commit_given_up as commit_given_up_of};
 ghost use Rattle.node_memory.specs.Parts.{kept_in};
-ghost use Rattle.node_drafts.specs.Gives.{Gives};
+ghost use Rattle.node_drafts.specs.Gives.{GivesDraft};
 
 use crate::leaving::root_drops;
 use crate::looking::live_of;
@@ -19,7 +19,7 @@ fn given_up_kept(
     alloc: Global,
     root: &BranchId,
 ) -> Result<TurnDraft, AllocError>
-    ensures gives { IfOk result (λ draft. Gives (commit_given_up_of (kept_in memory.old) root.now None) (kept_in memory.new) draft) }
+    ensures gives { IfOk result (λ draft. GivesDraft (commit_given_up_of (kept_in memory.old) root.now None) (kept_in memory.new) draft) }
     ensures place { memory.new.place ≡ memory.old.place }
 {
     let answer = given_up_answer(alloc, *root, memory.kept_row_at(root))?;
@@ -39,7 +39,7 @@ pub fn commit_given_up(
     alloc: Global,
     root: &BranchId,
 ) -> Result<TurnDraft, AllocError>
-    ensures gives { IfOk result (λ draft. Gives (commit_given_up_of (kept_in memory.old) root.now (live_at_of (kept_in memory.old) root.now)) (kept_in memory.new) draft) }
+    ensures gives { IfOk result (λ draft. GivesDraft (commit_given_up_of (kept_in memory.old) root.now (live_at_of (kept_in memory.old) root.now)) (kept_in memory.new) draft) }
     ensures place { memory.new.place ≡ memory.old.place }
 {
     match live_of(memory, root) {

@@ -5,7 +5,7 @@ ghost use Rattle.node_rules.specs.NodeState.{saying, to_one as to_one_of, withou
 ghost use Rattle.node_rules.specs.Prepare.{drops as drops_of, root_drops as root_drops_of, to_children as to_children_of, abandons as abandons_of, finishes as finishes_of};
 ghost use Rattle.node_rules.specs.Sessions.{commit_answer as commit_answer_of};
 ghost use Rattle.node_memory.specs.Parts.{kept_in};
-ghost use Rattle.node_drafts.specs.Gives.{Gives};
+ghost use Rattle.node_drafts.specs.Gives.{GivesDraft};
 ghost use Rattle.node_commit.specs.Branches.{at_live};
 
 use crate::looking::live_of;
@@ -27,7 +27,7 @@ pub(crate) fn drops(
     branch: &BranchId,
     first: Posts,
 ) -> Result<TurnDraft, AllocError>
-    ensures gives { IfOk result (λ draft. Gives (at_live (kept_in memory.old) branch.now (λ l. drops_of (kept_in memory.old) l first)) (kept_in memory.new) draft) }
+    ensures gives { IfOk result (λ draft. GivesDraft (at_live (kept_in memory.old) branch.now (λ l. drops_of (kept_in memory.old) l first)) (kept_in memory.new) draft) }
     ensures place { memory.new.place ≡ memory.old.place }
 {
     match live_of(memory, branch) {
@@ -75,7 +75,7 @@ pub(crate) fn root_drops(
     branch: &BranchId,
     answer: Answer,
 ) -> Result<TurnDraft, AllocError>
-    ensures gives { IfOk result (λ draft. Gives (at_live (kept_in memory.old) branch.now (λ l. root_drops_of (kept_in memory.old) l answer)) (kept_in memory.new) draft) }
+    ensures gives { IfOk result (λ draft. GivesDraft (at_live (kept_in memory.old) branch.now (λ l. root_drops_of (kept_in memory.old) l answer)) (kept_in memory.new) draft) }
     ensures place { memory.new.place ≡ memory.old.place }
 {
     match live_of(memory, branch) {
@@ -99,7 +99,7 @@ pub(crate) fn abandons(
     alloc: Global,
     branch: &BranchId,
 ) -> Result<TurnDraft, AllocError>
-    ensures gives { IfOk result (λ draft. Gives (at_live (kept_in memory.old) branch.now (λ l. abandons_of (kept_in memory.old) l)) (kept_in memory.new) draft) }
+    ensures gives { IfOk result (λ draft. GivesDraft (at_live (kept_in memory.old) branch.now (λ l. abandons_of (kept_in memory.old) l)) (kept_in memory.new) draft) }
     ensures place { memory.new.place ≡ memory.old.place }
 {
     match live_of(memory, branch) {
@@ -126,7 +126,7 @@ pub(crate) fn finishes(
     alloc: Global,
     branch: &BranchId,
 ) -> Result<TurnDraft, AllocError>
-    ensures gives { IfOk result (λ draft. Gives (at_live (kept_in memory.old) branch.now (λ l. finishes_of (kept_in memory.old) l)) (kept_in memory.new) draft) }
+    ensures gives { IfOk result (λ draft. GivesDraft (at_live (kept_in memory.old) branch.now (λ l. finishes_of (kept_in memory.old) l)) (kept_in memory.new) draft) }
     ensures place { memory.new.place ≡ memory.old.place }
 {
     match live_of(memory, branch) {
@@ -153,7 +153,7 @@ pub(crate) fn says_read_only(
     alloc: Global,
     branch: &BranchId,
 ) -> Result<TurnDraft, AllocError>
-    ensures gives { IfOk result (λ draft. Gives (at_live (kept_in memory.old) branch.now (λ l. saying (without_branch (kept_in memory.old) l.me) (to_one_of l.me kinds.ReadOnly l.parent))) (kept_in memory.new) draft) }
+    ensures gives { IfOk result (λ draft. GivesDraft (at_live (kept_in memory.old) branch.now (λ l. saying (without_branch (kept_in memory.old) l.me) (to_one_of l.me kinds.ReadOnly l.parent))) (kept_in memory.new) draft) }
     ensures place { memory.new.place ≡ memory.old.place }
 {
     match live_of(memory, branch) {

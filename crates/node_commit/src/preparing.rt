@@ -8,7 +8,7 @@ ghost use Rattle.node_rules.specs.Data.acts as acts;
 ghost use Rattle.node_rules.specs.NodeState.{NodeState, live_at as live_at_of};
 ghost use Rattle.node_rules.specs.Prepare.{act_turn as act_turn_of, collects as collects_of, with_comment, on_answer as on_answer_of};
 ghost use Rattle.node_memory.specs.Parts.{kept_in};
-ghost use Rattle.node_drafts.specs.Gives.{Gives};
+ghost use Rattle.node_drafts.specs.Gives.{GivesDraft};
 ghost use Rattle.node_commit.specs.Branches.{at_live, phase_of, begun, answered, MayCommit};
 
 use crate::deciding::decides;
@@ -25,7 +25,7 @@ use wire_msg::Kind;
 
 // A branch that waits stays as it is.
 fn rests(alloc: Global) -> TurnDraft
-    ensures { (k : NodeState) (b : BranchIdBy) (site_below : Bool) → Gives (at_live k b (λ l. act_turn_of k l site_below acts.Rest)) k result }
+    ensures { (k : NodeState) (b : BranchIdBy) (site_below : Bool) → GivesDraft (at_live k b (λ l. act_turn_of k l site_below acts.Rest)) k result }
 {
     TurnDraft::nothing(alloc)
 }
@@ -37,7 +37,7 @@ fn asks_down(
     branch: &BranchId,
     site_below: bool,
 ) -> Result<TurnDraft, AllocError>
-    ensures { IfOk result (λ draft. Gives (at_live (kept_in memory.now) branch.now (λ l. act_turn_of (kept_in memory.now) l site_below acts.AskDown)) (kept_in memory.now) draft) }
+    ensures { IfOk result (λ draft. GivesDraft (at_live (kept_in memory.now) branch.now (λ l. act_turn_of (kept_in memory.now) l site_below acts.AskDown)) (kept_in memory.now) draft) }
 {
     match live_of(memory, branch) {
         None => Ok(TurnDraft::nothing(alloc)),
@@ -54,7 +54,7 @@ fn says_ready(
     alloc: Global,
     branch: &BranchId,
 ) -> Result<TurnDraft, AllocError>
-    ensures gives { IfOk result (λ draft. (site_below : Bool) → Gives (at_live (kept_in memory.old) branch.now (λ l. act_turn_of (kept_in memory.old) l site_below acts.SayReady)) (kept_in memory.new) draft) }
+    ensures gives { IfOk result (λ draft. (site_below : Bool) → GivesDraft (at_live (kept_in memory.old) branch.now (λ l. act_turn_of (kept_in memory.old) l site_below acts.SayReady)) (kept_in memory.new) draft) }
     ensures place { memory.new.place ≡ memory.old.place }
 {
     match live_of(memory, branch) {
@@ -76,7 +76,7 @@ pub(crate) fn act_turn(
     act: Act,
 ) -> Result<TurnDraft, AllocError>
     requires { MayCommit memory.old branch.now }
-    ensures gives { IfOk result (λ draft. Gives (at_live (kept_in memory.old) branch.now (λ l. act_turn_of (kept_in memory.old) l site_below act)) (kept_in memory.new) draft) }
+    ensures gives { IfOk result (λ draft. GivesDraft (at_live (kept_in memory.old) branch.now (λ l. act_turn_of (kept_in memory.old) l site_below act)) (kept_in memory.new) draft) }
     ensures place { memory.new.place ≡ memory.old.place }
 {
     match act {
@@ -120,7 +120,7 @@ pub fn collects(
 ) -> Result<TurnDraft, AllocError>
     requires working { phase_of (kept_in memory.old) branch.now ≡ Some phases.Working }
     requires may { MayCommit memory.old branch.now }
-    ensures gives { IfOk result (λ draft. Gives (at_live (kept_in memory.old) branch.now (λ l. collects_of (kept_in memory.old) (with_comment l comment) site_below)) (kept_in memory.new) draft) }
+    ensures gives { IfOk result (λ draft. GivesDraft (at_live (kept_in memory.old) branch.now (λ l. collects_of (kept_in memory.old) (with_comment l comment) site_below)) (kept_in memory.new) draft) }
     ensures place { memory.new.place ≡ memory.old.place }
 {
     match begins(memory, alloc, branch, site_below, comment) {
@@ -156,7 +156,7 @@ pub(crate) fn hears(
 ) -> Result<TurnDraft, AllocError>
     requires collecting { phase_of (kept_in memory.old) branch.now ≡ Some (phases.Collecting site_below) }
     requires may { MayCommit memory.old branch.now }
-    ensures gives { IfOk result (λ draft. Gives (at_live (kept_in memory.old) branch.now (λ l. on_answer_of (kept_in memory.old) l from.now vote)) (kept_in memory.new) draft) }
+    ensures gives { IfOk result (λ draft. GivesDraft (at_live (kept_in memory.old) branch.now (λ l. on_answer_of (kept_in memory.old) l from.now vote)) (kept_in memory.new) draft) }
     ensures place { memory.new.place ≡ memory.old.place }
 {
     match counts(memory, alloc, branch, from, vote) {

@@ -2,7 +2,7 @@
 ghost use Rattle.std.specs.Prelude.{◌≡◌, IfOk};
 ghost use Rattle.node_rules.specs.Recovery.{on_ask as on_ask_of};
 ghost use Rattle.node_memory.specs.Parts.{kept_in};
-ghost use Rattle.node_drafts.specs.Gives.{Gives};
+ghost use Rattle.node_drafts.specs.Gives.{GivesDraft};
 ghost use Rattle.node_commit.specs.Branches.{at_live};
 
 use crate::leaving::drops;
@@ -20,7 +20,7 @@ pub(crate) fn on_ask(
     branch: &BranchId,
     from: BranchId,
 ) -> Result<TurnDraft, AllocError>
-    ensures gives { IfOk result (λ draft. Gives (at_live (kept_in memory.old) branch.now (λ l. on_ask_of (kept_in memory.old) l from)) (kept_in memory.new) draft) }
+    ensures gives { IfOk result (λ draft. GivesDraft (at_live (kept_in memory.old) branch.now (λ l. on_ask_of (kept_in memory.old) l from)) (kept_in memory.new) draft) }
     ensures place { memory.new.place ≡ memory.old.place }
 {
     match live_of(memory, branch) {

@@ -8,7 +8,7 @@ ghost use Rattle.node_rules.specs.NodeState.{to_one as to_one_of};
 ghost use Rattle.node_rules.specs.Prepare.{seals as seals_of, sealed_record as sealed_record_of};
 ghost use Rattle.node_memory.specs.Parts.{kept_in};
 ghost use Rattle.node_memory.specs.Leaving.{IsOwnSeal};
-ghost use Rattle.node_drafts.specs.Gives.{Gives};
+ghost use Rattle.node_drafts.specs.Gives.{GivesDraft};
 ghost use Rattle.node_commit.specs.Branches.{at_live, left_by};
 
 use crate::looking::live_of;
@@ -87,7 +87,7 @@ pub(crate) fn seals_prepared(
     branch: &BranchId,
 ) -> Result<TurnDraft, AllocError>
     requires { is_in_doubt memory.old.store.doubts branch.now ≡ false }
-    ensures gives { IfOk result (λ draft. Gives (at_live (kept_in memory.old) branch.now (λ l. seals_of (kept_in memory.old) l None (to_one_of l.me kinds.Prepared l.parent))) (kept_in memory.new) draft) }
+    ensures gives { IfOk result (λ draft. GivesDraft (at_live (kept_in memory.old) branch.now (λ l. seals_of (kept_in memory.old) l None (to_one_of l.me kinds.Prepared l.parent))) (kept_in memory.new) draft) }
     ensures place { memory.new.place ≡ memory.old.place }
 {
     match live_of(memory, branch) {
@@ -109,7 +109,7 @@ pub(crate) fn seals_and_passes(
     number: u8,
 ) -> Result<TurnDraft, AllocError>
     requires { is_in_doubt memory.old.store.doubts branch.now ≡ false }
-    ensures gives { IfOk result (λ draft. Gives (at_live (kept_in memory.old) branch.now (λ l. seals_of (kept_in memory.old) l (Some number) (to_one_of l.me kinds.CommitPoint (peer_of_number l number)))) (kept_in memory.new) draft) }
+    ensures gives { IfOk result (λ draft. GivesDraft (at_live (kept_in memory.old) branch.now (λ l. seals_of (kept_in memory.old) l (Some number) (to_one_of l.me kinds.CommitPoint (peer_of_number l number)))) (kept_in memory.new) draft) }
     ensures place { memory.new.place ≡ memory.old.place }
 {
     match live_of(memory, branch) {

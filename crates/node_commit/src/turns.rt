@@ -3,7 +3,7 @@ ghost use Rattle.std.specs.Prelude.{◌≡◌, IfOk};
 ghost use Rattle.node_rules.specs.NodeState.{saying, post as post_of};
 ghost use Rattle.node_rules.specs.Turn.{status_of, prepare_turn as prepare_turn_of, answer_turn as answer_turn_of, commit_point_turn as commit_point_turn_of, committed_turn as committed_turn_of, rollback_turn as rollback_turn_of, rolled_back_turn as rolled_back_turn_of, ack_turn as ack_turn_of, forgotten_turn as forgotten_turn_of, ask_turn as ask_turn_of};
 ghost use Rattle.node_memory.specs.Parts.{kept_in};
-ghost use Rattle.node_drafts.specs.Gives.{Gives};
+ghost use Rattle.node_drafts.specs.Gives.{GivesDraft};
 ghost use Rattle.node_commit.specs.Branches.{MayCommitWhereLive};
 
 use crate::committing::{next_turn, on_ack};
@@ -29,7 +29,7 @@ fn answer(
     to: BranchId,
     kind: Kind,
 ) -> Result<TurnDraft, AllocError>
-    ensures { IfOk result (λ draft. Gives (saying (kept_in memory.now) (post_of me to kind)) (kept_in memory.now) draft) }
+    ensures { IfOk result (λ draft. GivesDraft (saying (kept_in memory.now) (post_of me to kind)) (kept_in memory.now) draft) }
 {
     let says = post(alloc, me, to, kind)?;
     Ok(TurnDraft::saying(alloc, says))
@@ -46,7 +46,7 @@ pub fn prepare_turn(
     comment: Bytes,
 ) -> Result<TurnDraft, AllocError>
     requires { MayCommitWhereLive memory.old to }
-    ensures gives { IfOk result (λ draft. Gives (prepare_turn_of (kept_in memory.old) from to site_below comment (status_of (kept_in memory.old) to)) (kept_in memory.new) draft) }
+    ensures gives { IfOk result (λ draft. GivesDraft (prepare_turn_of (kept_in memory.old) from to site_below comment (status_of (kept_in memory.old) to)) (kept_in memory.new) draft) }
     ensures place { memory.new.place ≡ memory.old.place }
 {
     match memory.status_of(&to) {
@@ -68,7 +68,7 @@ pub fn answer_turn(
     vote: Vote,
 ) -> Result<TurnDraft, AllocError>
     requires { MayCommitWhereLive memory.old to }
-    ensures gives { IfOk result (λ draft. Gives (answer_turn_of (kept_in memory.old) from vote (status_of (kept_in memory.old) to)) (kept_in memory.new) draft) }
+    ensures gives { IfOk result (λ draft. GivesDraft (answer_turn_of (kept_in memory.old) from vote (status_of (kept_in memory.old) to)) (kept_in memory.new) draft) }
     ensures place { memory.new.place ≡ memory.old.place }
 {
     match memory.status_of(&to) {
@@ -90,7 +90,7 @@ pub fn commit_point_turn(
     to: BranchId,
 ) -> Result<TurnDraft, AllocError>
     requires { MayCommitWhereLive memory.old to }
-    ensures gives { IfOk result (λ draft. Gives (commit_point_turn_of (kept_in memory.old) from to (status_of (kept_in memory.old) to)) (kept_in memory.new) draft) }
+    ensures gives { IfOk result (λ draft. GivesDraft (commit_point_turn_of (kept_in memory.old) from to (status_of (kept_in memory.old) to)) (kept_in memory.new) draft) }
     ensures place { memory.new.place ≡ memory.old.place }
 {
     match memory.status_of(&to) {
@@ -115,7 +115,7 @@ pub fn committed_turn(
     to: BranchId,
     scn: u64,
 ) -> Result<TurnDraft, AllocError>
-    ensures gives { IfOk result (λ draft. Gives (committed_turn_of (kept_in memory.old) from to scn (status_of (kept_in memory.old) to)) (kept_in memory.new) draft) }
+    ensures gives { IfOk result (λ draft. GivesDraft (committed_turn_of (kept_in memory.old) from to scn (status_of (kept_in memory.old) to)) (kept_in memory.new) draft) }
     ensures place { memory.new.place ≡ memory.old.place }
 {
     match memory.status_of(&to) {
@@ -135,7 +135,7 @@ pub fn rollback_turn(
     from: BranchId,
     to: BranchId,
 ) -> Result<TurnDraft, AllocError>
-    ensures gives { IfOk result (λ draft. Gives (rollback_turn_of (kept_in memory.old) from (status_of (kept_in memory.old) to)) (kept_in memory.new) draft) }
+    ensures gives { IfOk result (λ draft. GivesDraft (rollback_turn_of (kept_in memory.old) from (status_of (kept_in memory.old) to)) (kept_in memory.new) draft) }
     ensures place { memory.new.place ≡ memory.old.place }
 {
     match memory.status_of(&to) {
@@ -155,7 +155,7 @@ pub fn rolled_back_turn(
     from: BranchId,
     to: BranchId,
 ) -> Result<TurnDraft, AllocError>
-    ensures gives { IfOk result (λ draft. Gives (rolled_back_turn_of (kept_in memory.old) from (status_of (kept_in memory.old) to)) (kept_in memory.new) draft) }
+    ensures gives { IfOk result (λ draft. GivesDraft (rolled_back_turn_of (kept_in memory.old) from (status_of (kept_in memory.old) to)) (kept_in memory.new) draft) }
     ensures place { memory.new.place ≡ memory.old.place }
 {
     match memory.status_of(&to) {
@@ -178,7 +178,7 @@ pub fn ack_turn(
     from: BranchId,
     to: BranchId,
 ) -> Result<TurnDraft, AllocError>
-    ensures gives { IfOk result (λ draft. Gives (ack_turn_of (kept_in memory.old) from to (status_of (kept_in memory.old) to)) (kept_in memory.new) draft) }
+    ensures gives { IfOk result (λ draft. GivesDraft (ack_turn_of (kept_in memory.old) from to (status_of (kept_in memory.old) to)) (kept_in memory.new) draft) }
     ensures place { memory.new.place ≡ memory.old.place }
 {
     match memory.status_of(&to) {
@@ -195,7 +195,7 @@ pub fn forgotten_turn(
     from: BranchId,
     to: BranchId,
 ) -> Result<TurnDraft, AllocError>
-    ensures gives { IfOk result (λ draft. Gives (forgotten_turn_of (kept_in memory.old) from (status_of (kept_in memory.old) to)) (kept_in memory.new) draft) }
+    ensures gives { IfOk result (λ draft. GivesDraft (forgotten_turn_of (kept_in memory.old) from (status_of (kept_in memory.old) to)) (kept_in memory.new) draft) }
     ensures place { memory.new.place ≡ memory.old.place }
 {
     match memory.status_of(&to) {
@@ -214,7 +214,7 @@ pub fn ask_turn(
     from: BranchId,
     to: BranchId,
 ) -> Result<TurnDraft, AllocError>
-    ensures gives { IfOk result (λ draft. Gives (ask_turn_of (kept_in memory.old) from to (status_of (kept_in memory.old) to)) (kept_in memory.new) draft) }
+    ensures gives { IfOk result (λ draft. GivesDraft (ask_turn_of (kept_in memory.old) from to (status_of (kept_in memory.old) to)) (kept_in memory.new) draft) }
     ensures place { memory.new.place ≡ memory.old.place }
 {
     match memory.status_of(&to) {

@@ -20,8 +20,8 @@ use Rattle.node_ready_laws.specs.Sound.{IsNext}
 use Rattle.node_memory.specs.declared.memory.Memory.{Memory}
 use Rattle.node_memory.specs.Parts.{stored_in, kept_in}
 use Rattle.node_commit.specs.Branches.{MayCommit, MayCommitWhereLive}
-use Rattle.node_calls.specs.Handled.{HasFewWith, HasNumbers, HasRoom, TakesStatement}
-use Rattle.node_calls.specs.Ready.{IsUsable, BranchesMayOpen, OpenedMayCome, RepliesMayCome, StatementsMayCome, TransactionsMayBegin}
+use Rattle.node_calls.specs.Handled.{HasFewWith, EdgesHaveNumbers, BranchHasRoom, TakesStatement}
+use Rattle.node_calls.specs.Ready.{IsReadyUpTo, BranchesMayOpen, OpenedMayCome, RepliesMayCome, StatementsMayCome, TransactionsMayBegin}
 use Rattle.node_core.specs.declared.served.StampedTurn.{StampedTurn}
 use Rattle.node_core.specs.Able.{given_limit, IsAble, MayTake}
 use Rattle.node_core.specs.Refused.{LeavesAll, IsRefused, RefusedCallsLeaveAll}
@@ -33,7 +33,7 @@ use Rattle.node_core.specs.Serves.{Serves}
 abbrev unclocked : Memory → Memory
 unclocked m = record m { clock = 0 }
 
-usable : (m : Memory) → IsAble m.place (kept_in m) → IsUsable given_limit (unclocked m)
+usable : (m : Memory) → IsAble m.place (kept_in m) → IsReadyUpTo given_limit (unclocked m)
 usable m able = record {
   ready = record { rows = able.ready.rows; names = able.ready.names; shape = able.ready.shape; ids = able.ready.ids };
   within = record { clock = omega arith; opens = able.opens; seqs = able.seqs; calls = able.calls };
@@ -59,10 +59,10 @@ session_left law m able = (law given_limit (unclocked m) (usable m able)).0
 pub child_is_new : BranchesMayOpen → (m : Memory) → IsAble m.place (kept_in m) → item_at live_id m.lives (next_child m.place (kept_in m)) ≡ None
 child_is_new law m able = (law given_limit (unclocked m) (usable m able)).1
 
-pub has_room : OpenedMayCome → (m : Memory) → IsAble m.place (kept_in m) → (b : BranchId) → HasRoom m b
+pub has_room : OpenedMayCome → (m : Memory) → IsAble m.place (kept_in m) → (b : BranchId) → BranchHasRoom m b
 has_room law m able b = (law given_limit (unclocked m) (usable m able) b).0
 
-pub has_numbers : OpenedMayCome → (m : Memory) → IsAble m.place (kept_in m) → (b : BranchId) → HasNumbers m b
+pub has_numbers : OpenedMayCome → (m : Memory) → IsAble m.place (kept_in m) → (b : BranchId) → EdgesHaveNumbers m b
 has_numbers law m able b = (law given_limit (unclocked m) (usable m able) b).1
 
 pub has_few_with : RepliesMayCome → (m : Memory) → IsAble m.place (kept_in m) → (b : BranchId) (weight : Option ℕ) (told : ℕ) → told ≤ count_limit → HasFewWith m b weight told

@@ -11,7 +11,7 @@ ghost use Rattle.node_rules.specs.Client.{new_root};
 ghost use Rattle.node_ready_laws.specs.Shapes.{count_limit};
 ghost use Rattle.node_memory.specs.Parts.{kept_in};
 ghost use Rattle.node_commit.specs.Branches.{MayCommitWhereLive};
-ghost use Rattle.node_calls.specs.Handled.{HasFewWith, HasNumbers, HasRoom, TakesStatement};
+ghost use Rattle.node_calls.specs.Handled.{HasFewWith, EdgesHaveNumbers, BranchHasRoom, TakesStatement};
 ghost use Rattle.node_core.specs.Able.{IsAble};
 
 use node_calls::ready_nodes_take_calls;
@@ -62,8 +62,8 @@ pub(crate) fn may_open(memory: &Memory)
 #[tactic(auto, using(crate::proofs::AbleLaws::has_room, crate::proofs::AbleLaws::has_numbers))]
 pub(crate) fn may_hear_opened(memory: &Memory, branch: &BranchId)
     requires { IsAble memory.now.place (kept_in memory.now) }
-    ensures room { HasRoom memory.now branch.now }
-    ensures numbers { HasNumbers memory.now branch.now }
+    ensures room { BranchHasRoom memory.now branch.now }
+    ensures numbers { EdgesHaveNumbers memory.now branch.now }
 {
     ready_nodes_take_calls();
 }

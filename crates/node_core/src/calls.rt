@@ -4,7 +4,7 @@ ghost use Rattle.node_rules.specs.Inputs.{IsSession};
 ghost use Rattle.node_rules.specs.Client.{refuses, begun, statement_call as statement_call_of, call_turn as call_turn_of, read_turn as read_turn_of};
 ghost use Rattle.node_rules.specs.Refusals.{ora};
 ghost use Rattle.node_memory.specs.Parts.{kept_in};
-ghost use Rattle.node_drafts.specs.Gives.{Gives};
+ghost use Rattle.node_drafts.specs.Gives.{GivesDraft};
 ghost use Rattle.node_core.specs.Able.{IsAble, EndsWork};
 
 use crate::able::{may_begin, takes_statements};
@@ -28,7 +28,7 @@ fn table_call(
 ) -> Result<TurnDraft, AllocError>
     requires able { IsAble memory.old.place (kept_in memory.old) }
     requires fit { IsSession session }
-    ensures gives { IfOk result (λ draft. Gives (statement_call_of memory.old.place (begun memory.old.place (kept_in memory.old) session) session statement.now) (kept_in memory.new) draft) }
+    ensures gives { IfOk result (λ draft. GivesDraft (statement_call_of memory.old.place (begun memory.old.place (kept_in memory.old) session) session statement.now) (kept_in memory.new) draft) }
     ensures place { memory.new.place ≡ memory.old.place }
 {
     takes_statements(memory);
@@ -46,7 +46,7 @@ fn call_turn(
     requires able { IsAble memory.old.place (kept_in memory.old) }
     requires fit { IsSession session }
     requires commit { EndsWork (kept_in memory.old) session statement.now }
-    ensures gives { IfOk result (λ draft. Gives (call_turn_of memory.old.place (kept_in memory.old) session statement.now) (kept_in memory.new) draft) }
+    ensures gives { IfOk result (λ draft. GivesDraft (call_turn_of memory.old.place (kept_in memory.old) session statement.now) (kept_in memory.new) draft) }
     ensures place { memory.new.place ≡ memory.old.place }
 {
     match statement {
@@ -69,7 +69,7 @@ fn call_turn(
 
 // A text outside the grammar: ORA-00900.
 fn text_refused(memory: &Memory, alloc: Global, session: u32) -> Result<TurnDraft, AllocError>
-    ensures gives { IfOk result (λ draft. Gives (refuses (kept_in memory.now) session (ora 900 [])) (kept_in memory.now) draft) }
+    ensures gives { IfOk result (λ draft. GivesDraft (refuses (kept_in memory.now) session (ora 900 [])) (kept_in memory.now) draft) }
 {
     let draft = refuse_text(alloc, session)?;
     Ok(draft)
@@ -85,7 +85,7 @@ pub(crate) fn read_turn(
     requires able { IsAble memory.old.place (kept_in memory.old) }
     requires fit { IsSession session }
     requires commit { IfSome statement.now (EndsWork (kept_in memory.old) session) }
-    ensures gives { IfOk result (λ draft. Gives (read_turn_of memory.old.place (kept_in memory.old) session statement.now) (kept_in memory.new) draft) }
+    ensures gives { IfOk result (λ draft. GivesDraft (read_turn_of memory.old.place (kept_in memory.old) session statement.now) (kept_in memory.new) draft) }
     ensures place { memory.new.place ≡ memory.old.place }
 {
     match statement {

@@ -4,7 +4,7 @@ ghost use Rattle.node_rules.specs.NodeState.{branch_at};
 ghost use Rattle.node_rules.specs.Sessions.{session_at};
 ghost use Rattle.node_rules.specs.Client.{commit_by, commit_call as commit_call_of};
 ghost use Rattle.node_memory.specs.Parts.{kept_in};
-ghost use Rattle.node_drafts.specs.Gives.{Gives};
+ghost use Rattle.node_drafts.specs.Gives.{GivesDraft};
 ghost use Rattle.node_commit.specs.Branches.{phase_of};
 ghost use Rattle.node_core.specs.Able.{IsAble, EndsWork};
 ghost use Rattle.sql_statement.specs.declared.statement.Stmt.TheVariants as stmts;
@@ -40,7 +40,7 @@ fn commit_live(
 ) -> Result<TurnDraft, AllocError>
     requires able { IsAble memory.old.place (kept_in memory.old) }
     requires working { phase_of (kept_in memory.old) root.now ≡ Some phases.Working }
-    ensures gives { IfOk result (λ draft. Gives (commit_by (kept_in memory.old) session comment None (branch_at (kept_in memory.old) root.now)) (kept_in memory.new) draft) }
+    ensures gives { IfOk result (λ draft. GivesDraft (commit_by (kept_in memory.old) session comment None (branch_at (kept_in memory.old) root.now)) (kept_in memory.new) draft) }
     ensures place { memory.new.place ≡ memory.old.place }
 {
     may_commit(memory, root);
@@ -59,7 +59,7 @@ fn commit_root(
 ) -> Result<TurnDraft, AllocError>
     requires able { IsAble memory.old.place (kept_in memory.old) }
     requires working { IfSome (branch_at (kept_in memory.old) root.now) (λ x. x.live.phase ≡ phases.Working) }
-    ensures gives { IfOk result (λ draft. Gives (commit_by (kept_in memory.old) session (unwrap_or comment.now []) (session_at memory.old.sessions session).code (branch_at (kept_in memory.old) root.now)) (kept_in memory.new) draft) }
+    ensures gives { IfOk result (λ draft. GivesDraft (commit_by (kept_in memory.old) session (unwrap_or comment.now []) (session_at memory.old.sessions session).code (branch_at (kept_in memory.old) root.now)) (kept_in memory.new) draft) }
     ensures place { memory.new.place ≡ memory.old.place }
 {
     match memory.live_at(root) {
@@ -86,7 +86,7 @@ pub(crate) fn commit_call(
 ) -> Result<TurnDraft, AllocError>
     requires able { IsAble memory.old.place (kept_in memory.old) }
     requires commit { EndsWork (kept_in memory.old) session (stmts.Commit comment.now) }
-    ensures gives { IfOk result (λ draft. Gives (commit_call_of (kept_in memory.old) session comment.now) (kept_in memory.new) draft) }
+    ensures gives { IfOk result (λ draft. GivesDraft (commit_call_of (kept_in memory.old) session comment.now) (kept_in memory.new) draft) }
     ensures place { memory.new.place ≡ memory.old.place }
 {
     match memory.sessions.at(session).root {

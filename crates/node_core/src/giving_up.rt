@@ -2,7 +2,7 @@
 ghost use Rattle.std.specs.Prelude.{◌≡◌, IfOk};
 ghost use Rattle.node_rules.specs.Client.{give_up_turn as give_up_turn_of};
 ghost use Rattle.node_memory.specs.Parts.{kept_in};
-ghost use Rattle.node_drafts.specs.Gives.{Gives};
+ghost use Rattle.node_drafts.specs.Gives.{GivesDraft};
 
 use node_calls::statement_given_up;
 use node_commit::commit_given_up;
@@ -17,7 +17,7 @@ pub(crate) fn give_up_turn(
     alloc: Global,
     session: u32,
 ) -> Result<TurnDraft, AllocError>
-    ensures gives { IfOk result (λ draft. Gives (give_up_turn_of (kept_in memory.old) session) (kept_in memory.new) draft) }
+    ensures gives { IfOk result (λ draft. GivesDraft (give_up_turn_of (kept_in memory.old) session) (kept_in memory.new) draft) }
     ensures place { memory.new.place ≡ memory.old.place }
 {
     let given = memory.sessions.at(session);

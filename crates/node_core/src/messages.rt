@@ -4,7 +4,7 @@ ghost use Rattle.node_rules.specs.Calls.{on_open as on_open_of};
 ghost use Rattle.node_rules.specs.Turn.{status_of, exec_turn as exec_turn_of, opened_turn as opened_turn_of, reply_turn as reply_turn_of, prepare_turn as prepare_turn_of, answer_turn as answer_turn_of, commit_point_turn as commit_point_turn_of, kind_turn as kind_turn_of};
 ghost use Rattle.node_ready_laws.specs.Shapes.{count_limit, TellsFew};
 ghost use Rattle.node_memory.specs.Parts.{kept_in};
-ghost use Rattle.node_drafts.specs.Gives.{Gives};
+ghost use Rattle.node_drafts.specs.Gives.{GivesDraft};
 ghost use Rattle.node_core.specs.Able.{IsAble};
 
 use crate::able::{may_commit, may_hear_opened, may_hear_reply, may_open, takes_statements};
@@ -32,7 +32,7 @@ fn opens(
     depth: u8,
 ) -> Result<TurnDraft, AllocError>
     requires { IsAble memory.old.place (kept_in memory.old) }
-    ensures gives { IfOk result (λ draft. Gives (on_open_of memory.old.place (kept_in memory.old) from edge root depth) (kept_in memory.new) draft) }
+    ensures gives { IfOk result (λ draft. GivesDraft (on_open_of memory.old.place (kept_in memory.old) from edge root depth) (kept_in memory.new) draft) }
     ensures place { memory.new.place ≡ memory.old.place }
 {
     may_open(memory);
@@ -49,7 +49,7 @@ fn opened(
     strength: u8,
 ) -> Result<TurnDraft, AllocError>
     requires { IsAble memory.old.place (kept_in memory.old) }
-    ensures gives { IfOk result (λ draft. Gives (opened_turn_of (kept_in memory.old) from edge strength (status_of (kept_in memory.old) to.now)) (kept_in memory.new) draft) }
+    ensures gives { IfOk result (λ draft. GivesDraft (opened_turn_of (kept_in memory.old) from edge strength (status_of (kept_in memory.old) to.now)) (kept_in memory.new) draft) }
     ensures place { memory.new.place ≡ memory.old.place }
 {
     may_hear_opened(memory, to);
@@ -68,7 +68,7 @@ fn executes(
     statement: &Stmt,
 ) -> Result<TurnDraft, AllocError>
     requires { IsAble memory.old.place (kept_in memory.old) }
-    ensures gives { IfOk result (λ draft. Gives (exec_turn_of memory.old.place (kept_in memory.old) from to.now call room advice statement.now (status_of (kept_in memory.old) to.now)) (kept_in memory.new) draft) }
+    ensures gives { IfOk result (λ draft. GivesDraft (exec_turn_of memory.old.place (kept_in memory.old) from to.now call room advice statement.now (status_of (kept_in memory.old) to.now)) (kept_in memory.new) draft) }
     ensures place { memory.new.place ≡ memory.old.place }
 {
     takes_statements(memory);
@@ -88,7 +88,7 @@ fn replies(
 ) -> Result<TurnDraft, AllocError>
     requires able { IsAble memory.old.place (kept_in memory.old) }
     requires few { count ≤ count_limit }
-    ensures gives { IfOk result (λ draft. Gives (reply_turn_of (kept_in memory.old) from call weight count told.now (status_of (kept_in memory.old) to.now)) (kept_in memory.new) draft) }
+    ensures gives { IfOk result (λ draft. GivesDraft (reply_turn_of (kept_in memory.old) from call weight count told.now (status_of (kept_in memory.old) to.now)) (kept_in memory.new) draft) }
     ensures place { memory.new.place ≡ memory.old.place }
 {
     may_hear_reply(memory, to, weight, count);
@@ -106,7 +106,7 @@ fn prepares(
     comment: &Bytes,
 ) -> Result<TurnDraft, AllocError>
     requires { IsAble memory.old.place (kept_in memory.old) }
-    ensures gives { IfOk result (λ draft. Gives (prepare_turn_of (kept_in memory.old) from to site_below comment.now (status_of (kept_in memory.old) to)) (kept_in memory.new) draft) }
+    ensures gives { IfOk result (λ draft. GivesDraft (prepare_turn_of (kept_in memory.old) from to site_below comment.now (status_of (kept_in memory.old) to)) (kept_in memory.new) draft) }
     ensures place { memory.new.place ≡ memory.old.place }
 {
     may_commit(memory, &to);
@@ -123,7 +123,7 @@ fn votes(
     vote: Vote,
 ) -> Result<TurnDraft, AllocError>
     requires { IsAble memory.old.place (kept_in memory.old) }
-    ensures gives { IfOk result (λ draft. Gives (answer_turn_of (kept_in memory.old) from vote (status_of (kept_in memory.old) to)) (kept_in memory.new) draft) }
+    ensures gives { IfOk result (λ draft. GivesDraft (answer_turn_of (kept_in memory.old) from vote (status_of (kept_in memory.old) to)) (kept_in memory.new) draft) }
     ensures place { memory.new.place ≡ memory.old.place }
 {
     may_commit(memory, &to);
@@ -138,7 +138,7 @@ fn passes_on(
     to: BranchId,
 ) -> Result<TurnDraft, AllocError>
     requires { IsAble memory.old.place (kept_in memory.old) }
-    ensures gives { IfOk result (λ draft. Gives (commit_point_turn_of (kept_in memory.old) from to (status_of (kept_in memory.old) to)) (kept_in memory.new) draft) }
+    ensures gives { IfOk result (λ draft. GivesDraft (commit_point_turn_of (kept_in memory.old) from to (status_of (kept_in memory.old) to)) (kept_in memory.new) draft) }
     ensures place { memory.new.place ≡ memory.old.place }
 {
     may_commit(memory, &to);
@@ -155,7 +155,7 @@ pub(crate) fn kind_turn(
 ) -> Result<TurnDraft, AllocError>
     requires able { IsAble memory.old.place (kept_in memory.old) }
     requires few { TellsFew kind.now }
-    ensures gives { IfOk result (λ draft. Gives (kind_turn_of memory.old.place (kept_in memory.old) from to kind.now (status_of (kept_in memory.old) to)) (kept_in memory.new) draft) }
+    ensures gives { IfOk result (λ draft. GivesDraft (kind_turn_of memory.old.place (kept_in memory.old) from to kind.now (status_of (kept_in memory.old) to)) (kept_in memory.new) draft) }
     ensures place { memory.new.place ≡ memory.old.place }
 {
     match kind {

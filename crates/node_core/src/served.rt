@@ -3,7 +3,7 @@ ghost use Rattle.std.specs.Prelude.{◌≡◌, IfOk};
 ghost use Rattle.node_rules.specs.NodeState.{TurnDraft as DraftByRules};
 ghost use Rattle.node_rules.specs.Turn.{output_of};
 ghost use Rattle.node_memory.specs.Parts.{kept_in};
-ghost use Rattle.node_drafts.specs.Gives.{Gives};
+ghost use Rattle.node_drafts.specs.Gives.{GivesDraft};
 ghost use Rattle.node_core.specs.Serves.{Serves};
 
 use node_drafts::{TurnDraft, stamp};
@@ -32,7 +32,7 @@ pub(crate) fn stamped(
     alloc: Global,
     draft: TurnDraft,
 ) -> Result<StampedTurn, AllocError>
-    ensures { IfOk result (λ served. (d : DraftByRules) → Gives d (kept_in memory.now) draft → Serves (output_of d) (kept_in memory.now) served) }
+    ensures { IfOk result (λ served. (d : DraftByRules) → GivesDraft d (kept_in memory.now) draft → Serves (output_of d) (kept_in memory.now) served) }
 {
     let TurnDraft { wrote, says, ended } = draft;
     match stamp(alloc, memory.clock.now(), says) {

@@ -5,7 +5,7 @@ ghost use Rattle.node_ready_laws.specs.Ready.{IsReady};
 ghost use Rattle.node_ready_laws.specs.Sound.{IsNext};
 ghost use Rattle.wire_msg.specs.declared.input.Input.TheVariants as inputs;
 ghost use Rattle.node_memory.specs.Parts.{stored_in, kept_in};
-ghost use Rattle.node_drafts.specs.Gives.{Gives};
+ghost use Rattle.node_drafts.specs.Gives.{GivesDraft};
 ghost use Rattle.node_core.specs.Able.{IsAble, MayTake};
 ghost use Rattle.node_core.specs.Refused.{IsRefused, LeavesAll};
 ghost use Rattle.node_core.specs.Serves.{Serves};
@@ -47,7 +47,7 @@ fn hear(memory: &mut Memory, msg: &Msg)
 // A message: the clock meets its sender's first.
 fn message_turn(memory: &mut Memory, alloc: Global, msg: &Msg) -> Result<TurnDraft, AllocError>
     requires { MayTake memory.old.place (kept_in memory.old) (inputs.Message msg.now) }
-    ensures gives { IfOk result (λ draft. Gives (draft_at memory.old.place (heard (kept_in memory.old) (inputs.Message msg.now)) (inputs.Message msg.now)) (kept_in memory.new) draft) }
+    ensures gives { IfOk result (λ draft. GivesDraft (draft_at memory.old.place (heard (kept_in memory.old) (inputs.Message msg.now)) (inputs.Message msg.now)) (kept_in memory.new) draft) }
     ensures place { memory.new.place ≡ memory.old.place }
 {
     hear(memory, msg);

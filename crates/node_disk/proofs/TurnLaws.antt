@@ -28,7 +28,7 @@ use Rattle.node_disk.specs.Effects.{mailed, call_of, Tells}
 use Rattle.node_disk.specs.Spellable.{MayBeMailed, IsSpellable}
 use Rattle.node_disk.specs.Starts.{MayBeHad, IsStartable, IsButForAcks, stored_next}
 use Rattle.node_disk.specs.Laws.{TurnsStoreTheirRecords}
-use Rattle.node_disk.specs.OnDisk.{StandsOn, IsOpenFor, HoldsNext, MayStand}
+use Rattle.node_disk.specs.OnDisk.{StandsOn, IsOpenFor, HoldsNext, ImageHolds}
 use Rattle.node_disk.proofs.StoreLaws.{but_for_both, next_but_for}
 use Rattle.node_disk.proofs.MomentLaws.{weaker}
 
@@ -96,7 +96,7 @@ next_unnoted law s t r is next = law (with_rows s t.durable.kept) s.durable.kept
 
 module _ {D : Type 0} (moment : D → ℕ) (images_since : D → ℕ → List ℕ → Type 0) where
   startable_by : RowsDoNotMatter → (s : Stored) (rs : List RedoRecord) (w : Option RedoRecord) → MayBeHad rs → IsButForAcks (stored_by nothing_stored rs) s → IfSome w (IsNext s)
-      → (image : List ℕ) → MayStand rs w image → IsStartable image
+      → (image : List ℕ) → ImageHolds rs w image → IsStartable image
   startable_by law s rs None had is next image hold = (rs, hold, had)
   startable_by law s rs (Some r) had is next image may = elim may [
     | inl hold ↦ (rs, hold, had)
@@ -105,13 +105,13 @@ module _ {D : Type 0} (moment : D → ℕ) (images_since : D → ℕ → List �
 
   -- while the record of a turn is written, the disk holds records that a node can start from
   pub startable_while : RowsDoNotMatter → (old now : D) (before : List ℕ) (s : Stored) (w : Option RedoRecord) → StandsOn before s → IfSome w (IsNext s)
-      → ((rs : List RedoRecord) → HoldRecords rs before → AtEachMoment moment images_since old now (MayStand rs w)) → AtEachMoment moment images_since old now IsStartable
+      → ((rs : List RedoRecord) → HoldRecords rs before → AtEachMoment moment images_since old now (ImageHolds rs w)) → AtEachMoment moment images_since old now IsStartable
   startable_while law old now before s w stands next moments =
-      weaker moment images_since old now (MayStand stands.0 w) IsStartable (moments stands.0 stands.1) (startable_by law s stands.0 w stands.2 stands.3 next)
+      weaker moment images_since old now (ImageHolds stands.0 w) IsStartable (moments stands.0 stands.1) (startable_by law s stands.0 w stands.2 stands.3 next)
 
 -- ---- after the turn
 
-holds_by : (rs : List RedoRecord) (w : Option RedoRecord) (before now : List ℕ) → HoldsNext w before now → HoldRecords rs before → MayStand rs w now
+holds_by : (rs : List RedoRecord) (w : Option RedoRecord) (before now : List ℕ) → HoldsNext w before now → HoldRecords rs before → ImageHolds rs w now
 holds_by rs None before now grows hold = subst (λ (bytes : List ℕ). HoldRecords rs bytes) (sym grows) hold
 holds_by rs (Some r) before now grows hold = inr (grows rs hold)
 
@@ -130,14 +130,14 @@ stands_next law before now s t (Some r) stands next stores grows =
     )
 
 -- records that an image holds without the one of the turn
-may_stand : (rs : List RedoRecord) (w : Option RedoRecord) (image : List ℕ) → HoldRecords rs image → MayStand rs w image
+may_stand : (rs : List RedoRecord) (w : Option RedoRecord) (image : List ℕ) → HoldRecords rs image → ImageHolds rs w image
 may_stand rs None image hold = hold
 may_stand rs (Some r) image hold = inl hold
 
 module _ {D : Type 0} (moment : D → ℕ) (images_since : D → ℕ → List ℕ → Type 0) where
   -- a turn that wrote nothing
-  pub stand_still : (disk : D) (rs : List RedoRecord) (w : Option RedoRecord) → AtEachMoment moment images_since disk disk (HoldRecords rs) → AtEachMoment moment images_since disk disk (MayStand rs w)
-  stand_still disk rs w own = weaker moment images_since disk disk (HoldRecords rs) (MayStand rs w) own (may_stand rs w)
+  pub stand_still : (disk : D) (rs : List RedoRecord) (w : Option RedoRecord) → AtEachMoment moment images_since disk disk (HoldRecords rs) → AtEachMoment moment images_since disk disk (ImageHolds rs w)
+  stand_still disk rs w own = weaker moment images_since disk disk (HoldRecords rs) (ImageHolds rs w) own (may_stand rs w)
 
   pub startable_still : (disk : D) (bytes : List ℕ) (s : Stored) → StandsOn bytes s → ((rs : List RedoRecord) → HoldRecords rs bytes → AtEachMoment moment images_since disk disk (HoldRecords rs))
       → AtEachMoment moment images_since disk disk IsStartable

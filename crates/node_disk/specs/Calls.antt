@@ -55,8 +55,8 @@ module _ {D : Type 0} (d : Ghosts D) where
     -- what it keeps is sound
     pub ready : IsReady (place_of node) (kept_of node)
 
-  -- the disk of a turn that was cut: before its record nothing was done; in the append of its record, of which there is one, a call
-  -- failed; after its record that stands
+  -- The disk of a turn that was cut. Before its record, nothing was done to it; in its record, a call of the append failed, and there
+  -- was a record to append; after its record, the record stands.
   abbrev pub CutLeaves : CutAt → Option RedoRecord → D → D → Type 0
   CutLeaves cuts.BeforeRecord wrote before now = IsUntouched d before now
   CutLeaves cuts.InAppend None before now = ⊥

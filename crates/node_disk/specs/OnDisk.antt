@@ -53,9 +53,9 @@ HoldsNext None before now = now ≡ before
 HoldsNext (Some r) before now = GrowsByRecord r before now
 
 -- an image holds the records from before, with this one or without
-abbrev pub MayStand : List RedoRecord → Option RedoRecord → List ℕ → Type 0
-MayStand rs None image = HoldRecords rs image
-MayStand rs (Some r) image = HoldWithOrWithout rs r image
+abbrev pub ImageHolds : List RedoRecord → Option RedoRecord → List ℕ → Type 0
+ImageHolds rs None image = HoldRecords rs image
+ImageHolds rs (Some r) image = HoldWithOrWithout rs r image
 
 -- the disk calls of a turn: those of an append, where there is a record
 abbrev pub turn_calls : Option RedoRecord → List Bool

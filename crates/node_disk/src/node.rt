@@ -9,7 +9,7 @@ ghost use Rattle.node_core.specs.Able.{MayTake};
 ghost use Rattle.node_disk.specs.Incoming.{IsReadAs};
 ghost use Rattle.node_disk.specs.Spellable.{IsSpellable};
 ghost use Rattle.node_disk.specs.Starts.{IsStartable, CanBeStarted};
-ghost use Rattle.node_disk.specs.OnDisk.{place_of, kept_of, disk_of, turn_at, record_at, IsRunning, MayStand};
+ghost use Rattle.node_disk.specs.OnDisk.{place_of, kept_of, disk_of, turn_at, record_at, IsRunning, ImageHolds};
 ghost use Rattle.node_disk.specs.Calls.{TellsTurn, HasWritten, TakesNext, EndsEarly};
 
 use crate::deciding::decide;
@@ -54,7 +54,7 @@ impl<D: Disk> Node<D> {
 
         // A crash at any moment leaves the records from before, with this one or without.
         ensures any_moment { (rs : List RedoRecord) → HoldRecords rs (D.content (disk_of self.old))
-            → AtEachMoment D.moment D.images_since (disk_of self.old) (disk_of self.new) (MayStand rs (record_at self.old incoming)) }
+            → AtEachMoment D.moment D.images_since (disk_of self.old) (disk_of self.new) (ImageHolds rs (record_at self.old incoming)) }
 
         // A node can start from what a crash leaves at any moment, and from the disk, whatever the turn answers.
         ensures any_start { AtEachMoment D.moment D.images_since (disk_of self.old) (disk_of self.new) IsStartable }

@@ -16,7 +16,7 @@ ghost use Rattle.node_disk.specs.declared.err.Unwritten.TheVariants as unwritten
 ghost use Rattle.node_disk.specs.Effects.{GoesUncut};
 ghost use Rattle.node_disk.specs.Cuts.{AtCut, AtStop, CutsShort, stops as stops_by, Stops};
 ghost use Rattle.node_disk.specs.Starts.{IsStartable, IsButForAcks, stored_next};
-ghost use Rattle.node_disk.specs.OnDisk.{StandsOn, MayStand};
+ghost use Rattle.node_disk.specs.OnDisk.{StandsOn, ImageHolds};
 ghost use Rattle.node_disk.specs.Calls.{HasWritten, CutLeaves};
 
 use crate::effects::DurableTurn;
@@ -51,7 +51,7 @@ pub(crate) fn unserved<D: Disk>(log: &RecordLog<D>) -> TurnErr
     requires { IsOnly (D.content (disk_of log.now)) (D.images (disk_of log.now)) }
     ensures why { result ≡ turns.NoMemory }
     ensures any_moment { (w : Option RedoRecordBy) (rs : List RedoRecordBy) → HoldRecords rs (D.content (disk_of log.now))
-        → AtEachMoment D.moment D.images_since (disk_of log.now) (disk_of log.now) (MayStand rs w) }
+        → AtEachMoment D.moment D.images_since (disk_of log.now) (disk_of log.now) (ImageHolds rs w) }
     ensures any_start { (s : Stored) → StandsOn (D.content (disk_of log.now)) s → AtEachMoment D.moment D.images_since (disk_of log.now) (disk_of log.now) IsStartable }
 {
     leave(log);
@@ -70,7 +70,7 @@ fn append<D: Disk>(log: &mut RecordLog<D>, wrote: &Option<RedoRecord>) -> Result
 
     // A crash at any moment leaves the records from before, with this one or without.
     ensures any_moment { (rs : List RedoRecordBy) → HoldRecords rs (D.content (disk_of log.old))
-        → AtEachMoment D.moment D.images_since (disk_of log.old) (disk_of log.new) (MayStand rs wrote.now) }
+        → AtEachMoment D.moment D.images_since (disk_of log.old) (disk_of log.new) (ImageHolds rs wrote.now) }
 
     ensures failed { IsErrOf result appends.Fault → CutLeaves D.Disk cuts.InAppend wrote.now (disk_of log.old) (disk_of log.new) }
 
@@ -121,7 +121,7 @@ fn put<D: Disk>(
 
     // A crash at any moment leaves the records from before, with this one or without.
     ensures any_moment { (rs : List RedoRecordBy) → HoldRecords rs (D.content (disk_of log.old))
-        → AtEachMoment D.moment D.images_since (disk_of log.old) (disk_of log.new) (MayStand rs wrote.now) }
+        → AtEachMoment D.moment D.images_since (disk_of log.old) (disk_of log.new) (ImageHolds rs wrote.now) }
 
     ensures stops { IfErr result (AtStop (λ at. Stops points.now at passes)) }
     ensures leaves { IfErr result (AtStop (λ at. CutLeaves D.Disk at wrote.now (disk_of log.old) (disk_of log.new))) }
@@ -185,7 +185,7 @@ pub(crate) fn write<D: Disk>(
 
     // A crash at any moment leaves the records from before, with this one or without.
     ensures any_moment { (rs : List RedoRecordBy) → HoldRecords rs (D.content (disk_of log.old))
-        → AtEachMoment D.moment D.images_since (disk_of log.old) (disk_of log.new) (MayStand rs effects.wrote) }
+        → AtEachMoment D.moment D.images_since (disk_of log.old) (disk_of log.new) (ImageHolds rs effects.wrote) }
 
     // So a node can start from it, and after the turn the records say what the node stores.
     ensures any_start { (s : Stored) → StandsOn (D.content (disk_of log.old)) s → IfSome effects.wrote (IsNext s)

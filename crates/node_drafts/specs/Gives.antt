@@ -6,7 +6,7 @@ use Rattle.node_rules.specs.NodeState.{NodeState, Branch, TurnDraft as DraftByRu
 use Rattle.node_drafts.specs.declared.draft.TurnDraft.{TurnDraft}
 
 -- The state after a turn, its record, its messages and the calls that it ends are those of the rules.
-pub record Gives (d : DraftByRules) (new : NodeState) (draft : TurnDraft) : Type 0 where
+pub record GivesDraft (d : DraftByRules) (new : NodeState) (draft : TurnDraft) : Type 0 where
   pub after : new ≡ d.after
   pub wrote : draft.wrote ≡ d.wrote
   pub says : draft.says ≡ d.says

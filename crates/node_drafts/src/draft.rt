@@ -1,7 +1,7 @@
 //! What a turn does beside changing what the node keeps.
 ghost use Rattle.std.specs.Prelude.{◌≡◌, None, Some, [], ◌∷◌, IfOk};
 ghost use Rattle.node_rules.specs.NodeState.{NodeState, nothing as nothing_of, saying as saying_of, ending as ending_of};
-ghost use Rattle.node_drafts.specs.Gives.{Gives};
+ghost use Rattle.node_drafts.specs.Gives.{GivesDraft};
 
 use crate::answers::ended;
 use dtx_values::{Answer, Listing};
@@ -25,7 +25,7 @@ impl TurnDraft {
     /// Nothing is done.
     pub fn nothing(alloc: Global) -> TurnDraft
         ensures is { result ≡ record { wrote = None; says = []; ended = [] } }
-        ensures gives { (k : NodeState) → Gives (nothing_of k) k result }
+        ensures gives { (k : NodeState) → GivesDraft (nothing_of k) k result }
     {
         TurnDraft::saying(alloc, Listing::new(alloc))
     }
@@ -33,7 +33,7 @@ impl TurnDraft {
     /// Only messages are sent.
     pub fn saying(alloc: Global, says: Posts) -> TurnDraft
         ensures is { result ≡ record { wrote = None; says = says; ended = [] } }
-        ensures gives { (k : NodeState) → Gives (saying_of k says) k result }
+        ensures gives { (k : NodeState) → GivesDraft (saying_of k says) k result }
     {
         TurnDraft {
             wrote: None,
@@ -45,7 +45,7 @@ impl TurnDraft {
     /// Only a session's call ends. Fails where memory runs out.
     pub fn ending(alloc: Global, session: u32, answer: Answer) -> Result<TurnDraft, AllocError>
         ensures is { IfOk result (λ draft. draft ≡ record { wrote = None; says = []; ended = (record { session = session; answer = answer }) ∷ [] }) }
-        ensures gives { IfOk result (λ draft. (k : NodeState) → Gives (ending_of k session answer) k draft) }
+        ensures gives { IfOk result (λ draft. (k : NodeState) → GivesDraft (ending_of k session answer) k draft) }
     {
         let ended = ended(alloc, session, answer)?;
         Ok(TurnDraft {

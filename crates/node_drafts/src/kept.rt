@@ -3,7 +3,7 @@ ghost use Rattle.std.specs.Prelude.{◌≡◌, IfOk};
 ghost use Rattle.node_rules.specs.NodeState.{NodeState};
 ghost use Rattle.node_rules.specs.Commit.{commit_point_known as commit_point_known_of, on_commit_point_kept as on_commit_point_kept_of, on_prepare_kept as on_prepare_kept_of};
 ghost use Rattle.node_rules.specs.Recovery.{on_ask_kept as on_ask_kept_of};
-ghost use Rattle.node_drafts.specs.Gives.{Gives};
+ghost use Rattle.node_drafts.specs.Gives.{GivesDraft};
 
 use crate::TurnDraft;
 use crate::posts::post;
@@ -20,7 +20,7 @@ pub fn on_commit_point_kept(
     row: &KeptRow,
     from: BranchId,
 ) -> Result<TurnDraft, AllocError>
-    ensures { IfOk result (λ draft. (k : NodeState) → Gives (on_commit_point_kept_of k row.now from) k draft) }
+    ensures { IfOk result (λ draft. (k : NodeState) → GivesDraft (on_commit_point_kept_of k row.now from) k draft) }
 {
     match row.decision {
         None => Ok(TurnDraft::nothing(alloc)),
@@ -42,7 +42,7 @@ pub fn on_prepare_kept(
     row: &KeptRow,
     from: BranchId,
 ) -> Result<TurnDraft, AllocError>
-    ensures { IfOk result (λ draft. (k : NodeState) → Gives (on_prepare_kept_of k row.now from) k draft) }
+    ensures { IfOk result (λ draft. (k : NodeState) → GivesDraft (on_prepare_kept_of k row.now from) k draft) }
 {
     if is_asked_again(row, &from) {
         let says = post(alloc, row.me, from, Kind::Prepared)?;
@@ -54,7 +54,7 @@ pub fn on_prepare_kept(
 
 /// Ask at a kept branch: it tells its neighbours what it knows. Fails where memory runs out.
 pub fn on_ask_kept(alloc: Global, row: &KeptRow, from: BranchId) -> Result<TurnDraft, AllocError>
-    ensures { IfOk result (λ draft. (k : NodeState) → Gives (on_ask_kept_of k row.now from) k draft) }
+    ensures { IfOk result (λ draft. (k : NodeState) → GivesDraft (on_ask_kept_of k row.now from) k draft) }
 {
     let says = post(alloc, row.me, from, kept_told(row, &from).kind())?;
     Ok(TurnDraft::saying(alloc, says))

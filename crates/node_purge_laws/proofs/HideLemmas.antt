@@ -10,7 +10,7 @@ use Rattle.node_rules.specs.Force.{may_purge, hides, purge}
 use Rattle.node_rules.specs.NodeState.{NodeState, TurnOutput}
 use Rattle.node_rules.specs.Records.{applied, with_record}
 use Rattle.node_rules.specs.Turn.{turn_of}
-use Rattle.node_purge_laws.specs.PurgeLaws.{RowsLike, rows_of, IsLike, ActsLike, PurgesHideAlone, Shows, shown, PurgesChangeNothingShown}
+use Rattle.node_purge_laws.specs.PurgeLaws.{RowsLike, rows_of, IsLike, ActsLike, PurgesHideAlone, ShownByTurn, shown, PurgesChangeNothingShown}
 use Rattle.node_purge_laws.proofs.LikeLemmas.{purges_change_no_message}
 use Rattle.node_purge_laws.proofs.RowLikeLemmas.{OneLike}
 
@@ -42,7 +42,7 @@ pub purges_hide_alone : PurgesHideAlone
 unfolding turn_of
 purges_hide_alone p k n id = (purge_like k n true id, purge_like k n false id)
 
-one_shown : (o other : TurnOutput) (rest more : List Shows) → ActsLike o other → rest ≡ more
+one_shown : (o other : TurnOutput) (rest more : List ShownByTurn) → ActsLike o other → rest ≡ more
     → (record { wrote = other.wrote; sent = other.sent; ended = other.ended }) ∷ more ≡ (record { wrote = o.wrote; sent = o.sent; ended = o.ended }) ∷ rest
 one_shown o other rest more acts same = (let wrote = acts.wrote in let sent = acts.sent in let ended = acts.ended in cc)
 

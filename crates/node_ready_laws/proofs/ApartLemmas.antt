@@ -9,7 +9,7 @@ use Rattle.redo_record.specs.Rows.{has_neighbors}
 use Rattle.node_rules.specs.Data.{BranchId, KeptRow, Live, Doubt}
 use Rattle.node_rules.specs.Words.{same, is_item_of, item_at, put_item, drop_item}
 use Rattle.node_rules.specs.NodeState.{live_id, kept_row_id, doubt_id}
-use Rattle.node_ready_laws.specs.Ids.{last_seq, IsGiven, IsFree, AreApart}
+use Rattle.node_ready_laws.specs.Ids.{last_seq, IsGiven, IsUnkept, IdsAreApart}
 use Rattle.node_ready_laws.proofs.ListLemmas.{all_last, all_weaker, all_found, all_put, all_dropped, all_left, all_placed, none_of, not_found, new_id}
 use Rattle.node_ready_laws.proofs.GivenLemmas.{given_still}
 
@@ -25,57 +25,57 @@ other_way a b other = by (same b a) refl
     by true is = let one : same a b ≡ true = same_from_equal a b (sym (equal_from_same b a is)) in absurd cc
     by false is = refl
 
-module _ (boot : ℕ) (seqs : List ℕ) (opened : ℕ) (lives : List Live) (kept : List KeptRow) (doubts : List Doubt) (now : AreApart boot seqs opened lives kept doubts) where
+module _ (boot : ℕ) (seqs : List ℕ) (opened : ℕ) (lives : List Live) (kept : List KeptRow) (doubts : List Doubt) (now : IdsAreApart boot seqs opened lives kept doubts) where
   -- a branch that is live
   pub live_given : (b : BranchId) (l : Live) → item_at live_id lives b ≡ Some l → IsGiven boot seqs opened b
   live_given b l found = subst (IsGiven boot seqs opened) (item_is live_id lives b l found) (all_found (λ x. IsGiven boot seqs opened x.me) (is_item_of live_id b) lives l now.live_given found)
 
-  pub live_free : (b : BranchId) (l : Live) → item_at live_id lives b ≡ Some l → IsFree kept doubts b
-  live_free b l found = subst (IsFree kept doubts) (item_is live_id lives b l found) (all_found (λ x. IsFree kept doubts x.me) (is_item_of live_id b) lives l now.free found)
+  pub live_free : (b : BranchId) (l : Live) → item_at live_id lives b ≡ Some l → IsUnkept kept doubts b
+  live_free b l found = subst (IsUnkept kept doubts) (item_is live_id lives b l found) (all_found (λ x. IsUnkept kept doubts x.me) (is_item_of live_id b) lives l now.free found)
 
   -- an id that was not given out is of no branch
-  pub unused : (b : BranchId) → (IsGiven boot seqs opened b → ⊥) → IsFree kept doubts b
+  pub unused : (b : BranchId) → (IsGiven boot seqs opened b → ⊥) → IsUnkept kept doubts b
   unused b new = (new_id kept_row_id b (IsGiven boot seqs opened) kept now.kept_given new, new_id doubt_id b (IsGiven boot seqs opened) doubts now.doubts_given new)
 
   -- a live branch is changed
-  pub changed : (l : Live) → IsGiven boot seqs opened l.me → IsFree kept doubts l.me → AreApart boot seqs opened (put_item live_id lives l) kept doubts
+  pub changed : (l : Live) → IsGiven boot seqs opened l.me → IsUnkept kept doubts l.me → IdsAreApart boot seqs opened (put_item live_id lives l) kept doubts
   changed l given free = record {
     sessions = now.sessions;
     live_given = all_put (λ x. IsGiven boot seqs opened x.me) live_id lives l now.live_given given;
     kept_given = now.kept_given;
     doubts_given = now.doubts_given;
-    free = all_put (λ x. IsFree kept doubts x.me) live_id lives l now.free free;
+    free = all_put (λ x. IsUnkept kept doubts x.me) live_id lives l now.free free;
   }
 
   -- it leaves
-  pub left : (b : BranchId) → AreApart boot seqs opened (drop_item live_id lives b) kept doubts
+  pub left : (b : BranchId) → IdsAreApart boot seqs opened (drop_item live_id lives b) kept doubts
   left b = record {
     sessions = now.sessions;
     live_given = all_dropped (λ x. IsGiven boot seqs opened x.me) live_id lives b now.live_given;
     kept_given = now.kept_given;
     doubts_given = now.doubts_given;
-    free = all_dropped (λ x. IsFree kept doubts x.me) live_id lives b now.free;
+    free = all_dropped (λ x. IsUnkept kept doubts x.me) live_id lives b now.free;
   }
 
   -- one begins, with an id that is new
   pub grown : (more : List ℕ) (later : ℕ) (x : Live) → length more ≡ 64 → ((n : ℕ) → last_seq seqs n ≤ last_seq more n) → opened ≤ later → (IsGiven boot seqs opened x.me → ⊥) → IsGiven boot more later x.me
-      → AreApart boot more later (lives ++ x ∷ []) kept doubts
+      → IdsAreApart boot more later (lives ++ x ∷ []) kept doubts
   grown more later x many rise links new given = record {
     sessions = many;
     live_given = all_last (λ l. IsGiven boot more later l.me) lives x (all_weaker (λ l. IsGiven boot seqs opened l.me) (λ l. IsGiven boot more later l.me) (λ l is. given_still more later rise links is) lives now.live_given) given;
     kept_given = all_weaker (λ s. IsGiven boot seqs opened s.me) (λ s. IsGiven boot more later s.me) (λ s is. given_still more later rise links is) kept now.kept_given;
     doubts_given = all_weaker (λ d. IsGiven boot seqs opened d.branch) (λ d. IsGiven boot more later d.branch) (λ d is. given_still more later rise links is) doubts now.doubts_given;
-    free = all_last (λ l. IsFree kept doubts l.me) lives x now.free (unused x.me new);
+    free = all_last (λ l. IsUnkept kept doubts l.me) lives x now.free (unused x.me new);
   }
 
   -- rows and doubts are of branches that had such before
-  pub fewer : (less : List KeptRow) (few : List Doubt) → AreAmong kept_row_id kept less → AreAmong doubt_id doubts few → AreApart boot seqs opened lives less few
+  pub fewer : (less : List KeptRow) (few : List Doubt) → AreAmong kept_row_id kept less → AreAmong doubt_id doubts few → IdsAreApart boot seqs opened lives less few
   fewer less few rows held = record {
     sessions = now.sessions;
     live_given = now.live_given;
     kept_given = rows (IsGiven boot seqs opened) now.kept_given;
     doubts_given = held (IsGiven boot seqs opened) now.doubts_given;
-    free = all_weaker (λ l. IsFree kept doubts l.me) (λ l. IsFree less few l.me)
+    free = all_weaker (λ l. IsUnkept kept doubts l.me) (λ l. IsUnkept less few l.me)
         (λ l is. (not_found kept_row_id l.me less (rows (λ b. same b l.me ≡ false) (none_of kept_row_id l.me kept is.0)), not_found doubt_id l.me few (held (λ b. same b l.me ≡ false) (none_of doubt_id l.me doubts is.1))))
         lives now.free;
   }
@@ -86,32 +86,32 @@ module _ (boot : ℕ) (seqs : List ℕ) (opened : ℕ) (lives : List Live) (kept
     row_free b none other = not_found kept_row_id b (add_kept kept s) (all_placed (λ x. same x.me b ≡ false) kept_row_id kept s (none_of kept_row_id b kept none) (other_way b s.me other))
 
     -- a live branch leaves, and is kept from now on
-    gets_row : AreApart boot seqs opened (drop_item live_id lives s.me) (add_kept kept s) doubts
+    gets_row : IdsAreApart boot seqs opened (drop_item live_id lives s.me) (add_kept kept s) doubts
     gets_row = record {
       sessions = now.sessions;
       live_given = all_dropped (λ x. IsGiven boot seqs opened x.me) live_id lives s.me now.live_given;
       kept_given = all_placed (λ x. IsGiven boot seqs opened x.me) kept_row_id kept s now.kept_given given;
       doubts_given = now.doubts_given;
-      free = all_weaker (λ l. IsFree kept doubts l.me × (same l.me s.me ≡ false)) (λ l. IsFree (add_kept kept s) doubts l.me) (λ l is. (row_free l.me is.0.0 is.1, is.0.1)) (drop_item live_id lives s.me)
-          (all_left (λ l. IsFree kept doubts l.me) live_id lives s.me now.free);
+      free = all_weaker (λ l. IsUnkept kept doubts l.me × (same l.me s.me ≡ false)) (λ l. IsUnkept (add_kept kept s) doubts l.me) (λ l is. (row_free l.me is.0.0 is.1, is.0.1)) (drop_item live_id lives s.me)
+          (all_left (λ l. IsUnkept kept doubts l.me) live_id lives s.me now.free);
     }
 
     -- so does one that has decided, if it has neighbours
-    pub decided : AreApart boot seqs opened (drop_item live_id lives s.me) (keep_decided kept s) doubts
-    decided = cond_both (has_neighbors s) (add_kept kept s) kept (λ ks. AreApart boot seqs opened (drop_item live_id lives s.me) ks doubts) (λ some. gets_row) (λ none. left s.me)
+    pub decided : IdsAreApart boot seqs opened (drop_item live_id lives s.me) (keep_decided kept s) doubts
+    decided = cond_both (has_neighbors s) (add_kept kept s) kept (λ ks. IdsAreApart boot seqs opened (drop_item live_id lives s.me) ks doubts) (λ some. gets_row) (λ none. left s.me)
 
     -- a sealed one is in doubt too
-    pub sealed : (d : Doubt) → d.branch ≡ s.me → AreApart boot seqs opened (drop_item live_id lives s.me) (add_kept kept s) (doubts ++ d ∷ [])
+    pub sealed : (d : Doubt) → d.branch ≡ s.me → IdsAreApart boot seqs opened (drop_item live_id lives s.me) (add_kept kept s) (doubts ++ d ∷ [])
     sealed d one = record {
       sessions = gets_row.sessions;
       live_given = gets_row.live_given;
       kept_given = gets_row.kept_given;
       doubts_given = all_last (λ x. IsGiven boot seqs opened x.branch) doubts d now.doubts_given (subst (IsGiven boot seqs opened) (sym one) given);
-      free = all_weaker (λ l. IsFree kept doubts l.me × (same l.me s.me ≡ false)) (λ l. IsFree (add_kept kept s) (doubts ++ d ∷ []) l.me)
+      free = all_weaker (λ l. IsUnkept kept doubts l.me × (same l.me s.me ≡ false)) (λ l. IsUnkept (add_kept kept s) (doubts ++ d ∷ []) l.me)
           (λ l is. (
             row_free l.me is.0.0 is.1,
             not_found doubt_id l.me (doubts ++ d ∷ [])
                 (all_last (λ x. same x.branch l.me ≡ false) doubts d (none_of doubt_id l.me doubts is.0.1) (subst (λ b. same b l.me ≡ false) (sym one) (other_way l.me s.me is.1))),
           ))
-          (drop_item live_id lives s.me) (all_left (λ l. IsFree kept doubts l.me) live_id lives s.me now.free);
+          (drop_item live_id lives s.me) (all_left (λ l. IsUnkept kept doubts l.me) live_id lives s.me now.free);
     }

@@ -32,7 +32,7 @@ use Rattle.node_rules.proofs.StandLemmas.{live_so}
 use Rattle.node_rules.proofs.StepLemmas.{IsLive, asked_live, acting_live, made_so}
 use Rattle.node_rules.proofs.SessionLemmas.{seqs, session_seq, set_seqs, call_seqs, needs_seqs, ended_seqs, pends_seqs, answered_seqs, heard_seqs, decided_seqs, abandoned_seqs, ended_if_seqs, still_seqs}
 use Rattle.node_rules.proofs.TurnLemmas.{step_of}
-use Rattle.node_ready_laws.specs.Ids.{last_seq, IsGiven, Before_start, In_session, Over_link, IsFree, AreApart, HasOwnIds, IdsStay, NoIdsAtFirst, LivesAreFree, NewIdsAreNew}
+use Rattle.node_ready_laws.specs.Ids.{last_seq, IsGiven, Before_start, In_session, Over_link, IsUnkept, IdsAreApart, HasOwnIds, IdsStay, NoIdsAtFirst, LivesAreFree, NewIdsAreNew}
 use Rattle.node_ready_laws.proofs.ListLemmas.{all_put, all_found, new_id}
 use Rattle.node_ready_laws.proofs.GivenLemmas.{seqs_rise, seq_set}
 use Rattle.node_ready_laws.proofs.ApartLemmas.{live_given, live_free, unused, changed, left, grown, fewer, decided, sealed}
@@ -40,12 +40,12 @@ use Rattle.node_ready_laws.proofs.RecordIdLemmas.{AddsNone, apart_after}
 
 module _ (k : NodeState) (now : HasOwnIds k) where
   -- with sessions whose numbers are the same
-  pub still : (ss : List Session) → seqs ss ≡ seqs k.sessions → AreApart k.stored.durable.boot (seqs ss) (length k.opens) k.lives k.stored.durable.kept k.stored.doubts
-  still ss numbers = subst (λ ms. AreApart k.stored.durable.boot ms (length k.opens) k.lives k.stored.durable.kept k.stored.doubts) (sym numbers) now
+  pub still : (ss : List Session) → seqs ss ≡ seqs k.sessions → IdsAreApart k.stored.durable.boot (seqs ss) (length k.opens) k.lives k.stored.durable.kept k.stored.doubts
+  still ss numbers = subst (λ ms. IdsAreApart k.stored.durable.boot ms (length k.opens) k.lives k.stored.durable.kept k.stored.doubts) (sym numbers) now
 
   module _ (ss : List Session) (numbers : seqs ss ≡ seqs k.sessions) where
     -- with a live branch changed
-    with_changed : (l : Live) → IsLive k l.me → AreApart k.stored.durable.boot (seqs ss) (length k.opens) (put_item live_id k.lives l) k.stored.durable.kept k.stored.doubts
+    with_changed : (l : Live) → IsLive k l.me → IdsAreApart k.stored.durable.boot (seqs ss) (length k.opens) (put_item live_id k.lives l) k.stored.durable.kept k.stored.doubts
     with_changed l live =
         let here = still ss numbers in
         changed k.stored.durable.boot (seqs ss) (length k.opens) k.lives k.stored.durable.kept k.stored.doubts here l
@@ -53,16 +53,16 @@ module _ (k : NodeState) (now : HasOwnIds k) where
         (live_free k.stored.durable.boot (seqs ss) (length k.opens) k.lives k.stored.durable.kept k.stored.doubts here l.me live.0 live.1)
 
     -- without one
-    without_live : (b : BranchId) → AreApart k.stored.durable.boot (seqs ss) (length k.opens) (drop_item live_id k.lives b) k.stored.durable.kept k.stored.doubts
+    without_live : (b : BranchId) → IdsAreApart k.stored.durable.boot (seqs ss) (length k.opens) (drop_item live_id k.lives b) k.stored.durable.kept k.stored.doubts
     without_live b = left k.stored.durable.boot (seqs ss) (length k.opens) k.lives k.stored.durable.kept k.stored.doubts (still ss numbers) b
 
     -- with a record by which no branch is kept
-    recorded : (r : RedoRecord) → AddsNone r → AreApart (applied k.stored r).durable.boot (seqs ss) (length k.opens) k.lives (applied k.stored r).durable.kept (applied k.stored r).doubts
+    recorded : (r : RedoRecord) → AddsNone r → IdsAreApart (applied k.stored r).durable.boot (seqs ss) (length k.opens) k.lives (applied k.stored r).durable.kept (applied k.stored r).doubts
     recorded r none = apart_after k.stored (seqs ss) (length k.opens) k.lives r none (still ss numbers)
 
     -- a live branch is sealed
     with_sealed : (l : Live) (path : Option ℕ) → IsLive k l.me
-        → AreApart (applied k.stored (sealed_record k l path)).durable.boot (seqs ss) (length k.opens) (drop_item live_id k.lives l.me) (applied k.stored (sealed_record k l path)).durable.kept (applied k.stored (sealed_record k l path)).doubts
+        → IdsAreApart (applied k.stored (sealed_record k l path)).durable.boot (seqs ss) (length k.opens) (drop_item live_id k.lives l.me) (applied k.stored (sealed_record k l path)).durable.kept (applied k.stored (sealed_record k l path)).doubts
     unfolding applied durable_after kept_after
     with_sealed l path live =
         let here = still ss numbers in
@@ -72,7 +72,7 @@ module _ (k : NodeState) (now : HasOwnIds k) where
 
     -- or decides
     with_decided : (l : Live) → IsLive k l.me
-        → AreApart (applied k.stored (decided_record k l)).durable.boot (seqs ss) (length k.opens) (drop_item live_id k.lives l.me) (applied k.stored (decided_record k l)).durable.kept (applied k.stored (decided_record k l)).doubts
+        → IdsAreApart (applied k.stored (decided_record k l)).durable.boot (seqs ss) (length k.opens) (drop_item live_id k.lives l.me) (applied k.stored (decided_record k l)).durable.kept (applied k.stored (decided_record k l)).doubts
     unfolding applied durable_after kept_after
     with_decided l live =
         let here = still ss numbers in
@@ -80,7 +80,7 @@ module _ (k : NodeState) (now : HasOwnIds k) where
         (live_given k.stored.durable.boot (seqs ss) (length k.opens) k.lives k.stored.durable.kept k.stored.doubts here l.me live.0 live.1)
 
   -- an Ack is noted
-  pub with_ack : (s : KeptRow) (from : BranchId) → IsKept k s → AreApart k.stored.durable.boot (seqs k.sessions) (length k.opens) k.lives (put_item kept_row_id k.stored.durable.kept (acked_by s from)) k.stored.doubts
+  pub with_ack : (s : KeptRow) (from : BranchId) → IsKept k s → IdsAreApart k.stored.durable.boot (seqs k.sessions) (length k.opens) k.lives (put_item kept_row_id k.stored.durable.kept (acked_by s from)) k.stored.doubts
   with_ack s from kept =
       fewer k.stored.durable.boot (seqs k.sessions) (length k.opens) k.lives k.stored.durable.kept k.stored.doubts now (put_item kept_row_id k.stored.durable.kept (acked_by s from)) k.stored.doubts
       (λ P all. all_put (λ x. P x.me) kept_row_id k.stored.durable.kept (acked_by s from) all (all_found (λ x. P x.me) (is_item_of kept_row_id s.me) k.stored.durable.kept s all kept)) (λ P all. all)
@@ -103,7 +103,7 @@ module _ (k : NodeState) (now : HasOwnIds k) where
       let root : BranchId = new_root p k n in
       let set : seqs (with_root k.sessions n root) ≡ set_numbered (seqs k.sessions) n root.seq = set_seqs k.sessions n _ in
       let was : (session_at k.sessions n).seq ≡ last_seq (seqs k.sessions) n = session_seq k.sessions n in
-      subst (λ ms. AreApart k.stored.durable.boot ms (length k.opens) (begun_by p k n None).lives k.stored.durable.kept k.stored.doubts) (sym set)
+      subst (λ ms. IdsAreApart k.stored.durable.boot ms (length k.opens) (begun_by p k n None).lives k.stored.durable.kept k.stored.doubts) (sym set)
       (grown k.stored.durable.boot (seqs k.sessions) (length k.opens) k.lives k.stored.durable.kept k.stored.doubts now (set_numbered (seqs k.sessions) n root.seq) (length k.opens) _
       (set_length (seqs k.sessions) n root.seq ∙ now.sessions) (seqs_rise (seqs k.sessions) n root.seq (omega (arith, was))) (omega arith) (root_is_new p n fit.1)
       (In_session refl fit.1 (let is : last_seq (set_numbered (seqs k.sessions) n root.seq) n ≡ root.seq = seq_set (seqs k.sessions) n root.seq fit now.sessions in omega (arith, is))))
@@ -115,9 +115,9 @@ module _ (k : NodeState) (now : HasOwnIds k) where
       grown k.stored.durable.boot (seqs k.sessions) (length k.opens) k.lives k.stored.durable.kept k.stored.doubts now (seqs k.sessions) (length (opens_branch p k parent edge root depth).opens) _
       now.sessions (λ n. omega arith) (omega (arith, more)) (child_is_new p) (Over_link refl (omega arith) (omega (arith, more)))
 
-  new_ids : (p : Place) → ((live_at k (next_child p k) ≡ None) × IsFree k.stored.durable.kept k.stored.doubts (next_child p k)) × ((n : ℕ) → IsSession n → (live_at k (new_root p k n) ≡ None) × IsFree k.stored.durable.kept k.stored.doubts (new_root p k n))
+  new_ids : (p : Place) → ((live_at k (next_child p k) ≡ None) × IsUnkept k.stored.durable.kept k.stored.doubts (next_child p k)) × ((n : ℕ) → IsSession n → (live_at k (new_root p k n) ≡ None) × IsUnkept k.stored.durable.kept k.stored.doubts (new_root p k n))
   new_ids p =
-      let free : (b : BranchId) → (IsGiven k.stored.durable.boot (seqs k.sessions) (length k.opens) b → ⊥) → (live_at k b ≡ None) × IsFree k.stored.durable.kept k.stored.doubts b
+      let free : (b : BranchId) → (IsGiven k.stored.durable.boot (seqs k.sessions) (length k.opens) b → ⊥) → (live_at k b ≡ None) × IsUnkept k.stored.durable.kept k.stored.doubts b
       = λ b new. (new_id live_id b (IsGiven k.stored.durable.boot (seqs k.sessions) (length k.opens)) k.lives now.live_given new, unused k.stored.durable.boot (seqs k.sessions) (length k.opens) k.lives k.stored.durable.kept k.stored.doubts now b new) in
       (free (next_child p k) (child_is_new p), λ n fit. free (new_root p k n) (root_is_new p n fit.1))
 

@@ -10,7 +10,7 @@ use Rattle.node_rules.specs.Data.params
 use Rattle.node_rules.specs.Rows.{TableRows}
 use Rattle.node_rules.specs.NodeState.{Stored, kept_row_id, doubt_id}
 use Rattle.node_rules.specs.Records.{doubts_after, applied}
-use Rattle.node_ready_laws.specs.Ids.{AreApart}
+use Rattle.node_ready_laws.specs.Ids.{IdsAreApart}
 use Rattle.node_ready_laws.proofs.ListLemmas.{all_dropped, all_filtered, all_changed}
 use Rattle.node_ready_laws.proofs.ApartLemmas.{AreAmong, fewer}
 
@@ -66,9 +66,9 @@ doubts_among rows ds (records.Sealed r) none P all = absurd none
 doubts_among rows ds _ none P all = all
 
 -- the ids of branches are their own after such a record
-pub apart_after : (s : Stored) (seqs : List ℕ) (opened : ℕ) (lives : List Live) (r : RedoRecord) → AddsNone r → AreApart s.durable.boot seqs opened lives s.durable.kept s.doubts
-    → AreApart (applied s r).durable.boot seqs opened lives (applied s r).durable.kept (applied s r).doubts
+pub apart_after : (s : Stored) (seqs : List ℕ) (opened : ℕ) (lives : List Live) (r : RedoRecord) → AddsNone r → IdsAreApart s.durable.boot seqs opened lives s.durable.kept s.doubts
+    → IdsAreApart (applied s r).durable.boot seqs opened lives (applied s r).durable.kept (applied s r).doubts
 unfolding applied
 apart_after s seqs opened lives r none now =
-    subst (λ boot. AreApart boot seqs opened lives (durable_after s.durable r).kept (doubts_after s.rows s.doubts r)) (sym (boot_still s.durable r none))
+    subst (λ boot. IdsAreApart boot seqs opened lives (durable_after s.durable r).kept (doubts_after s.rows s.doubts r)) (sym (boot_still s.durable r none))
     (fewer s.durable.boot seqs opened lives s.durable.kept s.doubts now (durable_after s.durable r).kept (doubts_after s.rows s.doubts r) (rows_among s.durable r none) (doubts_among s.rows s.doubts r none))

@@ -32,7 +32,7 @@ use Rattle.node_rules.proofs.Steps.{Step, Asked, Acting}
 use Rattle.node_rules.proofs.StepLemmas.{acting_so}
 use Rattle.node_rules.proofs.LiveLemmas.{each_put, each_changed, each_left, each_begun, branch_parts, work_is}
 use Rattle.node_rules.proofs.TurnLemmas.{step_of}
-use Rattle.node_ready_laws.specs.Shapes.{count_limit, HasRoomFor, HasRoom, IsShaped, HasShape, BringsFew, ShapesStay}
+use Rattle.node_ready_laws.specs.Shapes.{count_limit, HasRoomFor, LinksAllow, IsShaped, HasShape, BringsFew, ShapesStay}
 use Rattle.node_ready_laws.proofs.ListLemmas.{all_append}
 
 -- ---- a link that is used for the first time
@@ -77,7 +77,7 @@ waits_within : (links n : ℕ) (w : Waits) → HasRoomFor links n w → n ≤ li
 waits_within links n (waiting.ForOpened link) has = omega (arith, has)
 waits_within links n (waiting.ForReply i) has = has
 
-pub within : (links n : ℕ) (o : Option Going) → HasRoom links n o → n ≤ links
+pub within : (links n : ℕ) (o : Option Going) → LinksAllow links n o → n ≤ links
 within links n None has = has
 within links n (Some g) has = waits_within links n g.waits has
 
@@ -139,7 +139,7 @@ module _ (links : ℕ) (k : NodeState) (now : EachLive (IsShaped links) k.lives 
   linked : (x : Branch) (e : Edge) (g : Going) (link : List ℕ) → branch_at k x.live.me ≡ Some x → x.work.going ≡ Some g → g.waits ≡ waiting.ForOpened link → e.count ≤ count_limit → Before (with_edge x e)
   linked x e g link live going waits few =
       let is = shape_at x live in
-      let room : HasRoom links (length x.live.edges) (Some g) = subst (HasRoom links (length x.live.edges)) going is.room in
+      let room : LinksAllow links (length x.live.edges) (Some g) = subst (LinksAllow links (length x.live.edges)) going is.room in
       let one : length x.live.edges + 1 ≤ links = subst (HasRoomFor links (length x.live.edges)) waits room in
       record {
         few = omega (arith, one, length-append x.live.edges (e ∷ []));
@@ -155,8 +155,8 @@ module _ (links : ℕ) (k : NodeState) (now : EachLive (IsShaped links) k.lives 
   acts_so : {input : Input} {l : Live} {site_below : Bool} {a : Act} → Acting k input l site_below a → Shape l
   acts_so why =
       acting_so Shape
-      (λ l comment site_below is. record { room = subst (λ n. HasRoom links n (works_of k.works l.me).going) (sym (length-map l.edges with_prepare_sent)) is.room; counts = asked_few l.edges is.counts; numbers = is.numbers ∙ sym (length-map l.edges with_prepare_sent) })
-      (λ l from v is. record { room = subst (λ n. HasRoom links n (works_of k.works l.me).going) (sym (length-map l.edges (has_voted from v))) is.room; counts = voted_few from v l.edges is.counts; numbers = is.numbers ∙ sym (length-map l.edges (has_voted from v)) })
+      (λ l comment site_below is. record { room = subst (λ n. LinksAllow links n (works_of k.works l.me).going) (sym (length-map l.edges with_prepare_sent)) is.room; counts = asked_few l.edges is.counts; numbers = is.numbers ∙ sym (length-map l.edges with_prepare_sent) })
+      (λ l from v is. record { room = subst (λ n. LinksAllow links n (works_of k.works l.me).going) (sym (length-map l.edges (has_voted from v))) is.room; counts = voted_few from v l.edges is.counts; numbers = is.numbers ∙ sym (length-map l.edges (has_voted from v)) })
       (λ b l found. subst (λ m. IsShaped links l (works_of k.works m)) (sym (item_is live_id k.lives b l found)) (now.each b l found)) why
 
   gone : (b : BranchId) → EachLive (IsShaped links) (without_branch k b).lives (without_branch k b).works

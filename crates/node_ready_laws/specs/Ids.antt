@@ -20,20 +20,20 @@ pub data IsGiven (boot : ℕ) (seqs : List ℕ) (opened : ℕ) (b : BranchId) : 
   Over_link : b.boot ≡ boot → 65 ≤ b.session → b.session < 65 + opened → IsGiven boot seqs opened b
 
 -- neither kept nor in doubt
-abbrev pub IsFree : List KeptRow → List Doubt → BranchId → Type 0
-IsFree kept doubts b = (item_at kept_row_id kept b ≡ None) × (item_at doubt_id doubts b ≡ None)
+abbrev pub IsUnkept : List KeptRow → List Doubt → BranchId → Type 0
+IsUnkept kept doubts b = (item_at kept_row_id kept b ≡ None) × (item_at doubt_id doubts b ≡ None)
 
 -- 64 sessions, branches whose ids were given out, and live ones that are neither kept nor in doubt.
-pub record AreApart (boot : ℕ) (seqs : List ℕ) (opened : ℕ) (lives : List Live) (kept : List KeptRow) (doubts : List Doubt) : Type 0 where
+pub record IdsAreApart (boot : ℕ) (seqs : List ℕ) (opened : ℕ) (lives : List Live) (kept : List KeptRow) (doubts : List Doubt) : Type 0 where
   pub sessions : length seqs ≡ 64
   pub live_given : AllByRecursion (λ l. IsGiven boot seqs opened l.me) lives
   pub kept_given : AllByRecursion (λ s. IsGiven boot seqs opened s.me) kept
   pub doubts_given : AllByRecursion (λ d. IsGiven boot seqs opened d.branch) doubts
-  pub free : AllByRecursion (λ l. IsFree kept doubts l.me) lives
+  pub free : AllByRecursion (λ l. IsUnkept kept doubts l.me) lives
 
 -- a node whose branches are so
 abbrev pub HasOwnIds : NodeState → Type 0
-HasOwnIds k = AreApart k.stored.durable.boot (map (λ s. s.seq) k.sessions) (length k.opens) k.lives k.stored.durable.kept k.stored.doubts
+HasOwnIds k = IdsAreApart k.stored.durable.boot (map (λ s. s.seq) k.sessions) (length k.opens) k.lives k.stored.durable.kept k.stored.doubts
 
 -- each turn leaves them so
 abbrev pub IdsStay : Type 0
@@ -45,10 +45,10 @@ NoIdsAtFirst = HasOwnIds made
 
 -- a branch that is live is neither kept nor in doubt
 abbrev pub LivesAreFree : Type 0
-LivesAreFree = (k : NodeState) (b : BranchId) (l : Live) → HasOwnIds k → live_at k b ≡ Some l → IsFree k.stored.durable.kept k.stored.doubts b
+LivesAreFree = (k : NodeState) (b : BranchId) (l : Live) → HasOwnIds k → live_at k b ≡ Some l → IsUnkept k.stored.durable.kept k.stored.doubts b
 
 -- an id that is given out next is of no branch
 abbrev pub NewIdsAreNew : Type 0
 NewIdsAreNew = (p : Place) (k : NodeState) → HasOwnIds k
-    → ((live_at k (next_child p k) ≡ None) × IsFree k.stored.durable.kept k.stored.doubts (next_child p k))
-    × ((n : ℕ) → IsSession n → (live_at k (new_root p k n) ≡ None) × IsFree k.stored.durable.kept k.stored.doubts (new_root p k n))
+    → ((live_at k (next_child p k) ≡ None) × IsUnkept k.stored.durable.kept k.stored.doubts (next_child p k))
+    × ((n : ℕ) → IsSession n → (live_at k (new_root p k n) ≡ None) × IsUnkept k.stored.durable.kept k.stored.doubts (new_root p k n))

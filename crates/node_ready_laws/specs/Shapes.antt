@@ -24,13 +24,13 @@ HasRoomFor links children (waiting.ForOpened link) = children + 1 ≤ links
 HasRoomFor links children (waiting.ForReply i) = children ≤ links
 
 -- no more children than LINKS allows
-abbrev pub HasRoom : ℕ → ℕ → Option Going → Type 0
-HasRoom links children None = children ≤ links
-HasRoom links children (Some g) = HasRoomFor links children g.waits
+abbrev pub LinksAllow : ℕ → ℕ → Option Going → Type 0
+LinksAllow links children None = children ≤ links
+LinksAllow links children (Some g) = HasRoomFor links children g.waits
 
 -- A branch whose children and calls are so.
 pub record IsShaped (links : ℕ) (l : Live) (w : Work) : Type 0 where
-  pub room : HasRoom links (length l.edges) w.going
+  pub room : LinksAllow links (length l.edges) w.going
   pub counts : AllByRecursion (λ e. e.count ≤ count_limit) l.edges
   pub numbers : length w.calls ≡ length l.edges
 

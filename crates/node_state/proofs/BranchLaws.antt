@@ -12,7 +12,7 @@ use Rattle.tran_ids.specs.contracts.branch.BranchIdPartialEq.TheImpl as of_key
 use Rattle.tran_ids.specs.contracts.branch.BranchIdEq.TheImpl.Laws.{laws-law}
 use Rattle.tran_ids.proofs.BranchLemmas.{equal_from_same, same_from_equal}
 use Rattle.tran_ids.proofs.ListedLemmas.{item_is, put_found}
-use Rattle.node_state.specs.ByBranch.{AreKeyed}
+use Rattle.node_state.specs.ByBranch.{KeysAreBranches}
 use Rattle.node_state.specs.Changed.{with_item, change_item}
 
 -- the test by which the map finds a key
@@ -32,7 +32,7 @@ module _ {A : Type 0} (id : A → BranchId) (P : A → Type 0) where
   -- ---- a look-up
 
   -- the item that is found
-  pub found : (b : BranchId) (es : List Entry) → AreKeyed id P es → lookup (found_as b) es ≡ item_at id (values_of es) b
+  pub found : (b : BranchId) (es : List Entry) → KeysAreBranches id P es → lookup (found_as b) es ≡ item_at id (values_of es) b
   found b [] keyed = refl
   found b (e ∷ es) keyed =
       ap (λ h. cond h (Some e.1) (lookup (found_as b) es)) (test_is b e keyed.0.0)
@@ -43,7 +43,7 @@ module _ {A : Type 0} (id : A → BranchId) (P : A → Type 0) where
   none_from (Some x) e = absurd (true≢false (sym e))
 
   -- where no key is found there is no item
-  pub none_there : (b : BranchId) (es : List Entry) → AreKeyed id P es → false ≡ is_some (lookup (found_as b) es) → item_at id (values_of es) b ≡ None
+  pub none_there : (b : BranchId) (es : List Entry) → KeysAreBranches id P es → false ≡ is_some (lookup (found_as b) es) → item_at id (values_of es) b ≡ None
   none_there b es keyed none = sym (found b es keyed) ∙ none_from (lookup (found_as b) es) none
 
   -- ---- an item that is put
@@ -54,22 +54,22 @@ module _ {A : Type 0} (id : A → BranchId) (P : A → Type 0) where
   put_step x false e es more rest later = ap (λ (xs : List A). e.1 ∷ xs) later
 
   -- under its branch's key
-  pub put_is : (x : A) (es : List Entry) → AreKeyed id P es → values_of (insert_entry found_as es (id x) x) ≡ put_item id (values_of es) x
+  pub put_is : (x : A) (es : List Entry) → KeysAreBranches id P es → values_of (insert_entry found_as es (id x) x) ≡ put_item id (values_of es) x
   put_is x [] keyed = refl
   put_is x (e ∷ es) keyed =
       ap (λ h. values_of (cond h ((e.0, x) ∷ es) (e ∷ insert_entry found_as es (id x) x))) (test_is (id x) e keyed.0.0)
       ∙ put_step x (same (id e.1) (id x)) e es _ _ (put_is x es keyed.1)
 
-  keyed_step : (x : A) (hit : Bool) (e : Entry) (es more : List Entry) → same (id e.1) (id x) ≡ hit → P x → AreKeyed id P (e ∷ es) → AreKeyed id P more
-      → AreKeyed id P (cond hit ((e.0, x) ∷ es) (e ∷ more))
+  keyed_step : (x : A) (hit : Bool) (e : Entry) (es more : List Entry) → same (id e.1) (id x) ≡ hit → P x → KeysAreBranches id P (e ∷ es) → KeysAreBranches id P more
+      → KeysAreBranches id P (cond hit ((e.0, x) ∷ es) (e ∷ more))
   keyed_step x true e es more is holds keyed later = ((keyed.0.0 ∙ equal_from_same (id e.1) (id x) is, holds), keyed.1)
   keyed_step x false e es more is holds keyed later = (keyed.0, later)
 
   -- the keys stay those of the items
-  pub keyed_put : (x : A) (es : List Entry) → P x → AreKeyed id P es → AreKeyed id P (insert_entry found_as es (id x) x)
+  pub keyed_put : (x : A) (es : List Entry) → P x → KeysAreBranches id P es → KeysAreBranches id P (insert_entry found_as es (id x) x)
   keyed_put x [] holds keyed = ((refl, holds), tt)
   keyed_put x (e ∷ es) holds keyed =
-      subst (λ h. AreKeyed id P (cond h ((e.0, x) ∷ es) (e ∷ insert_entry found_as es (id x) x))) (sym (test_is (id x) e keyed.0.0))
+      subst (λ h. KeysAreBranches id P (cond h ((e.0, x) ∷ es) (e ∷ insert_entry found_as es (id x) x))) (sym (test_is (id x) e keyed.0.0))
       (keyed_step x (same (id e.1) (id x)) e es _ refl holds keyed (keyed_put x es holds keyed.1))
 
   twice_step : (x y z : A) (xs : List A) → id x ≡ id y → (hit : Bool) → same (id z) (id x) ≡ hit → put_item id (put_item id xs x) y ≡ put_item id xs y
@@ -91,14 +91,14 @@ module _ {A : Type 0} (id : A → BranchId) (P : A → Type 0) where
   -- ---- an item that is changed at its place
 
   -- where a key is found, there its item stands
-  pub keyed_placed : (b : BranchId) (x : A) (es : List Entry) (i : ℕ) → position (found_as b) (keys_of es) ≡ Some i → id x ≡ b → AreKeyed id P es
+  pub keyed_placed : (b : BranchId) (x : A) (es : List Entry) (i : ℕ) → position (found_as b) (keys_of es) ≡ Some i → id x ≡ b → KeysAreBranches id P es
       → values_of (set_value_at es i x) ≡ put_item id (values_of es) x
   keyed_placed b x es i at is keyed =
       let there : position (found_as (id x)) (keys_of es) ≡ Some i = subst (λ c. position (found_as c) (keys_of es) ≡ Some i) (sym is) at in
       ap values_of (sym (insert_entry-first found_as (id x) x es i (Found-position (found_as (id x)) es i there).first)) ∙ put_is x es keyed
 
   -- the keys stay those of the items
-  pub still_keyed : (es : List Entry) (i : ℕ) (x y : A) → slice_get (values_of es) i ≡ Some x → id y ≡ id x → P y → AreKeyed id P es → AreKeyed id P (set_value_at es i y)
+  pub still_keyed : (es : List Entry) (i : ℕ) (x y : A) → slice_get (values_of es) i ≡ Some x → id y ≡ id x → P y → KeysAreBranches id P es → KeysAreBranches id P (set_value_at es i y)
   still_keyed [] i x y there is holds keyed = tt
   still_keyed (e ∷ es) zero x y there is holds keyed =
       let it : e.1 ≡ x = cc in
@@ -106,7 +106,7 @@ module _ {A : Type 0} (id : A → BranchId) (P : A → Type 0) where
   still_keyed (e ∷ es) (suc i) x y there is holds keyed = (keyed.0, still_keyed es i x y there is holds keyed.1)
 
   -- what holds of each item holds of one that is found
-  pub holds_there : (es : List Entry) (i : ℕ) (x : A) → slice_get (values_of es) i ≡ Some x → AreKeyed id P es → P x
+  pub holds_there : (es : List Entry) (i : ℕ) (x : A) → slice_get (values_of es) i ≡ Some x → KeysAreBranches id P es → P x
   holds_there [] i x there keyed = absurd cc
   holds_there (e ∷ es) zero x there keyed = let it : e.1 ≡ x = cc in subst P it keyed.0.1
   holds_there (e ∷ es) (suc i) x there keyed = holds_there es i x there keyed.1
@@ -116,7 +116,7 @@ module _ {A : Type 0} (id : A → BranchId) (P : A → Type 0) where
   holds_step e x false more there holds later = later there
 
   -- and of one that is looked up
-  pub holds_found : (test : BranchId → Bool) (es : List Entry) (x : A) → lookup test es ≡ Some x → AreKeyed id P es → P x
+  pub holds_found : (test : BranchId → Bool) (es : List Entry) (x : A) → lookup test es ≡ Some x → KeysAreBranches id P es → P x
   holds_found test [] x there keyed = absurd cc
   holds_found test (e ∷ es) x there keyed = holds_step e x (test e.0) (lookup test es) there keyed.0.1 (λ later. holds_found test es x later keyed.1)
 
@@ -127,31 +127,31 @@ module _ {A : Type 0} (id : A → BranchId) (P : A → Type 0) where
   same_set (e ∷ es) (suc i) x there = ap (λ (ds : List Entry). e ∷ ds) (same_set es i x there)
 
   -- another item of the branch at its place: the branch has one
-  pub placed_there : (b : BranchId) (x : A) (es : List Entry) (i : ℕ) → position (found_as b) (keys_of es) ≡ Some i → id x ≡ b → AreKeyed id P es
+  pub placed_there : (b : BranchId) (x : A) (es : List Entry) (i : ℕ) → position (found_as b) (keys_of es) ≡ Some i → id x ≡ b → KeysAreBranches id P es
       → item_at id (values_of (set_value_at es i x)) b ≡ Some x
   placed_there b x es i at is keyed =
       ap (λ xs. item_at id xs b) (keyed_placed b x es i at is keyed) ∙ subst (λ c. item_at id (put_item id (values_of es) x) c ≡ Some x) is (put_found id (values_of es) x)
 
   -- what is put there afterwards stands as if it had been put in the place of the first
-  pub placed_twice : (b : BranchId) (x y : A) (es : List Entry) (i : ℕ) → position (found_as b) (keys_of es) ≡ Some i → id x ≡ b → id y ≡ b → AreKeyed id P es
+  pub placed_twice : (b : BranchId) (x y : A) (es : List Entry) (i : ℕ) → position (found_as b) (keys_of es) ≡ Some i → id x ≡ b → id y ≡ b → KeysAreBranches id P es
       → put_item id (values_of (set_value_at es i x)) y ≡ put_item id (values_of es) y
   placed_twice b x y es i at is too keyed = ap (λ xs. put_item id xs y) (keyed_placed b x es i at is keyed) ∙ put_twice (values_of es) x y (is ∙ sym too)
 
   -- the branch's item changed at its place
   pub changed_is : (b : BranchId) (f : A → A) (es : List Entry) (i : ℕ) (x y : A) → position (found_as b) (keys_of es) ≡ Some i → lookup (found_as b) es ≡ Some x
-      → y ≡ f x → id (f x) ≡ id x → AreKeyed id P es → values_of (set_value_at es i y) ≡ change_item id f (values_of es) b
+      → y ≡ f x → id (f x) ≡ id x → KeysAreBranches id P es → values_of (set_value_at es i y) ≡ change_item id f (values_of es) b
   changed_is b f es i x y at there after keeps keyed =
       let item : item_at id (values_of es) b ≡ Some x = sym (found b es keyed) ∙ there in
       let mine : id y ≡ b = ap id after ∙ keeps ∙ item_is id (values_of es) b x item in
       keyed_placed b y es i at mine keyed ∙ ap (put_item id (values_of es)) after ∙ sym (ap (with_item id f (values_of es)) item)
 
   -- a branch that has none
-  pub unchanged_is : (b : BranchId) (f : A → A) (es : List Entry) → AreKeyed id P es → false ≡ is_some (lookup (found_as b) es) → values_of es ≡ change_item id f (values_of es) b
+  pub unchanged_is : (b : BranchId) (f : A → A) (es : List Entry) → KeysAreBranches id P es → false ≡ is_some (lookup (found_as b) es) → values_of es ≡ change_item id f (values_of es) b
   unchanged_is b f es keyed none = sym (ap (with_item id f (values_of es)) (none_there b es keyed none))
 
   -- ---- an item behind the others
 
-  pub keyed_push : (es : List Entry) (x : A) → P x → AreKeyed id P es → AreKeyed id P (es ++ (id x, x) ∷ [])
+  pub keyed_push : (es : List Entry) (x : A) → P x → KeysAreBranches id P es → KeysAreBranches id P (es ++ (id x, x) ∷ [])
   keyed_push [] x holds keyed = ((refl, holds), tt)
   keyed_push (e ∷ es) x holds keyed = (keyed.0, keyed_push es x holds keyed.1)
 
@@ -166,7 +166,7 @@ module _ {A : Type 0} (id : A → BranchId) (P : A → Type 0) where
   put_absent (y ∷ ys) x none = put_absent_step x (same (id y) (id x)) y ys none (put_absent ys x)
 
   -- and its key is not there
-  pub absent_from : (b : BranchId) (es : List Entry) → AreKeyed id P es → item_at id (values_of es) b ≡ None → lookup (found_as b) es ≡ None
+  pub absent_from : (b : BranchId) (es : List Entry) → KeysAreBranches id P es → item_at id (values_of es) b ≡ None → lookup (found_as b) es ≡ None
   absent_from b es keyed none = found b es keyed ∙ none
 
   -- ---- an item that is dropped
@@ -180,26 +180,26 @@ module _ {A : Type 0} (id : A → BranchId) (P : A → Type 0) where
     kept_step true e es hit later none = absurd cc
     kept_step false e es hit later none = ap (λ (xs : List A). e.1 ∷ xs) (later none)
 
-    kept : (es : List Entry) → AreKeyed id P es → lookup at es ≡ None → values_of es ≡ drop_item id (values_of es) b
+    kept : (es : List Entry) → KeysAreBranches id P es → lookup at es ≡ None → values_of es ≡ drop_item id (values_of es) b
     kept [] keyed none = refl
     kept (e ∷ es) keyed none = kept_step (same (id e.1) b) e es refl (kept es keyed.1) (ap (λ h. cond h (Some e.1) (lookup at es)) (sym (test_is b e keyed.0.0)) ∙ none)
 
-    dropped_step : (hit : Bool) (e : Entry) (es rest : List Entry) → AreKeyed id P es → at e.0 ≡ hit → (lookup at rest ≡ None → values_of rest ≡ drop_item id (values_of es) b)
+    dropped_step : (hit : Bool) (e : Entry) (es rest : List Entry) → KeysAreBranches id P es → at e.0 ≡ hit → (lookup at rest ≡ None → values_of rest ≡ drop_item id (values_of es) b)
         → lookup at (cond hit es (e ∷ rest)) ≡ None → values_of (cond hit es (e ∷ rest)) ≡ cond (not hit) (e.1 ∷ drop_item id (values_of es) b) (drop_item id (values_of es) b)
     dropped_step true e es rest keyed hit later none = kept es keyed none
     dropped_step false e es rest keyed hit later none = ap (λ (xs : List A). e.1 ∷ xs) (later (ap (λ h. cond h (Some e.1) (lookup at rest)) (sym hit) ∙ none))
 
     -- the map has no more of the branch
-    pub dropped_is : (es : List Entry) → AreKeyed id P es → lookup at (remove_entry at es) ≡ None → values_of (remove_entry at es) ≡ drop_item id (values_of es) b
+    pub dropped_is : (es : List Entry) → KeysAreBranches id P es → lookup at (remove_entry at es) ≡ None → values_of (remove_entry at es) ≡ drop_item id (values_of es) b
     dropped_is [] keyed none = refl
     dropped_is (e ∷ es) keyed none =
         dropped_step (at e.0) e es (remove_entry at es) keyed.1 refl (dropped_is es keyed.1) none
         ∙ ap (λ h. cond (not h) (e.1 ∷ drop_item id (values_of es) b) (drop_item id (values_of es) b)) (test_is b e keyed.0.0)
 
-    removed_step : (hit : Bool) (e : Entry) (es rest : List Entry) → AreKeyed id P (e ∷ es) → AreKeyed id P rest → AreKeyed id P (cond hit es (e ∷ rest))
+    removed_step : (hit : Bool) (e : Entry) (es rest : List Entry) → KeysAreBranches id P (e ∷ es) → KeysAreBranches id P rest → KeysAreBranches id P (cond hit es (e ∷ rest))
     removed_step true e es rest keyed later = keyed.1
     removed_step false e es rest keyed later = (keyed.0, later)
 
-    pub keyed_removed : (es : List Entry) → AreKeyed id P es → AreKeyed id P (remove_entry at es)
+    pub keyed_removed : (es : List Entry) → KeysAreBranches id P es → KeysAreBranches id P (remove_entry at es)
     keyed_removed [] keyed = tt
     keyed_removed (e ∷ es) keyed = removed_step (at e.0) e es (remove_entry at es) keyed (keyed_removed es keyed.1)

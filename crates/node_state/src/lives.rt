@@ -37,14 +37,14 @@ impl Model for Lives {
     ghost use Rattle.std.specs.Map.{values_of};
     ghost use Rattle.session_tree.specs.declared.live.Live.{Live};
     ghost use Rattle.node_rules.specs.NodeState.{live_id};
-    ghost use Rattle.node_state.specs.ByBranch.{AreKeyed};
+    ghost use Rattle.node_state.specs.ByBranch.{KeysAreBranches};
     ghost use Rattle.node_state.specs.Lives.{HasRoom};
 
     ghost Value = { List Live };
 
     ghost view = { λ l. values_of l.lives.entries };
 
-    ghost invariant = { λ l. AreKeyed live_id HasRoom l.lives.entries };
+    ghost invariant = { λ l. KeysAreBranches live_id HasRoom l.lives.entries };
 }
 
 impl Lives {

@@ -37,14 +37,14 @@ impl Model for Works {
     ghost use Rattle.std.specs.Map.{values_of};
     ghost use Rattle.node_rules.specs.declared.work.Work.{Work};
     ghost use Rattle.node_rules.specs.NodeState.{work_id};
-    ghost use Rattle.node_state.specs.ByBranch.{AreKeyed};
+    ghost use Rattle.node_state.specs.ByBranch.{KeysAreBranches};
     ghost use Rattle.node_state.specs.Works.{AnyWork};
 
     ghost Value = { List Work };
 
     ghost view = { λ w. values_of w.works.entries };
 
-    ghost invariant = { λ w. AreKeyed work_id AnyWork w.works.entries };
+    ghost invariant = { λ w. KeysAreBranches work_id AnyWork w.works.entries };
 }
 
 impl Works {

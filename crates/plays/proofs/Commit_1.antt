@@ -5,13 +5,13 @@ use Rattle.node_rules.specs.Data.picks
 use Rattle.node_rules.specs.Data.stmts
 use Rattle.run_rules.specs.Data.kind_names
 use Rattle.run_rules.specs.Data.commands
-use Rattle.plays.proofs.Script.{number_key, table, link, synonym, here, over, num, text, literal, minus, set, equal, insert, rows, count, commit, node, at, hold, let_go, pump, pump_all, played, told}
+use Rattle.plays.proofs.Script.{number_key, table, link, synonym, here, over, num, text, literal, minus, set, equal, insert, rows, count, commit, node, at, hold, let_go, pump, pump_all, played, all_lines}
 use Rattle.plays.proofs.Playing.{playing}
 use Rattle.plays.proofs.Commit_shared.{places_1, places_2, places_3, places_4, places_5, opening_1, opening_1_lines, opening_2, opening_2_lines}
 
 -- of two children of equal strength the one that was used first is the site
 equal_strengths_first_referenced_is_the_site :
-    report (told (played 290 places_1 (
+    report (all_lines (played 290 places_1 (
     node (codes "R") 1
     ∷ node (codes "A") 100
     ∷ node (codes "B") 100
@@ -57,7 +57,7 @@ equal_strengths_first_referenced_is_the_site = refl
 
 -- two sessions update one remote row with delivery held; the second waits for the first commit
 held_commits_one_after_the_other :
-    report (told (played 388 places_2 (opening_1 ++
+    report (all_lines (played 388 places_2 (opening_1 ++
     hold
     ∷ at 1 1 (stmts.Update (over (codes "STOCK") (codes "WH")) (set (codes "N") (literal (num 45)) ∷ []) (equal (codes "ITEM") (text (codes "BOLT")) ∷ []))
     ∷ pump_all
@@ -104,7 +104,7 @@ held_commits_one_after_the_other = refl
 
 -- keys that FOR UPDATE alone holds are free as soon as their branch is asked to prepare, at the root and at the site
 keys_only_read_are_released_at_prepare :
-    report (told (played 416 places_2 (opening_1 ++
+    report (all_lines (played 416 places_2 (opening_1 ++
     at 1 1 (insert (here (codes "ORDERS")) (num 1 ∷ num 10 ∷ []))
     ∷ at 1 1 commit
     ∷ at 1 1 (stmts.Select picks.All (here (codes "ORDERS")) (equal (codes "ID") (num 1) ∷ []) true)
@@ -146,7 +146,7 @@ keys_only_read_are_released_at_prepare = refl
 
 -- an old question reaches a root that has committed meanwhile; the branch between it and the site does not listen to the answer
 late_question_after_the_commit :
-    report (told (played 318 places_3 (
+    report (all_lines (played 318 places_3 (
     node (codes "R") 1
     ∷ node (codes "B") 50
     ∷ node (codes "C") 200
@@ -190,7 +190,7 @@ late_question_after_the_commit = refl
 
 -- a transaction that only queried is rolled back where its prepare is lost
 lost_prepare_of_a_query_alone_rolls_back :
-    report (told (played 276 places_4 (opening_2 ++
+    report (all_lines (played 276 places_4 (opening_2 ++
     at 1 1 (rows (over (codes "T") (codes "LA")) [])
     ∷ commands.LoseNext kind_names.Prepare 1 2
     ∷ at 1 1 commit
@@ -205,7 +205,7 @@ lost_prepare_of_a_query_alone_rolls_back = refl
 
 -- a lost answer to prepare: the commit is given up and every branch is rolled back
 lost_prepared_rolls_back :
-    report (told (played 318 places_2 (opening_1 ++
+    report (all_lines (played 318 places_2 (opening_1 ++
     at 1 1 (insert (here (codes "ORDERS")) (num 1 ∷ num 10 ∷ []))
     ∷ at 1 1 (stmts.Update (over (codes "STOCK") (codes "WH")) (set (codes "N") (minus (codes "N") 10) ∷ []) (equal (codes "ITEM") (text (codes "BOLT")) ∷ []))
     ∷ at 1 1 (insert (over (codes "LEDGER") (codes "HQ")) (num 1 ∷ num 250 ∷ []))
@@ -230,7 +230,7 @@ lost_prepared_rolls_back = refl
 
 -- the eleven messages of a commit over three nodes, one after the other
 messages_of_a_commit_in_order :
-    report (told (played 570 places_2 (opening_1 ++
+    report (all_lines (played 570 places_2 (opening_1 ++
     at 1 1 (insert (here (codes "ORDERS")) (num 1 ∷ num 10 ∷ []))
     ∷ at 1 1 (stmts.Update (over (codes "STOCK") (codes "WH")) (set (codes "N") (minus (codes "N") 10) ∷ []) (equal (codes "ITEM") (text (codes "BOLT")) ∷ []))
     ∷ at 1 1 (insert (over (codes "LEDGER") (codes "HQ")) (num 1 ∷ num 250 ∷ []))
@@ -292,7 +292,7 @@ messages_of_a_commit_in_order = refl
 
 -- a branch acknowledges once everybody beyond has: one of two does not hear of the commit
 one_of_two_beyond_has_not_acknowledged :
-    report (told (played 234 places_5 (
+    report (all_lines (played 234 places_5 (
     node (codes "R") 1
     ∷ node (codes "B") 1
     ∷ at 2 1 (table (codes "T") (number_key (codes "K") ∷ []))
@@ -323,7 +323,7 @@ one_of_two_beyond_has_not_acknowledged = refl
 
 -- a transaction that only queried commits without a site and leaves no pending row
 query_alone_leaves_no_row_behind :
-    report (told (played 276 places_4 (opening_2 ++
+    report (all_lines (played 276 places_4 (opening_2 ++
     at 1 1 (rows (over (codes "T") (codes "LA")) [])
     ∷ at 1 1 commit
     ∷ commands.ShowPending 1

@@ -6,13 +6,13 @@ use Rattle.node_rules.specs.Data.stmts
 use Rattle.run_rules.specs.Data.{Command}
 use Rattle.run_rules.specs.Data.kind_names
 use Rattle.run_rules.specs.Data.commands
-use Rattle.plays.proofs.Script.{number_key, table, link, here, over, num, text, literal, minus, set, equal, insert, rows, commit, node, at, hold, pump_all, played, told, booked}
+use Rattle.plays.proofs.Script.{number_key, table, link, here, over, num, text, literal, minus, set, equal, insert, rows, commit, node, at, hold, pump_all, played, all_lines, booked}
 use Rattle.plays.proofs.Playing.{playing}
 use Rattle.plays.proofs.Commit_shared.{names_2, places_2, places_4, places_6, opening_1, opening_1_lines, opening_2, opening_2_lines}
 
 -- a transaction that only queried over a link commits without a site
 query_alone_needs_no_site :
-    report (told (played 262 places_4 (opening_2 ++
+    report (all_lines (played 262 places_4 (opening_2 ++
     at 1 1 (rows (over (codes "T") (codes "LA")) [])
     ∷ at 1 1 commit
     ∷ [])))
@@ -25,7 +25,7 @@ query_alone_needs_no_site = refl
 
 -- a repeated word to commit after all is forgotten changes nothing; a message never sent is refused
 repeated_messages_after_the_end :
-    report (told (played 332 places_2 (opening_1 ++
+    report (all_lines (played 332 places_2 (opening_1 ++
     at 1 1 (insert (here (codes "ORDERS")) (num 1 ∷ num 10 ∷ []))
     ∷ at 1 1 (stmts.Update (over (codes "STOCK") (codes "WH")) (set (codes "N") (minus (codes "N") 10) ∷ []) (equal (codes "ITEM") (text (codes "BOLT")) ∷ []))
     ∷ at 1 1 (insert (over (codes "LEDGER") (codes "HQ")) (num 1 ∷ num 250 ∷ []))
@@ -52,7 +52,7 @@ repeated_messages_after_the_end = refl
 
 -- a child that its node's restart has lost answers Abort to Prepare, and the COMMIT is rolled back
 restarted_child_rolls_the_commit_back :
-    report (told (played 206 places_6 (
+    report (all_lines (played 206 places_6 (
     node (codes "A") 1
     ∷ node (codes "B") 1
     ∷ at 1 1 (table (codes "T") (number_key (codes "K") ∷ []))
@@ -79,7 +79,7 @@ restarted_child_rolls_the_commit_back = refl
 
 -- the root is the site: it collects while the other branch is prepared, then commits
 root_is_the_site :
-    report (told (played 346 places_2 (opening_1 ++
+    report (all_lines (played 346 places_2 (opening_1 ++
     at 2 2 (link (codes "SALES") (codes "SALES"))
     ∷ at 2 2 (stmts.Update (here (codes "STOCK")) (set (codes "N") (literal (num 40)) ∷ []) (equal (codes "ITEM") (text (codes "BOLT")) ∷ []))
     ∷ at 2 2 (insert (over (codes "ORDERS") (codes "SALES")) (num 1 ∷ num 10 ∷ []))
@@ -111,7 +111,7 @@ root_is_the_site = refl
 
 -- a site with two neighbours keeps its row until both have acknowledged the commit
 site_forgets_after_the_last_acknowledgement :
-    report (told (played 416 places_2 (opening_1 ++
+    report (all_lines (played 416 places_2 (opening_1 ++
     at 2 2 (link (codes "SALES") (codes "SALES"))
     ∷ at 2 2 (link (codes "HQ") (codes "HQ"))
     ∷ at 2 2 (stmts.Update (here (codes "STOCK")) (set (codes "N") (literal (num 40)) ∷ []) (equal (codes "ITEM") (text (codes "BOLT")) ∷ []))
@@ -154,7 +154,7 @@ site_forgets_after_the_last_acknowledgement = refl
 
 -- the site is the root's strongest child, though a node further down is stronger
 site_is_strongest_child_not_strongest_node :
-    report (told (played 304 places_4 (opening_2 ++
+    report (all_lines (played 304 places_4 (opening_2 ++
     at 1 1 (insert (over (codes "T") (codes "LA")) (num 1 ∷ []))
     ∷ at 1 1 (insert (over (codes "T") (codes "LB")) (num 1 ∷ []))
     ∷ at 1 1 (insert (over (codes "TC") (codes "LB")) (num 1 ∷ []))
@@ -182,7 +182,7 @@ site_is_strongest_child_not_strongest_node = refl
 
 -- the strongest child was only queried, so the site is the one with changes
 site_is_strongest_with_changes :
-    report (told (played 290 places_4 (opening_2 ++
+    report (all_lines (played 290 places_4 (opening_2 ++
     at 1 1 (rows (over (codes "T") (codes "LA")) [])
     ∷ at 1 1 (insert (over (codes "T") (codes "LB")) (num 1 ∷ []))
     ∷ at 1 1 commit
@@ -212,7 +212,7 @@ three_nodes_with_the_book_script = opening_1 ++
 
 -- a commit over three nodes, with the book of its records
 three_nodes_with_the_book :
-    report (told (played 276 places_2 three_nodes_with_the_book_script))
+    report (all_lines (played 276 places_2 three_nodes_with_the_book_script))
     ≡ opening_1_lines ++
     codes "11 1 row created."
     ∷ codes "12 1 row updated."

@@ -2,13 +2,13 @@
 use Rattle.std.proofs.Common.{◌≡◌, [], ◌∷◌, ◌++◌, codes, refl}
 use Rattle.run_rules.specs.Report.{report}
 use Rattle.run_rules.specs.Data.commands
-use Rattle.plays.proofs.Script.{commit, at, crash_keep, crash_leave, played, told}
+use Rattle.plays.proofs.Script.{commit, at, crash_keep, crash_leave, played, all_lines}
 use Rattle.plays.proofs.Playing.{playing}
 use Rattle.plays.proofs.Crash_shared.{places_1, opening_1, opening_1_lines, ending_1, ending_1_lines_1, ending_1_lines_2}
 
 -- HQ stops in write 1 of a commit, which keeps 0 of its bytes: all rows are those before
 any_write_hq_1_keep_0 :
-    report (told (played 430 places_1 (opening_1 ++
+    report (all_lines (played 430 places_1 (opening_1 ++
     crash_keep 3 1 0
     ∷ at 1 1 commit
     ∷ commands.Start 3
@@ -24,7 +24,7 @@ any_write_hq_1_keep_0 = refl
 
 -- HQ stops in write 1 of a commit, which keeps 1 of its bytes: all rows are those before
 any_write_hq_1_keep_1 :
-    report (told (played 430 places_1 (opening_1 ++
+    report (all_lines (played 430 places_1 (opening_1 ++
     crash_keep 3 1 1
     ∷ at 1 1 commit
     ∷ commands.Start 3
@@ -40,7 +40,7 @@ any_write_hq_1_keep_1 = refl
 
 -- HQ stops in write 1 of a commit, which leaves '01': all rows are those before
 any_write_hq_1_leave_01 :
-    report (told (played 430 places_1 (opening_1 ++
+    report (all_lines (played 430 places_1 (opening_1 ++
     crash_leave 3 1 (1 ∷ [])
     ∷ at 1 1 commit
     ∷ commands.Start 3
@@ -56,7 +56,7 @@ any_write_hq_1_leave_01 = refl
 
 -- HQ stops in write 2 of a commit, which keeps 0 of its bytes: all rows are those before
 any_write_hq_2_keep_0 :
-    report (told (played 430 places_1 (opening_1 ++
+    report (all_lines (played 430 places_1 (opening_1 ++
     crash_keep 3 2 0
     ∷ at 1 1 commit
     ∷ commands.Start 3
@@ -72,7 +72,7 @@ any_write_hq_2_keep_0 = refl
 
 -- HQ stops in write 2 of a commit, which keeps 1 of its bytes: all rows are those before
 any_write_hq_2_keep_1 :
-    report (told (played 430 places_1 (opening_1 ++
+    report (all_lines (played 430 places_1 (opening_1 ++
     crash_keep 3 2 1
     ∷ at 1 1 commit
     ∷ commands.Start 3
@@ -88,7 +88,7 @@ any_write_hq_2_keep_1 = refl
 
 -- HQ stops in write 2 of a commit, which leaves '01': all rows are those before
 any_write_hq_2_leave_01 :
-    report (told (played 430 places_1 (opening_1 ++
+    report (all_lines (played 430 places_1 (opening_1 ++
     crash_leave 3 2 (1 ∷ [])
     ∷ at 1 1 commit
     ∷ commands.Start 3
@@ -104,7 +104,7 @@ any_write_hq_2_leave_01 = refl
 
 -- HQ stops in write 3 of a commit, which keeps 0 of its bytes: all rows are those after
 any_write_hq_3_keep_0 :
-    report (told (played 430 places_1 (opening_1 ++
+    report (all_lines (played 430 places_1 (opening_1 ++
     crash_keep 3 3 0
     ∷ at 1 1 commit
     ∷ commands.Start 3
@@ -120,7 +120,7 @@ any_write_hq_3_keep_0 = refl
 
 -- HQ stops in write 3 of a commit, which keeps 1 of its bytes: all rows are those after
 any_write_hq_3_keep_1 :
-    report (told (played 430 places_1 (opening_1 ++
+    report (all_lines (played 430 places_1 (opening_1 ++
     crash_keep 3 3 1
     ∷ at 1 1 commit
     ∷ commands.Start 3
@@ -136,7 +136,7 @@ any_write_hq_3_keep_1 = refl
 
 -- HQ stops in write 3 of a commit, which leaves '01': all rows are those after
 any_write_hq_3_leave_01 :
-    report (told (played 430 places_1 (opening_1 ++
+    report (all_lines (played 430 places_1 (opening_1 ++
     crash_leave 3 3 (1 ∷ [])
     ∷ at 1 1 commit
     ∷ commands.Start 3
@@ -152,7 +152,7 @@ any_write_hq_3_leave_01 = refl
 
 -- HQ stops in write 4 of a commit, which keeps 0 of its bytes: all rows are those after
 any_write_hq_4_keep_0 :
-    report (told (played 430 places_1 (opening_1 ++
+    report (all_lines (played 430 places_1 (opening_1 ++
     crash_keep 3 4 0
     ∷ at 1 1 commit
     ∷ commands.Start 3
@@ -168,7 +168,7 @@ any_write_hq_4_keep_0 = refl
 
 -- HQ stops in write 4 of a commit, which keeps 1 of its bytes: all rows are those after
 any_write_hq_4_keep_1 :
-    report (told (played 430 places_1 (opening_1 ++
+    report (all_lines (played 430 places_1 (opening_1 ++
     crash_keep 3 4 1
     ∷ at 1 1 commit
     ∷ commands.Start 3
@@ -184,7 +184,7 @@ any_write_hq_4_keep_1 = refl
 
 -- HQ stops in write 4 of a commit, which leaves '01': all rows are those after
 any_write_hq_4_leave_01 :
-    report (told (played 430 places_1 (opening_1 ++
+    report (all_lines (played 430 places_1 (opening_1 ++
     crash_leave 3 4 (1 ∷ [])
     ∷ at 1 1 commit
     ∷ commands.Start 3
@@ -200,7 +200,7 @@ any_write_hq_4_leave_01 = refl
 
 -- HQ stops in write 5 of a commit, which keeps 0 of its bytes: all rows are those after
 any_write_hq_5_keep_0 :
-    report (told (played 430 places_1 (opening_1 ++
+    report (all_lines (played 430 places_1 (opening_1 ++
     crash_keep 3 5 0
     ∷ at 1 1 commit
     ∷ commands.Start 3
@@ -216,7 +216,7 @@ any_write_hq_5_keep_0 = refl
 
 -- HQ stops in write 5 of a commit, which keeps 1 of its bytes: all rows are those after
 any_write_hq_5_keep_1 :
-    report (told (played 430 places_1 (opening_1 ++
+    report (all_lines (played 430 places_1 (opening_1 ++
     crash_keep 3 5 1
     ∷ at 1 1 commit
     ∷ commands.Start 3
@@ -232,7 +232,7 @@ any_write_hq_5_keep_1 = refl
 
 -- HQ stops in write 5 of a commit, which leaves '01': all rows are those after
 any_write_hq_5_leave_01 :
-    report (told (played 430 places_1 (opening_1 ++
+    report (all_lines (played 430 places_1 (opening_1 ++
     crash_leave 3 5 (1 ∷ [])
     ∷ at 1 1 commit
     ∷ commands.Start 3
@@ -248,7 +248,7 @@ any_write_hq_5_leave_01 = refl
 
 -- HQ stops in write 6 of a commit, which keeps 0 of its bytes: all rows are those after
 any_write_hq_6_keep_0 :
-    report (told (played 430 places_1 (opening_1 ++
+    report (all_lines (played 430 places_1 (opening_1 ++
     crash_keep 3 6 0
     ∷ at 1 1 commit
     ∷ commands.Start 3
@@ -264,7 +264,7 @@ any_write_hq_6_keep_0 = refl
 
 -- HQ stops in write 6 of a commit, which keeps 1 of its bytes: all rows are those after
 any_write_hq_6_keep_1 :
-    report (told (played 430 places_1 (opening_1 ++
+    report (all_lines (played 430 places_1 (opening_1 ++
     crash_keep 3 6 1
     ∷ at 1 1 commit
     ∷ commands.Start 3
@@ -280,7 +280,7 @@ any_write_hq_6_keep_1 = refl
 
 -- HQ stops in write 6 of a commit, which leaves '01': all rows are those after
 any_write_hq_6_leave_01 :
-    report (told (played 430 places_1 (opening_1 ++
+    report (all_lines (played 430 places_1 (opening_1 ++
     crash_leave 3 6 (1 ∷ [])
     ∷ at 1 1 commit
     ∷ commands.Start 3
@@ -296,7 +296,7 @@ any_write_hq_6_leave_01 = refl
 
 -- HQ makes fewer than 7 writes in a commit, so it does not stop
 any_write_hq_7_keep_0 :
-    report (told (played 430 places_1 (opening_1 ++
+    report (all_lines (played 430 places_1 (opening_1 ++
     crash_keep 3 7 0
     ∷ at 1 1 commit
     ∷ commands.Start 3
@@ -311,7 +311,7 @@ any_write_hq_7_keep_0 = refl
 
 -- HQ makes fewer than 7 writes in a commit, so it does not stop
 any_write_hq_7_keep_1 :
-    report (told (played 430 places_1 (opening_1 ++
+    report (all_lines (played 430 places_1 (opening_1 ++
     crash_keep 3 7 1
     ∷ at 1 1 commit
     ∷ commands.Start 3

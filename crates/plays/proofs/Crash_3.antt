@@ -2,13 +2,13 @@
 use Rattle.std.proofs.Common.{◌≡◌, [], ◌∷◌, ◌++◌, codes, refl}
 use Rattle.run_rules.specs.Report.{report}
 use Rattle.run_rules.specs.Data.commands
-use Rattle.plays.proofs.Script.{commit, at, crash_keep, crash_leave, played, told}
+use Rattle.plays.proofs.Script.{commit, at, crash_keep, crash_leave, played, all_lines}
 use Rattle.plays.proofs.Playing.{playing}
 use Rattle.plays.proofs.Crash_shared.{places_1, opening_1, opening_1_lines, ending_1, ending_1_lines_1, ending_1_lines_2}
 
 -- SALES stops in write 6 of a commit, which keeps 1 of its bytes: all rows are those after
 any_write_sales_6_keep_1 :
-    report (told (played 430 places_1 (opening_1 ++
+    report (all_lines (played 430 places_1 (opening_1 ++
     crash_keep 1 6 1
     ∷ at 1 1 commit
     ∷ commands.Start 1
@@ -24,7 +24,7 @@ any_write_sales_6_keep_1 = refl
 
 -- SALES stops in write 6 of a commit, which leaves '01': all rows are those after
 any_write_sales_6_leave_01 :
-    report (told (played 430 places_1 (opening_1 ++
+    report (all_lines (played 430 places_1 (opening_1 ++
     crash_leave 1 6 (1 ∷ [])
     ∷ at 1 1 commit
     ∷ commands.Start 1
@@ -40,7 +40,7 @@ any_write_sales_6_leave_01 = refl
 
 -- SALES makes fewer than 7 writes in a commit, so it does not stop
 any_write_sales_7_keep_0 :
-    report (told (played 430 places_1 (opening_1 ++
+    report (all_lines (played 430 places_1 (opening_1 ++
     crash_keep 1 7 0
     ∷ at 1 1 commit
     ∷ commands.Start 1
@@ -55,7 +55,7 @@ any_write_sales_7_keep_0 = refl
 
 -- SALES makes fewer than 7 writes in a commit, so it does not stop
 any_write_sales_7_keep_1 :
-    report (told (played 430 places_1 (opening_1 ++
+    report (all_lines (played 430 places_1 (opening_1 ++
     crash_keep 1 7 1
     ∷ at 1 1 commit
     ∷ commands.Start 1
@@ -70,7 +70,7 @@ any_write_sales_7_keep_1 = refl
 
 -- SALES makes fewer than 7 writes in a commit, so it does not stop
 any_write_sales_7_leave_01 :
-    report (told (played 430 places_1 (opening_1 ++
+    report (all_lines (played 430 places_1 (opening_1 ++
     crash_leave 1 7 (1 ∷ [])
     ∷ at 1 1 commit
     ∷ commands.Start 1
@@ -85,7 +85,7 @@ any_write_sales_7_leave_01 = refl
 
 -- SALES makes fewer than 8 writes in a commit, so it does not stop
 any_write_sales_8_keep_0 :
-    report (told (played 430 places_1 (opening_1 ++
+    report (all_lines (played 430 places_1 (opening_1 ++
     crash_keep 1 8 0
     ∷ at 1 1 commit
     ∷ commands.Start 1
@@ -100,7 +100,7 @@ any_write_sales_8_keep_0 = refl
 
 -- SALES makes fewer than 8 writes in a commit, so it does not stop
 any_write_sales_8_keep_1 :
-    report (told (played 430 places_1 (opening_1 ++
+    report (all_lines (played 430 places_1 (opening_1 ++
     crash_keep 1 8 1
     ∷ at 1 1 commit
     ∷ commands.Start 1
@@ -115,7 +115,7 @@ any_write_sales_8_keep_1 = refl
 
 -- SALES makes fewer than 8 writes in a commit, so it does not stop
 any_write_sales_8_leave_01 :
-    report (told (played 430 places_1 (opening_1 ++
+    report (all_lines (played 430 places_1 (opening_1 ++
     crash_leave 1 8 (1 ∷ [])
     ∷ at 1 1 commit
     ∷ commands.Start 1
@@ -130,7 +130,7 @@ any_write_sales_8_leave_01 = refl
 
 -- WAREHOUSE stops in write 1 of a commit, which keeps 0 of its bytes: all rows are those before
 any_write_warehouse_1_keep_0 :
-    report (told (played 430 places_1 (opening_1 ++
+    report (all_lines (played 430 places_1 (opening_1 ++
     crash_keep 2 1 0
     ∷ at 1 1 commit
     ∷ commands.Start 2
@@ -146,7 +146,7 @@ any_write_warehouse_1_keep_0 = refl
 
 -- WAREHOUSE stops in write 1 of a commit, which keeps 1 of its bytes: all rows are those before
 any_write_warehouse_1_keep_1 :
-    report (told (played 430 places_1 (opening_1 ++
+    report (all_lines (played 430 places_1 (opening_1 ++
     crash_keep 2 1 1
     ∷ at 1 1 commit
     ∷ commands.Start 2
@@ -162,7 +162,7 @@ any_write_warehouse_1_keep_1 = refl
 
 -- WAREHOUSE stops in write 1 of a commit, which leaves '01': all rows are those before
 any_write_warehouse_1_leave_01 :
-    report (told (played 430 places_1 (opening_1 ++
+    report (all_lines (played 430 places_1 (opening_1 ++
     crash_leave 2 1 (1 ∷ [])
     ∷ at 1 1 commit
     ∷ commands.Start 2
@@ -178,7 +178,7 @@ any_write_warehouse_1_leave_01 = refl
 
 -- WAREHOUSE stops in write 2 of a commit, which keeps 0 of its bytes: all rows are those before
 any_write_warehouse_2_keep_0 :
-    report (told (played 430 places_1 (opening_1 ++
+    report (all_lines (played 430 places_1 (opening_1 ++
     crash_keep 2 2 0
     ∷ at 1 1 commit
     ∷ commands.Start 2
@@ -194,7 +194,7 @@ any_write_warehouse_2_keep_0 = refl
 
 -- WAREHOUSE stops in write 2 of a commit, which keeps 1 of its bytes: all rows are those after
 any_write_warehouse_2_keep_1 :
-    report (told (played 430 places_1 (opening_1 ++
+    report (all_lines (played 430 places_1 (opening_1 ++
     crash_keep 2 2 1
     ∷ at 1 1 commit
     ∷ commands.Start 2
@@ -210,7 +210,7 @@ any_write_warehouse_2_keep_1 = refl
 
 -- WAREHOUSE stops in write 2 of a commit, which leaves '01': all rows are those after
 any_write_warehouse_2_leave_01 :
-    report (told (played 430 places_1 (opening_1 ++
+    report (all_lines (played 430 places_1 (opening_1 ++
     crash_leave 2 2 (1 ∷ [])
     ∷ at 1 1 commit
     ∷ commands.Start 2
@@ -226,7 +226,7 @@ any_write_warehouse_2_leave_01 = refl
 
 -- WAREHOUSE stops in write 3 of a commit, which keeps 0 of its bytes: all rows are those after
 any_write_warehouse_3_keep_0 :
-    report (told (played 430 places_1 (opening_1 ++
+    report (all_lines (played 430 places_1 (opening_1 ++
     crash_keep 2 3 0
     ∷ at 1 1 commit
     ∷ commands.Start 2
@@ -242,7 +242,7 @@ any_write_warehouse_3_keep_0 = refl
 
 -- WAREHOUSE stops in write 3 of a commit, which keeps 1 of its bytes: all rows are those after
 any_write_warehouse_3_keep_1 :
-    report (told (played 430 places_1 (opening_1 ++
+    report (all_lines (played 430 places_1 (opening_1 ++
     crash_keep 2 3 1
     ∷ at 1 1 commit
     ∷ commands.Start 2
@@ -258,7 +258,7 @@ any_write_warehouse_3_keep_1 = refl
 
 -- WAREHOUSE stops in write 3 of a commit, which leaves '01': all rows are those after
 any_write_warehouse_3_leave_01 :
-    report (told (played 430 places_1 (opening_1 ++
+    report (all_lines (played 430 places_1 (opening_1 ++
     crash_leave 2 3 (1 ∷ [])
     ∷ at 1 1 commit
     ∷ commands.Start 2
@@ -274,7 +274,7 @@ any_write_warehouse_3_leave_01 = refl
 
 -- WAREHOUSE stops in write 4 of a commit, which keeps 0 of its bytes: all rows are those after
 any_write_warehouse_4_keep_0 :
-    report (told (played 430 places_1 (opening_1 ++
+    report (all_lines (played 430 places_1 (opening_1 ++
     crash_keep 2 4 0
     ∷ at 1 1 commit
     ∷ commands.Start 2
@@ -290,7 +290,7 @@ any_write_warehouse_4_keep_0 = refl
 
 -- WAREHOUSE stops in write 4 of a commit, which keeps 1 of its bytes: all rows are those after
 any_write_warehouse_4_keep_1 :
-    report (told (played 430 places_1 (opening_1 ++
+    report (all_lines (played 430 places_1 (opening_1 ++
     crash_keep 2 4 1
     ∷ at 1 1 commit
     ∷ commands.Start 2
@@ -306,7 +306,7 @@ any_write_warehouse_4_keep_1 = refl
 
 -- WAREHOUSE stops in write 4 of a commit, which leaves '01': all rows are those after
 any_write_warehouse_4_leave_01 :
-    report (told (played 430 places_1 (opening_1 ++
+    report (all_lines (played 430 places_1 (opening_1 ++
     crash_leave 2 4 (1 ∷ [])
     ∷ at 1 1 commit
     ∷ commands.Start 2
@@ -322,7 +322,7 @@ any_write_warehouse_4_leave_01 = refl
 
 -- WAREHOUSE makes fewer than 5 writes in a commit, so it does not stop
 any_write_warehouse_5_keep_0 :
-    report (told (played 430 places_1 (opening_1 ++
+    report (all_lines (played 430 places_1 (opening_1 ++
     crash_keep 2 5 0
     ∷ at 1 1 commit
     ∷ commands.Start 2

@@ -2,13 +2,13 @@
 use Rattle.std.proofs.Common.{◌≡◌, [], ◌∷◌, ◌++◌, codes, refl}
 use Rattle.run_rules.specs.Report.{report}
 use Rattle.run_rules.specs.Data.commands
-use Rattle.plays.proofs.Script.{number_column, number_key, table, link, here, over, num, equal, insert, rows, commit, node, at, crash_keep, crash_leave, hold, played, told}
+use Rattle.plays.proofs.Script.{number_column, number_key, table, link, here, over, num, equal, insert, rows, commit, node, at, crash_keep, crash_leave, hold, played, all_lines}
 use Rattle.plays.proofs.Playing.{playing}
 use Rattle.plays.proofs.Crash_shared.{places_1, places_2, places_3, opening_1, opening_1_lines, ending_1, ending_1_lines_2}
 
 -- WAREHOUSE makes fewer than 5 writes in a commit, so it does not stop
 any_write_warehouse_5_keep_1 :
-    report (told (played 430 places_1 (opening_1 ++
+    report (all_lines (played 430 places_1 (opening_1 ++
     crash_keep 2 5 1
     ∷ at 1 1 commit
     ∷ commands.Start 2
@@ -23,7 +23,7 @@ any_write_warehouse_5_keep_1 = refl
 
 -- WAREHOUSE makes fewer than 5 writes in a commit, so it does not stop
 any_write_warehouse_5_leave_01 :
-    report (told (played 430 places_1 (opening_1 ++
+    report (all_lines (played 430 places_1 (opening_1 ++
     crash_leave 2 5 (1 ∷ [])
     ∷ at 1 1 commit
     ∷ commands.Start 2
@@ -38,7 +38,7 @@ any_write_warehouse_5_leave_01 = refl
 
 -- WAREHOUSE makes fewer than 6 writes in a commit, so it does not stop
 any_write_warehouse_6_keep_0 :
-    report (told (played 430 places_1 (opening_1 ++
+    report (all_lines (played 430 places_1 (opening_1 ++
     crash_keep 2 6 0
     ∷ at 1 1 commit
     ∷ commands.Start 2
@@ -53,7 +53,7 @@ any_write_warehouse_6_keep_0 = refl
 
 -- WAREHOUSE makes fewer than 6 writes in a commit, so it does not stop
 any_write_warehouse_6_keep_1 :
-    report (told (played 430 places_1 (opening_1 ++
+    report (all_lines (played 430 places_1 (opening_1 ++
     crash_keep 2 6 1
     ∷ at 1 1 commit
     ∷ commands.Start 2
@@ -68,7 +68,7 @@ any_write_warehouse_6_keep_1 = refl
 
 -- WAREHOUSE makes fewer than 6 writes in a commit, so it does not stop
 any_write_warehouse_6_leave_01 :
-    report (told (played 430 places_1 (opening_1 ++
+    report (all_lines (played 430 places_1 (opening_1 ++
     crash_leave 2 6 (1 ∷ [])
     ∷ at 1 1 commit
     ∷ commands.Start 2
@@ -83,7 +83,7 @@ any_write_warehouse_6_leave_01 = refl
 
 -- WAREHOUSE makes fewer than 7 writes in a commit, so it does not stop
 any_write_warehouse_7_keep_0 :
-    report (told (played 430 places_1 (opening_1 ++
+    report (all_lines (played 430 places_1 (opening_1 ++
     crash_keep 2 7 0
     ∷ at 1 1 commit
     ∷ commands.Start 2
@@ -98,7 +98,7 @@ any_write_warehouse_7_keep_0 = refl
 
 -- WAREHOUSE makes fewer than 7 writes in a commit, so it does not stop
 any_write_warehouse_7_keep_1 :
-    report (told (played 430 places_1 (opening_1 ++
+    report (all_lines (played 430 places_1 (opening_1 ++
     crash_keep 2 7 1
     ∷ at 1 1 commit
     ∷ commands.Start 2
@@ -113,7 +113,7 @@ any_write_warehouse_7_keep_1 = refl
 
 -- WAREHOUSE makes fewer than 7 writes in a commit, so it does not stop
 any_write_warehouse_7_leave_01 :
-    report (told (played 430 places_1 (opening_1 ++
+    report (all_lines (played 430 places_1 (opening_1 ++
     crash_leave 2 7 (1 ∷ [])
     ∷ at 1 1 commit
     ∷ commands.Start 2
@@ -128,7 +128,7 @@ any_write_warehouse_7_leave_01 = refl
 
 -- WAREHOUSE makes fewer than 8 writes in a commit, so it does not stop
 any_write_warehouse_8_keep_0 :
-    report (told (played 430 places_1 (opening_1 ++
+    report (all_lines (played 430 places_1 (opening_1 ++
     crash_keep 2 8 0
     ∷ at 1 1 commit
     ∷ commands.Start 2
@@ -143,7 +143,7 @@ any_write_warehouse_8_keep_0 = refl
 
 -- WAREHOUSE makes fewer than 8 writes in a commit, so it does not stop
 any_write_warehouse_8_keep_1 :
-    report (told (played 430 places_1 (opening_1 ++
+    report (all_lines (played 430 places_1 (opening_1 ++
     crash_keep 2 8 1
     ∷ at 1 1 commit
     ∷ commands.Start 2
@@ -158,7 +158,7 @@ any_write_warehouse_8_keep_1 = refl
 
 -- WAREHOUSE makes fewer than 8 writes in a commit, so it does not stop
 any_write_warehouse_8_leave_01 :
-    report (told (played 430 places_1 (opening_1 ++
+    report (all_lines (played 430 places_1 (opening_1 ++
     crash_leave 2 8 (1 ∷ [])
     ∷ at 1 1 commit
     ∷ commands.Start 2
@@ -173,7 +173,7 @@ any_write_warehouse_8_leave_01 = refl
 
 -- disk call 1 of a commit at one node fails: the row is not there after the restart
 disk_call_1_of_a_commit_fails :
-    report (told (played 178 places_2 (
+    report (all_lines (played 178 places_2 (
     node (codes "SALES") 1
     ∷ at 1 1 (table (codes "ORDERS") (number_key (codes "ID") ∷ number_column (codes "QTY") ∷ []))
     ∷ at 1 1 (insert (here (codes "ORDERS")) (num 1 ∷ num 10 ∷ []))
@@ -197,7 +197,7 @@ disk_call_1_of_a_commit_fails = refl
 
 -- disk call 1 of the prepared record fails: the node stops, and the branch is not prepared
 disk_call_1_of_a_prepare_fails :
-    report (told (played 318 places_1 (opening_1 ++
+    report (all_lines (played 318 places_1 (opening_1 ++
     commands.Fault 3 1
     ∷ at 1 1 commit
     ∷ commands.Start 3
@@ -215,7 +215,7 @@ disk_call_1_of_a_prepare_fails = refl
 
 -- disk call 2 of the prepared record fails: the node stops, and the branch is not prepared
 disk_call_2_of_a_prepare_fails :
-    report (told (played 318 places_1 (opening_1 ++
+    report (all_lines (played 318 places_1 (opening_1 ++
     commands.Fault 3 2
     ∷ at 1 1 commit
     ∷ commands.Start 3
@@ -233,7 +233,7 @@ disk_call_2_of_a_prepare_fails = refl
 
 -- disk call 3 of the prepared record fails: the node stops, and the branch is not prepared
 disk_call_3_of_a_prepare_fails :
-    report (told (played 318 places_1 (opening_1 ++
+    report (all_lines (played 318 places_1 (opening_1 ++
     commands.Fault 3 3
     ∷ at 1 1 commit
     ∷ commands.Start 3
@@ -251,7 +251,7 @@ disk_call_3_of_a_prepare_fails = refl
 
 -- disk call 4 of a commit at one node fails: the row is there after the restart
 disk_call_4_of_a_commit_fails :
-    report (told (played 178 places_2 (
+    report (all_lines (played 178 places_2 (
     node (codes "SALES") 1
     ∷ at 1 1 (table (codes "ORDERS") (number_key (codes "ID") ∷ number_column (codes "QTY") ∷ []))
     ∷ at 1 1 (insert (here (codes "ORDERS")) (num 1 ∷ num 10 ∷ []))
@@ -277,7 +277,7 @@ disk_call_4_of_a_commit_fails = refl
 
 -- disk call 4 of the prepared record fails: the node stops, and the branch is prepared
 disk_call_4_of_a_prepare_fails :
-    report (told (played 318 places_1 (opening_1 ++
+    report (all_lines (played 318 places_1 (opening_1 ++
     commands.Fault 3 4
     ∷ at 1 1 commit
     ∷ commands.Start 3
@@ -297,7 +297,7 @@ disk_call_4_of_a_prepare_fails = refl
 
 -- the answers of earlier calls stand before the nodes that stopped
 earlier_calls_are_answered_before_the_stop_is_told :
-    report (told (played 164 places_3 (
+    report (all_lines (played 164 places_3 (
     node (codes "A") 1
     ∷ at 1 1 (link (codes "L") (codes "A"))
     ∷ hold

@@ -2,13 +2,13 @@
 use Rattle.std.proofs.Common.{◌≡◌, [], ◌∷◌, ◌++◌, codes, refl}
 use Rattle.run_rules.specs.Report.{report}
 use Rattle.run_rules.specs.Data.commands
-use Rattle.plays.proofs.Script.{number_key, table, here, num, insert, count, commit, commit_comment, node, at, crash_keep, crash_leave, played, told}
+use Rattle.plays.proofs.Script.{number_key, table, here, num, insert, count, commit, commit_comment, node, at, crash_keep, crash_leave, played, all_lines}
 use Rattle.plays.proofs.Playing.{playing}
 use Rattle.plays.proofs.Crash_shared.{places_1, places_2, places_3, opening_1, opening_1_lines, ending_2, ending_2_lines_1, ending_2_lines_2}
 
 -- a gate byte that is neither shut nor open counts as shut: the branch is not prepared
 prepared_record_behind_an_odd_gate :
-    report (told (played 332 places_1 (opening_1 ++
+    report (all_lines (played 332 places_1 (opening_1 ++
     crash_leave 3 2 (255 ∷ 1 ∷ [])
     ∷ at 1 1 commit
     ∷ commands.Start 3
@@ -30,7 +30,7 @@ prepared_record_behind_an_odd_gate = refl
 
 -- a record whose gate a stop still opened stands, and is in the book
 record_of_a_cut_turn_stands_in_the_book :
-    report (told (played 136 places_2 (
+    report (all_lines (played 136 places_2 (
     node (codes "SALES") 1
     ∷ crash_keep 1 2 1
     ∷ at 1 1 (table (codes "ORDERS") (number_key (codes "ID") ∷ []))
@@ -48,7 +48,7 @@ record_of_a_cut_turn_stands_in_the_book = refl
 
 -- the site stops with its record whole but the gate shut: the transaction is rolled back everywhere
 site_record_behind_a_shut_gate :
-    report (told (played 360 places_1 (opening_1 ++
+    report (all_lines (played 360 places_1 (opening_1 ++
     crash_leave 2 2 (0 ∷ [])
     ∷ ending_2)))
     ≡ opening_1_lines ++
@@ -59,7 +59,7 @@ site_record_behind_a_shut_gate = refl
 
 -- the site stops with its record's gate open: the transaction is committed everywhere
 site_record_behind_an_open_gate :
-    report (told (played 360 places_1 (opening_1 ++
+    report (all_lines (played 360 places_1 (opening_1 ++
     crash_keep 2 2 1
     ∷ ending_2)))
     ≡ opening_1_lines ++
@@ -70,7 +70,7 @@ site_record_behind_an_open_gate = refl
 
 -- the site stops before it writes a byte of its record: the transaction is rolled back everywhere
 site_record_not_begun :
-    report (told (played 360 places_1 (opening_1 ++
+    report (all_lines (played 360 places_1 (opening_1 ++
     crash_keep 2 1 0
     ∷ ending_2)))
     ≡ opening_1_lines ++
@@ -81,7 +81,7 @@ site_record_not_begun = refl
 
 -- a START in whose writes the node stops is refused; where its Boot stands it counts among the starts
 start_that_is_struck :
-    report (told (played 262 places_3 (
+    report (all_lines (played 262 places_3 (
     node (codes "A") 1
     ∷ at 1 1 (table (codes "T") (number_key (codes "K") ∷ []))
     ∷ commands.Stop 1
@@ -120,7 +120,7 @@ start_that_is_struck = refl
 
 -- the crash-test comment 1: the site stops before it says ready
 test_comment_01 :
-    report (told (played 318 places_1 (opening_1 ++
+    report (all_lines (played 318 places_1 (opening_1 ++
     at 1 1 (commit_comment (codes "ORA-2PC-CRASH-TEST-1"))
     ∷ commands.Start 2
     ∷ commands.Reco 1
@@ -141,7 +141,7 @@ test_comment_01 = refl
 
 -- the crash-test comment 2: another branch stops when its collect is complete
 test_comment_02 :
-    report (told (played 318 places_1 (opening_1 ++
+    report (all_lines (played 318 places_1 (opening_1 ++
     at 1 1 (commit_comment (codes "ORA-2PC-CRASH-TEST-2"))
     ∷ commands.Start 3
     ∷ commands.Reco 1
@@ -162,7 +162,7 @@ test_comment_02 = refl
 
 -- the crash-test comment 3: another branch stops before its prepared record
 test_comment_03 :
-    report (told (played 318 places_1 (opening_1 ++
+    report (all_lines (played 318 places_1 (opening_1 ++
     at 1 1 (commit_comment (codes "ORA-2PC-CRASH-TEST-3"))
     ∷ commands.Start 3
     ∷ commands.Reco 1
@@ -183,7 +183,7 @@ test_comment_03 = refl
 
 -- the crash-test comment 4: another branch stops after its prepared record
 test_comment_04 :
-    report (told (played 318 places_1 (opening_1 ++
+    report (all_lines (played 318 places_1 (opening_1 ++
     at 1 1 (commit_comment (codes "ORA-2PC-CRASH-TEST-4"))
     ∷ commands.Start 3
     ∷ commands.Reco 1
@@ -204,7 +204,7 @@ test_comment_04 = refl
 
 -- the crash-test comment 5: the site stops before it decides
 test_comment_05 :
-    report (told (played 318 places_1 (opening_1 ++
+    report (all_lines (played 318 places_1 (opening_1 ++
     at 1 1 (commit_comment (codes "ORA-2PC-CRASH-TEST-5"))
     ∷ commands.Start 2
     ∷ commands.Reco 1
@@ -225,7 +225,7 @@ test_comment_05 = refl
 
 -- the crash-test comment 6: the site stops after it decided
 test_comment_06 :
-    report (told (played 318 places_1 (opening_1 ++
+    report (all_lines (played 318 places_1 (opening_1 ++
     at 1 1 (commit_comment (codes "ORA-2PC-CRASH-TEST-6"))
     ∷ commands.Start 2
     ∷ commands.Reco 1
@@ -246,7 +246,7 @@ test_comment_06 = refl
 
 -- the crash-test comment 7: another branch stops before its committed record
 test_comment_07 :
-    report (told (played 318 places_1 (opening_1 ++
+    report (all_lines (played 318 places_1 (opening_1 ++
     at 1 1 (commit_comment (codes "ORA-2PC-CRASH-TEST-7"))
     ∷ commands.Start 1
     ∷ commands.Reco 1
@@ -267,7 +267,7 @@ test_comment_07 = refl
 
 -- the crash-test comment 8: another branch stops after its committed record
 test_comment_08 :
-    report (told (played 318 places_1 (opening_1 ++
+    report (all_lines (played 318 places_1 (opening_1 ++
     at 1 1 (commit_comment (codes "ORA-2PC-CRASH-TEST-8"))
     ∷ commands.Start 1
     ∷ commands.Reco 1
@@ -288,7 +288,7 @@ test_comment_08 = refl
 
 -- the crash-test comment 9: the site stops before it forgets
 test_comment_09 :
-    report (told (played 318 places_1 (opening_1 ++
+    report (all_lines (played 318 places_1 (opening_1 ++
     at 1 1 (commit_comment (codes "ORA-2PC-CRASH-TEST-9"))
     ∷ commands.Start 2
     ∷ commands.Reco 1
@@ -309,7 +309,7 @@ test_comment_09 = refl
 
 -- the crash-test comment 10: another branch stops before it forgets
 test_comment_10 :
-    report (told (played 318 places_1 (opening_1 ++
+    report (all_lines (played 318 places_1 (opening_1 ++
     at 1 1 (commit_comment (codes "ORA-2PC-CRASH-TEST-10"))
     ∷ commands.Start 1
     ∷ commands.Reco 1

@@ -5,13 +5,13 @@ use Rattle.node_rules.specs.Data.stmts
 use Rattle.node_rules.specs.Data.advices
 use Rattle.run_rules.specs.Data.kind_names
 use Rattle.run_rules.specs.Data.commands
-use Rattle.plays.proofs.Script.{link, here, over, num, text, literal, minus, set, equal, insert, rows, commit, commit_comment, at, played, told}
+use Rattle.plays.proofs.Script.{link, here, over, num, text, literal, minus, set, equal, insert, rows, commit, commit_comment, at, played, all_lines}
 use Rattle.plays.proofs.Playing.{playing}
 use Rattle.plays.proofs.Forced_shared.{places_1, places_2, opening_1, opening_1_lines, opening_2, opening_2_lines}
 
 -- the session's advice and the comment of COMMIT stand in the row of a prepared branch
 advice_and_comment_in_the_view :
-    report (told (played 318 places_1 (opening_1 ++
+    report (all_lines (played 318 places_1 (opening_1 ++
     at 1 1 (stmts.Advise (Some advices.Commit))
     ∷ at 1 1 (insert (here (codes "ORDERS")) (num 1 ∷ num 10 ∷ []))
     ∷ at 1 1 (stmts.Update (over (codes "STOCK") (codes "WH")) (set (codes "N") (minus (codes "N") 10) ∷ []) (equal (codes "ITEM") (text (codes "BOLT")) ∷ []))
@@ -36,7 +36,7 @@ advice_and_comment_in_the_view = refl
 
 -- a prepared branch is forced to commit by its global id; it meets the commit and its row goes
 commit_with_the_commit_is_not_mixed :
-    report (told (played 360 places_1 (opening_1 ++
+    report (all_lines (played 360 places_1 (opening_1 ++
     at 1 1 (insert (here (codes "ORDERS")) (num 1 ∷ num 10 ∷ []))
     ∷ at 1 1 (stmts.Update (over (codes "STOCK") (codes "WH")) (set (codes "N") (minus (codes "N") 10) ∷ []) (equal (codes "ITEM") (text (codes "BOLT")) ∷ []))
     ∷ at 1 1 (insert (over (codes "LEDGER") (codes "HQ")) (num 1 ∷ num 250 ∷ []))
@@ -65,7 +65,7 @@ commit_with_the_commit_is_not_mixed = refl
 
 -- a branch that was forced to commit knows no decision: the branch beyond it stays in doubt, until the commit has come
 forced_outcome_is_not_told_to_others :
-    report (told (played 458 places_2 (opening_2 ++
+    report (all_lines (played 458 places_2 (opening_2 ++
     commands.Cut 1 3
     ∷ at 3 2 (stmts.CommitForce (codes "1.65.1") None)
     ∷ commands.Reco 4
@@ -102,7 +102,7 @@ forced_outcome_is_not_told_to_others = refl
 
 -- two prepared branches of one transaction at one node cannot be forced by the global id
 global_id_names_several_branches :
-    report (told (played 318 places_1 (opening_1 ++
+    report (all_lines (played 318 places_1 (opening_1 ++
     at 1 1 (link (codes "HQ2") (codes "HQ"))
     ∷ at 1 1 (insert (over (codes "LEDGER") (codes "HQ")) (num 1 ∷ num 1 ∷ []))
     ∷ at 1 1 (insert (over (codes "LEDGER") (codes "HQ2")) (num 2 ∷ num 2 ∷ []))
@@ -125,7 +125,7 @@ global_id_names_several_branches = refl
 
 -- a row of a commit that a lost node never acknowledges is purged; the branch still answers, and a prepared row is not purged
 lost_entry_is_purged :
-    report (told (played 472 places_1 (opening_1 ++
+    report (all_lines (played 472 places_1 (opening_1 ++
     at 1 1 (insert (here (codes "ORDERS")) (num 1 ∷ num 10 ∷ []))
     ∷ at 1 1 (stmts.Update (over (codes "STOCK") (codes "WH")) (set (codes "N") (minus (codes "N") 10) ∷ []) (equal (codes "ITEM") (text (codes "BOLT")) ∷ []))
     ∷ at 1 1 (insert (over (codes "LEDGER") (codes "HQ")) (num 1 ∷ num 250 ∷ []))
@@ -176,7 +176,7 @@ lost_entry_is_purged = refl
 
 -- a mixed branch that has forgotten keeps its row and still tells the branch beyond it to forget
 mixed_branch_that_forgot_answers_those_beyond :
-    report (told (played 388 places_2 (opening_2 ++
+    report (all_lines (played 388 places_2 (opening_2 ++
     at 3 2 (stmts.RollbackForce (codes "1.65.1"))
     ∷ commands.LoseNext kind_names.Forgotten 3 4
     ∷ commands.Reco 3
@@ -199,7 +199,7 @@ mixed_branch_that_forgot_answers_those_beyond = refl
 
 -- a query between a forced rollback and the decision sees the rows of the rollback, and so does one after it
 query_between_a_forced_rollback_and_the_decision :
-    report (told (played 360 places_1 (opening_1 ++
+    report (all_lines (played 360 places_1 (opening_1 ++
     at 1 1 (insert (here (codes "ORDERS")) (num 1 ∷ num 10 ∷ []))
     ∷ at 1 1 (stmts.Update (over (codes "STOCK") (codes "WH")) (set (codes "N") (minus (codes "N") 10) ∷ []) (equal (codes "ITEM") (text (codes "BOLT")) ∷ []))
     ∷ at 1 1 (insert (over (codes "LEDGER") (codes "HQ")) (num 1 ∷ num 250 ∷ []))
@@ -230,7 +230,7 @@ query_between_a_forced_rollback_and_the_decision = refl
 
 -- a prepared branch is forced to roll back; it meets the commit, is mixed, and is purged once
 rollback_against_the_commit_is_mixed :
-    report (told (played 416 places_1 (opening_1 ++
+    report (all_lines (played 416 places_1 (opening_1 ++
     at 1 1 (insert (here (codes "ORDERS")) (num 1 ∷ num 10 ∷ []))
     ∷ at 1 1 (stmts.Update (over (codes "STOCK") (codes "WH")) (set (codes "N") (minus (codes "N") 10) ∷ []) (equal (codes "ITEM") (text (codes "BOLT")) ∷ []))
     ∷ at 1 1 (insert (over (codes "LEDGER") (codes "HQ")) (num 1 ∷ num 250 ∷ []))

@@ -6,7 +6,7 @@ use Rattle.node_rules.specs.Data.stmts
 use Rattle.run_rules.specs.Data.{Command}
 use Rattle.run_rules.specs.Data.kind_names
 use Rattle.run_rules.specs.Data.commands
-use Rattle.plays.proofs.Script.{place, place_within, number_column, number_key, text_column, text_key, table, link, here, over, num, text, literal, minus, set, equal, insert, rows, commit, node, at, hold, let_go, pump, pump_all, played, told}
+use Rattle.plays.proofs.Script.{place, place_within, number_column, number_key, text_column, text_key, table, link, here, over, num, text, literal, minus, set, equal, insert, rows, commit, node, at, hold, let_go, pump, pump_all, played, all_lines}
 use Rattle.plays.proofs.Playing.{playing}
 
 abbrev names_1 : List (List ℕ)
@@ -57,7 +57,7 @@ opening_1_lines =
 
 -- a prepared branch that is cut off refuses readers of its row until recovery tells it the commit
 cut_before_the_decision_arrives :
-    report (told (played 472 places_1 (opening_1 ++
+    report (all_lines (played 472 places_1 (opening_1 ++
     hold
     ∷ at 1 1 commit
     ∷ pump 5
@@ -101,7 +101,7 @@ cut_before_the_decision_arrives = refl
 
 -- the acknowledgement of a commit is lost: recovery at the branch that sent it sends it again, and all forget
 lost_acknowledgement_is_sent_again :
-    report (told (played 360 places_1 (opening_1 ++
+    report (all_lines (played 360 places_1 (opening_1 ++
     commands.LoseNext kind_names.Ack 3 1
     ∷ at 1 1 commit
     ∷ commands.ShowPending 3
@@ -126,7 +126,7 @@ lost_acknowledgement_is_sent_again = refl
 
 -- the word of the commit is lost: the root is in doubt until recovery asks the site
 lost_committed_message :
-    report (told (played 332 places_1 (opening_1 ++
+    report (all_lines (played 332 places_1 (opening_1 ++
     commands.LoseNext kind_names.Committed 2 1
     ∷ at 1 1 commit
     ∷ commands.ShowNeighbors 1
@@ -150,7 +150,7 @@ lost_committed_message = refl
 
 -- the lost word of the commit comes after all: the COMMIT was not complete in its command, and its row is free now
 lost_message_of_a_commit_comes_again :
-    report (told (played 332 places_1 (opening_1 ++
+    report (all_lines (played 332 places_1 (opening_1 ++
     commands.LoseNext kind_names.Committed 2 1
     ∷ at 1 1 commit
     ∷ commands.Again 14
@@ -171,7 +171,7 @@ lost_message_of_a_commit_comes_again = refl
 
 -- a branch in doubt holds its undo extents over a restart, until the commit has come
 undo_in_doubt_outlasts_a_restart :
-    report (told (played 318 places_2 (
+    report (all_lines (played 318 places_2 (
     node (codes "R") 100
     ∷ commands.Node (codes "A") 50 4 1
     ∷ at 2 1 (table (codes "T") (number_key (codes "K") ∷ text_column (codes "V") 1500 ∷ []))

@@ -4,13 +4,13 @@ use Rattle.run_rules.specs.Report.{report}
 use Rattle.node_rules.specs.Data.stmts
 use Rattle.run_rules.specs.Data.kind_names
 use Rattle.run_rules.specs.Data.commands
-use Rattle.plays.proofs.Script.{number_column, number_key, table, link, here, over, num, text, literal, minus, set, equal, insert, rows, count, commit, node, at, hold, let_go, pump, pump_all, played, told}
+use Rattle.plays.proofs.Script.{number_column, number_key, table, link, here, over, num, text, literal, minus, set, equal, insert, rows, count, commit, node, at, hold, let_go, pump, pump_all, played, all_lines}
 use Rattle.plays.proofs.Playing.{playing}
 use Rattle.plays.proofs.Links_shared.{places_1, places_2, places_3, opening_1, opening_1_lines, opening_2, opening_2_lines, opening_3, opening_3_lines}
 
 -- two calls that one PUMP ends are answered in the order of their commands, though the later call ends first
 answers_of_earlier_calls_stand_by_number :
-    report (told (played 234 places_1 (opening_1 ++
+    report (all_lines (played 234 places_1 (opening_1 ++
     at 1 1 (count (over (codes "T") (codes "LA")) [])
     ∷ at 1 2 (rows (over (codes "T") (codes "LA")) [])
     ∷ commands.Deliver 2
@@ -35,7 +35,7 @@ answers_of_earlier_calls_stand_by_number = refl
 
 -- a call that is out makes the session busy; its message is lost; it is given up once
 held_call_given_up :
-    report (told (played 304 places_1 (
+    report (all_lines (played 304 places_1 (
     node (codes "R") 1
     ∷ node (codes "A") 1
     ∷ at 2 1 (table (codes "T") (number_key (codes "K") ∷ []))
@@ -77,7 +77,7 @@ held_call_given_up = refl
 
 -- with delivery held two sessions update one remote row; the second meets the lock
 held_updates_of_one_row :
-    report (told (played 290 places_2 (opening_2 ++
+    report (all_lines (played 290 places_2 (opening_2 ++
     hold
     ∷ at 1 1 (stmts.Update (over (codes "STOCK") (codes "WH")) (set (codes "N") (literal (num 45)) ∷ []) (equal (codes "ITEM") (text (codes "BOLT")) ∷ []))
     ∷ pump_all
@@ -98,7 +98,7 @@ held_updates_of_one_row = refl
 
 -- a link is opened, but the word of it is lost; the Open comes again, and the statement goes on at the branch that is there
 lost_opened_and_open_comes_again :
-    report (told (played 262 places_1 (opening_1 ++
+    report (all_lines (played 262 places_1 (opening_1 ++
     at 1 1 (insert (over (codes "T") (codes "LA")) (num 1 ∷ num 10 ∷ []))
     ∷ pump 1
     ∷ commands.Lose 2
@@ -127,7 +127,7 @@ lost_opened_and_open_comes_again = refl
 
 -- a statement whose reply is lost has run; its lock stays until the rollback
 lost_reply_leaves_a_lock :
-    report (told (played 290 places_2 (opening_2 ++
+    report (all_lines (played 290 places_2 (opening_2 ++
     commands.LoseNext kind_names.Reply 2 1
     ∷ at 1 1 (stmts.Update (over (codes "STOCK") (codes "WH")) (set (codes "N") (literal (num 1)) ∷ []) [])
     ∷ at 2 2 (stmts.Update (here (codes "STOCK")) (set (codes "N") (literal (num 2)) ∷ []) [])
@@ -146,7 +146,7 @@ lost_reply_leaves_a_lock = refl
 
 -- a link made twice, a link that is not there, a link to no node, more links than the node allows
 missing_and_too_many_links :
-    report (told (played 304 places_3 (
+    report (all_lines (played 304 places_3 (
     commands.Node (codes "R") 1 1 64
     ∷ node (codes "A") 1
     ∷ node (codes "B") 1
@@ -189,7 +189,7 @@ missing_and_too_many_links = refl
 
 -- an order to lose the next Open is not used up by one that a cut loses, but by the first that would pass
 order_to_lose_outlasts_a_cut :
-    report (told (played 248 places_1 (
+    report (all_lines (played 248 places_1 (
     node (codes "R") 1
     ∷ node (codes "A") 1
     ∷ at 2 1 (table (codes "T") (number_key (codes "K") ∷ number_column (codes "N") ∷ []))
@@ -222,7 +222,7 @@ order_to_lose_outlasts_a_cut = refl
 
 -- a repeated statement message adds no second row; a cut link gives no answer and asks for a rollback
 repeated_message_adds_no_row :
-    report (told (played 234 places_1 (
+    report (all_lines (played 234 places_1 (
     node (codes "R") 1
     ∷ node (codes "A") 1
     ∷ at 2 1 (table (codes "T") (number_key (codes "K") ∷ []))
@@ -255,7 +255,7 @@ repeated_message_adds_no_row = refl
 
 -- a repeated Exec of an UPDATE is answered again and not run again
 repeated_update_runs_once :
-    report (told (played 192 places_1 (opening_3 ++
+    report (all_lines (played 192 places_1 (opening_3 ++
     at 1 1 (stmts.Update (over (codes "T") (codes "LA")) (set (codes "N") (minus (codes "N") 1) ∷ []) [])
     ∷ commands.Again 5
     ∷ at 1 1 (rows (over (codes "T") (codes "LA")) [])
@@ -272,7 +272,7 @@ repeated_update_runs_once = refl
 
 -- while a statement waits for its Reply, that of the statement before comes again and is ignored
 reply_of_an_earlier_call_comes_again :
-    report (told (played 220 places_1 (opening_3 ++
+    report (all_lines (played 220 places_1 (opening_3 ++
     hold
     ∷ at 1 1 (rows (over (codes "T") (codes "LA")) [])
     ∷ commands.Again 4

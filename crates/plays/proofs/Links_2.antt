@@ -3,13 +3,13 @@ use Rattle.std.proofs.Common.{◌≡◌, [], ◌∷◌, codes, refl}
 use Rattle.run_rules.specs.Report.{report}
 use Rattle.node_rules.specs.Data.stmts
 use Rattle.run_rules.specs.Data.commands
-use Rattle.plays.proofs.Script.{number_column, number_key, table, link, synonym, over, num, minus, set, insert, rows, commit, node, at, hold, let_go, pump, pump_all, played, told}
+use Rattle.plays.proofs.Script.{number_column, number_key, table, link, synonym, over, num, minus, set, insert, rows, commit, node, at, hold, let_go, pump, pump_all, played, all_lines}
 use Rattle.plays.proofs.Playing.{playing}
 use Rattle.plays.proofs.Links_shared.{places_4, places_5}
 
 -- a branch at a restarted node is gone; the transaction takes a rollback alone; a cut link gives no answer
 restarted_node_has_lost_the_branch :
-    report (told (played 346 places_4 (
+    report (all_lines (played 346 places_4 (
     node (codes "R") 1
     ∷ node (codes "A") 100
     ∷ node (codes "B") 50
@@ -56,7 +56,7 @@ restarted_node_has_lost_the_branch = refl
 
 -- a local coordinator ignores the statement that it is working on and any before it, and answers the last one again
 statement_under_way_comes_again :
-    report (told (played 360 places_5 (
+    report (all_lines (played 360 places_5 (
     node (codes "R") 1
     ∷ node (codes "B") 1
     ∷ node (codes "C") 1

@@ -3,7 +3,7 @@ use Rattle.std.proofs.Common.{◌≡◌, ℕ, List, [], ◌∷◌, codes, refl}
 use Rattle.run_rules.specs.Report.{report}
 use Rattle.node_rules.specs.Data.{Place}
 use Rattle.run_rules.specs.Data.commands
-use Rattle.plays.proofs.Script.{place, number_column, number_key, table, here, num, equal, insert, rows, commit, node, at, played, told}
+use Rattle.plays.proofs.Script.{place, number_column, number_key, table, here, num, equal, insert, rows, commit, node, at, played, all_lines}
 use Rattle.plays.proofs.Playing.{playing}
 
 abbrev names_1 : List (List ℕ)
@@ -20,7 +20,7 @@ places_2 = place names_2 1 1 ∷ []
 
 -- one node: a table, a row, COMMIT, and the row is found
 insert_commit_and_query :
-    report (told (played 150 places_1 (
+    report (all_lines (played 150 places_1 (
     node (codes "SALES") 1
     ∷ at 1 1 (table (codes "ORDERS") (number_key (codes "ID") ∷ number_column (codes "QTY") ∷ []))
     ∷ at 1 1 (insert (here (codes "ORDERS")) (num 1 ∷ num 10 ∷ []))
@@ -41,7 +41,7 @@ insert_commit_and_query = refl
 
 -- what a running node and a stopped node refuse
 stopped_and_running_nodes :
-    report (told (played 234 places_2 (
+    report (all_lines (played 234 places_2 (
     node (codes "A") 1
     ∷ commands.Start 1
     ∷ commands.Stop 1
@@ -72,7 +72,7 @@ stopped_and_running_nodes = refl
 
 -- a stop loses the row that was not committed; a stopped node refuses COMMIT
 uncommitted_row_is_lost_at_stop :
-    report (told (played 178 places_1 (
+    report (all_lines (played 178 places_1 (
     node (codes "SALES") 1
     ∷ at 1 1 (table (codes "ORDERS") (number_key (codes "ID") ∷ number_column (codes "QTY") ∷ []))
     ∷ at 1 1 (insert (here (codes "ORDERS")) (num 1 ∷ num 10 ∷ []))

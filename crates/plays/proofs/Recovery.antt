@@ -4,7 +4,7 @@ use Rattle.run_rules.specs.Report.{report}
 use Rattle.node_rules.specs.Data.{Place}
 use Rattle.node_rules.specs.Data.stmts
 use Rattle.run_rules.specs.Data.commands
-use Rattle.plays.proofs.Script.{place, node, at, played, told}
+use Rattle.plays.proofs.Script.{place, node, at, played, all_lines}
 use Rattle.plays.proofs.Playing.{playing}
 
 abbrev names_1 : List (List ℕ)
@@ -15,7 +15,7 @@ places_1 = place names_1 1 1 ∷ []
 
 -- recovery that is switched off stays off over a restart, until it is switched on
 switched_off_recovery_survives_a_restart :
-    report (told (played 192 places_1 (
+    report (all_lines (played 192 places_1 (
     node (codes "A") 1
     ∷ at 1 1 (stmts.Recovery false)
     ∷ commands.Reco 1

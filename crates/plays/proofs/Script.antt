@@ -11,7 +11,7 @@ use Rattle.run_rules.specs.Data.{AnswerLine, Command, Entry}
 use Rattle.run_rules.specs.Data.hows
 use Rattle.run_rules.specs.Data.commands
 use Rattle.run_rules.specs.RunReport.{Past, start}
-use Rattle.run_rules.specs.Lines.{told as reported_of}
+use Rattle.run_rules.specs.Lines.{all_lines as reported_of}
 use Rattle.run_rules.specs.Due.{runs_on}
 
 -- a node's place, with as many links and extents of undo as a node has where its command says nothing
@@ -134,9 +134,9 @@ pump_all = commands.Pump None
 abbrev pub played : ℕ → List Place → List Command → Past
 played happenings places script = runs_on places script (replicate happenings 0) (start places)
 
--- what was told of it
-abbrev pub told : Past → List AnswerLine
-told p = reported_of p.facts p.run_report
+-- the lines of its report
+abbrev pub all_lines : Past → List AnswerLine
+all_lines p = reported_of p.facts p.run_report
 
 -- its book
 abbrev pub booked : Past → List Entry

@@ -7,7 +7,7 @@ use Rattle.node_rules.specs.Data.terms
 use Rattle.node_rules.specs.Data.picks
 use Rattle.node_rules.specs.Data.stmts
 use Rattle.run_rules.specs.Data.commands
-use Rattle.plays.proofs.Script.{place, place_within, column, number_key, text_column, table, here, num, text, repeated, literal, step, sum, set, equal, insert, rows, commit, node, at, no_statement, played, told}
+use Rattle.plays.proofs.Script.{place, place_within, column, number_key, text_column, table, here, num, text, repeated, literal, step, sum, set, equal, insert, rows, commit, node, at, no_statement, played, all_lines}
 use Rattle.plays.proofs.Playing.{playing}
 
 abbrev names_1 : List (List ℕ)
@@ -21,7 +21,7 @@ places_2 = place_within names_1 1 1 4 1 ∷ []
 
 -- the refusals of one table's statements; a refused CREATE has committed
 refusals_at_one_table :
-    report (told (played 262 places_1 (
+    report (all_lines (played 262 places_1 (
     node (codes "X") 1
     ∷ at 1 1 (table (codes "T") (number_key (codes "K") ∷ column (codes "V") (Some 3) true false ∷ []))
     ∷ at 1 1 (insert (here (codes "T")) (num 1 ∷ text (codes "abc") ∷ []))
@@ -58,7 +58,7 @@ refusals_at_one_table = refl
 
 -- the third update needs an undo extent that is not there
 undo_space_runs_out :
-    report (told (played 220 places_2 (
+    report (all_lines (played 220 places_2 (
     commands.Node (codes "X") 1 4 1
     ∷ at 1 1 (table (codes "T") (number_key (codes "K") ∷ text_column (codes "V") 1500 ∷ []))
     ∷ at 1 1 (insert (here (codes "T")) (num 1 ∷ text (repeated 1500 (codes "x")) ∷ []))
@@ -87,7 +87,7 @@ undo_space_runs_out = refl
 
 -- too many values, an unknown table, the key column, a wrong type, a sum out of range
 values_names_types_and_range :
-    report (told (played 192 places_1 (
+    report (all_lines (played 192 places_1 (
     node (codes "X") 1
     ∷ at 1 1 (table (codes "T") (number_key (codes "K") ∷ text_column (codes "V") 3 ∷ []))
     ∷ at 1 1 (insert (here (codes "T")) (num 1 ∷ text (codes "a") ∷ num 2 ∷ []))

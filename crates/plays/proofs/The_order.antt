@@ -17,7 +17,7 @@ use Rattle.run_rules.specs.Branches.{Sealed, Decided, Kept, Gone, Trail, no_trai
 use Rattle.run_rules.specs.Tree.{site, tree, weight, step, walk, plan}
 use Rattle.run_rules.specs.Trail.{trail_after, trail_of, with_begun}
 use Rattle.run_rules.specs.Runs.{meaning, run_in, view_by}
-use Rattle.run_rules.specs.Book.{rows_of, rows_told, in_doubt, decided, Agreement, MixedIsMarked}
+use Rattle.run_rules.specs.Book.{rows_of, rows_by_book, in_doubt, decided, Agreement, MixedIsMarked}
 use Rattle.plays.proofs.Script.{over, here, num, text, minus, set, equal, insert, rows, commit, at, played}
 use Rattle.plays.proofs.Playing.{playing}
 use Rattle.plays.proofs.Commit_shared.{places_2, opening_1}
@@ -25,7 +25,7 @@ use Rattle.std.specs.Prelude.{⊤}
 
 -- what is unfolded to compute what is known of branches
 unfoldable knowing : ⊤
-unfolding playing facts_of trail_after trail_of happened tree weight step walk plan life_at run_in view_by meant rows_of rows_told in_doubt
+unfolding playing facts_of trail_after trail_of happened tree weight step walk plan life_at run_in view_by meant rows_of rows_by_book in_doubt
 knowing = tt
 
 -- the order: a row at SALES, less stock at WAREHOUSE, and an entry at HQ
@@ -113,7 +113,7 @@ the_stock : rows_of (facts 276 committed).book 2 (codes "STOCK") ≡ row (text (
 unfolding knowing
 the_stock = refl
 
-the_ledger : rows_told (facts 276 committed).book 3 (codes "LEDGER") ≡ row (num 1) (num 250) ∷ []
+the_ledger : rows_by_book (facts 276 committed).book 3 (codes "LEDGER") ≡ row (num 1) (num 250) ∷ []
 unfolding knowing
 the_ledger = refl
 

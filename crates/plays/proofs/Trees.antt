@@ -3,7 +3,7 @@ use Rattle.std.proofs.Common.{◌≡◌, ℕ, List, [], ◌∷◌, ◌++◌, cod
 use Rattle.run_rules.specs.Report.{report}
 use Rattle.node_rules.specs.Data.{Place}
 use Rattle.run_rules.specs.Data.{Command}
-use Rattle.plays.proofs.Script.{place, number_key, table, link, synonym, here, num, insert, node, at, played, told}
+use Rattle.plays.proofs.Script.{place, number_key, table, link, synonym, here, num, insert, node, at, played, all_lines}
 use Rattle.plays.proofs.Playing.{playing}
 
 abbrev names_1 : List (List ℕ)
@@ -74,7 +74,7 @@ opening_1_lines =
 
 -- a row is inserted through seven links at the eighth node
 eight_nodes_deep :
-    report (told (played 430 places_1 (opening_1 ++
+    report (all_lines (played 430 places_1 (opening_1 ++
     at 8 1 (table (codes "T") (number_key (codes "K") ∷ []))
     ∷ at 1 1 (insert (here (codes "T")) (num 1 ∷ []))
     ∷ [])))
@@ -87,7 +87,7 @@ eight_nodes_deep = refl
 
 -- a synonym over a link to its own node goes round until it is too deep
 link_to_its_own_node_too_deep :
-    report (told (played 136 places_2 (
+    report (all_lines (played 136 places_2 (
     node (codes "N") 1
     ∷ at 1 1 (link (codes "L") (codes "N"))
     ∷ at 1 1 (synonym (codes "T") (codes "T") (codes "L"))
@@ -104,7 +104,7 @@ link_to_its_own_node_too_deep = refl
 
 -- a ninth node on the way is too deep
 nine_nodes_too_deep :
-    report (told (played 458 places_1 (opening_1 ++
+    report (all_lines (played 458 places_1 (opening_1 ++
     at 8 1 (link (codes "L") (codes "N9"))
     ∷ at 8 1 (synonym (codes "T") (codes "T") (codes "L"))
     ∷ at 9 1 (table (codes "T") (number_key (codes "K") ∷ []))

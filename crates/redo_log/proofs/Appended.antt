@@ -2,7 +2,7 @@
 use Rattle.std.proofs.Common.{◌≡◌, ℕ, ◌+◌, ◌<◌, ◌^◌, List, [], ◌∷◌, ◌++◌, length, drop, Option, Some, None, sym, ◌∙◌, ap, subst, arith, inl}
 use Rattle.block_disk.specs.Images.{IsOnly, AddsNone, GoesOn, AtEachMoment}
 use Rattle.redo_log.specs.Cells.{bodies, held, GrowsBy}
-use Rattle.redo_log.specs.Log.{IsSettled, HoldsWithOrWithout, staged, with_gate, MayBeStored}
+use Rattle.redo_log.specs.Log.{IsSettled, HoldsWithOrWithout, staged, with_gate, MayBeImage}
 use Rattle.block_disk.specs.Plan.{FaultPlan}
 use Rattle.redo_log.specs.Stands.{stands_by, IsStoredIf, IsStoredByPlan, HoldsByPlan}
 use Rattle.redo_log.specs.declared.log.Log.{Log}
@@ -30,11 +30,11 @@ module _ {D : Type 0} (content : D → List ℕ) (images : D → List ℕ → Ty
 
     pub while_stored : (mid new : D) (behind : List ℕ) → AddsNone (images log.disk) (images mid) → GoesOn (moment log.disk) (moment mid) (images_since log.disk) (images_since mid) (images mid)
         → content mid ≡ content log.disk → behind ≡ staged body → length body < 2 ^ 32
-        → AtEachMoment moment images_since mid new (MayBeStored log.end behind (content mid)) → AtEachMoment moment images_since log.disk new P
+        → AtEachMoment moment images_since mid new (MayBeImage log.end behind (content mid)) → AtEachMoment moment images_since log.disk new P
     while_stored mid new behind none time same is_staged fits more =
-        followed_by moment images_since log.disk mid new P (MayBeStored log.end behind (content mid)) (with_room mid none time) more
+        followed_by moment images_since log.disk mid new P (MayBeImage log.end behind (content mid)) (with_room mid none time) more
         (λ image may. with_or_without log.end list (content log.disk) is.cells body fits image
-        (subst (λ (l : List ℕ). MayBeStored log.end (staged body) l image) same (subst (λ (b : List ℕ). MayBeStored log.end b (content mid) image) is_staged may)))
+        (subst (λ (l : List ℕ). MayBeImage log.end (staged body) l image) same (subst (λ (b : List ℕ). MayBeImage log.end b (content mid) image) is_staged may)))
 
   module _ (before behind after : List ℕ) (same : before ≡ content log.disk) (is_staged : behind ≡ staged body) (fits : length body < 2 ^ 32) (stores : after ≡ with_gate 1 log.end behind before) where
     is_after : after ≡ with_gate 1 log.end (staged body) (content log.disk)

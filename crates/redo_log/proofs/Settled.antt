@@ -7,7 +7,7 @@ use Rattle.std.proofs.lemmas.List.{append-nil, take_at, drop_at, take-take, drop
 use Rattle.std.proofs.lemmas.List.Concat.{flat_map-append}
 use Rattle.block_disk.specs.Images.{IsOnly}
 use Rattle.redo_log.specs.Cells.{cell_of, cells_of, bodies, held, IsClosed, AllFit, IsLogTo}
-use Rattle.redo_log.specs.Log.{IsSettled, HoldsWithOrWithout, staged, with_gate, MayBeStored}
+use Rattle.redo_log.specs.Log.{IsSettled, HoldsWithOrWithout, staged, with_gate, MayBeImage}
 use Rattle.redo_log.specs.Stands.{IsStoredIf, with_body_if}
 use Rattle.redo_log.specs.declared.log.Log.{Log}
 use Rattle.redo_log.proofs.Cells.{bodies-closed}
@@ -86,7 +86,7 @@ module _ (end : ℕ) (list : List (List ℕ)) (before : List ℕ) (is : IsLogTo 
         let tail = drop (end + 1 + length (staged body)) before in
         ap bodies (append_assoc (take end before) (byte ∷ staged body) tail ∙ ap (λ (l : List ℕ). l ++ (byte ∷ staged body ++ tail)) is.cells) ∙ bodies-closed list (byte ∷ staged body ++ tail) is.fit shut_byte
 
-    pub with_or_without : (image : List ℕ) → MayBeStored end (staged body) before image → HoldsWithOrWithout list body image
+    pub with_or_without : (image : List ℕ) → MayBeImage end (staged body) before image → HoldsWithOrWithout list body image
     with_or_without image may = elim may [
       | inl same ↦ inl (unchanged image same)
       | inr stands ↦ elim (cases_eq stands.0 1) [

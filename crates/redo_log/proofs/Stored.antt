@@ -2,12 +2,12 @@
 use Rattle.std.proofs.Common.{◌≡◌, inl, inr, ℕ, ◌+◌, ◌<◌, List, ◌∷◌, ◌++◌, length, get_or, take, drop, sym, ◌∙◌, ap, subst, arith, append_assoc, length-append, take-append-drop}
 use Rattle.std.proofs.lemmas.List.{drop_at, drop_more, take-take, take-append-le, length-take-le}
 use Rattle.block_disk.specs.Images.{IsWritten, MayBeTorn, TearsOnly, AddsNone, IsOnly, GoesOn, AtEachMoment}
-use Rattle.redo_log.specs.Log.{MayBeStored}
+use Rattle.redo_log.specs.Log.{MayBeImage}
 use Rattle.redo_log.proofs.Moments.{started, goes_on}
 
 -- the closed gate stands in each image of the first write
 first_torn : (gate count : ℕ) (behind before : List ℕ) (images images' : List ℕ → Type 0) → IsOnly before images → TearsOnly (gate + 1) count images images'
-    → (image : List ℕ) → images' image → MayBeStored gate behind before image
+    → (image : List ℕ) → images' image → MayBeImage gate behind before image
 first_torn gate count behind before images images' only tears image is =
     let from = tears image is in
     inl (from.2.front ∙ ap (λ (l : List ℕ). take (gate + 1) l) (only from.0 from.1))
@@ -35,7 +35,7 @@ module _ (gate : ℕ) (behind before : List ℕ) (within : gate < length before)
   long = omega (arith, ap (λ (l : List ℕ). length l) split, length-front, length-append (take (gate + 1) before) (behind ++ rest))
 
   -- the bytes stand whole in each image of the second
-  torn_gate : (image : List ℕ) → MayBeTorn gate 1 written image → MayBeStored gate behind before image
+  torn_gate : (image : List ℕ) → MayBeTorn gate 1 written image → MayBeImage gate behind before image
   torn_gate image torn =
       let byte = get_or image gate 0 in
       let rest_is : drop gate image ≡ byte ∷ (behind ++ rest) =
@@ -45,7 +45,7 @@ module _ (gate : ℕ) (behind before : List ℕ) (within : gate < length before)
       inr (byte, whole ∙ sym (append_assoc (take gate before) (byte ∷ behind) rest))
 
   second_torn : (one : List ℕ) (images images' : List ℕ → Type 0) → IsWritten before (gate + 1) behind one → IsOnly one images → TearsOnly gate 1 images images'
-      → (image : List ℕ) → images' image → MayBeStored gate behind before image
+      → (image : List ℕ) → images' image → MayBeImage gate behind before image
   second_torn one images images' is only tears image now =
       let from = tears image now in
       torn_gate image (subst (λ (l : List ℕ). MayBeTorn gate 1 l image) (only from.0 from.1 ∙ is) from.2)
@@ -58,7 +58,7 @@ module _ {D : Type 0} (images : D → List ℕ → Type 0) (moment : D → ℕ) 
     (is : IsWritten before (gate + 1) behind one) (only : IsOnly one (images kept))
     (tears' : TearsOnly gate 1 (images kept) (images second)) (opens : GoesOn (moment kept) (moment second) (images_since kept) (images_since second) (images second)) where
   abbrev P : List ℕ → Type 0
-  P = MayBeStored gate behind before
+  P = MayBeImage gate behind before
 
   at_gate : (image : List ℕ) → images first image → P image
   at_gate = first_torn gate (length behind) behind before (images old) (images first) durable tears

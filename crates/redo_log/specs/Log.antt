@@ -48,8 +48,8 @@ abbrev pub with_gate : ℕ → ℕ → List ℕ → List ℕ → List ℕ
 with_gate byte gate behind before = take gate before ++ byte ∷ behind ++ drop (gate + 1 + length behind) before
 
 -- An image while bytes are written after a gate that is then opened: all is as before up to the gate, or the bytes are there whole.
-abbrev pub MayBeStored : ℕ → List ℕ → List ℕ → List ℕ → Type 0
-MayBeStored gate behind before image = (take (gate + 1) image ≡ take (gate + 1) before) ⊎ ((byte : ℕ) × (image ≡ with_gate byte gate behind before))
+abbrev pub MayBeImage : ℕ → List ℕ → List ℕ → List ℕ → Type 0
+MayBeImage gate behind before image = (take (gate + 1) image ≡ take (gate + 1) before) ⊎ ((byte : ℕ) × (image ≡ with_gate byte gate behind before))
 
 -- an image while a log is begun: at most one byte, and it is no log or one of no body
 pub record MayBeBegun (image : List ℕ) : Type 0 where

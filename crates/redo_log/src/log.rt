@@ -5,7 +5,7 @@ ghost use Rattle.block_disk.specs.Orders.{ordered};
 ghost use Rattle.redo_log.specs.declared.err.MakeWhy.{MakeWhy};
 ghost use Rattle.redo_log.specs.Calls.{IsNewLog, LoadsBodies, LoadFails, GrowsByBody, HoldsAsPlanned, GoesOnAfter};
 ghost use Rattle.redo_log.specs.Cells.{body_limit, held};
-ghost use Rattle.redo_log.specs.Log.{disk_of, IsIntact, IsUsable, MayBeBegun, HoldsWithOrWithout, OnRefused, staged, with_gate, MayBeStored};
+ghost use Rattle.redo_log.specs.Log.{disk_of, IsIntact, IsUsable, MayBeBegun, HoldsWithOrWithout, OnRefused, staged, with_gate, MayBeImage};
 ghost use Rattle.redo_log.specs.Plans.{append_calls, begin_calls};
 ghost use Rattle.redo_log.specs.Runs.{IsUntouched, HasRun, MetFault, IsOnlyRead, HasGrown, LeavesByPlan};
 ghost use Rattle.redo_log.specs.Stands.{IsStoredByPlan};
@@ -189,7 +189,7 @@ fn store<D: Disk>(disk: &mut D, gate: u64, behind: &[u8]) -> Result<(), Failed>
 
     ensures stored { OnOk result (D.content disk.new ≡ with_gate 1 gate behind.now (D.content disk.old)) }
     ensures durable { OnOk result (IsOnly (D.content disk.new) (D.images disk.new)) }
-    ensures any_moment { AtEachMoment D.moment D.images_since disk.old disk.new (MayBeStored gate behind.now (D.content disk.old)) }
+    ensures any_moment { AtEachMoment D.moment D.images_since disk.old disk.new (MayBeImage gate behind.now (D.content disk.old)) }
     ensures run { OnOk result (HasRun D.Disk append_calls disk.old disk.new) }
     ensures failed { OnErr result (MetFault D.Disk append_calls disk.old disk.new) }
     ensures left { OnErr result (IsStoredByPlan (D.plan disk.old) gate behind.now (D.content disk.old) (D.content disk.new)) }

@@ -123,11 +123,11 @@ refusal_of s b cs =
     else (if nat_lt (extents_free s) (extents_needed s b cs) then Some (Full (extents_needed s b cs) (extents_free s)) else None)
 
 -- Ok comes only where nothing refuses the changes, and a refusal is the one that is due; memory may run out at any time
-abbrev pub Tells : {A : Type 0} → Result A StoreErr → Option StoreErr → Type 0
-Tells (Ok x) refusal = refusal ≡ None
-Tells (Err NoMemory) refusal = Unit {0}
-Tells (Err (TooLarge bytes)) refusal = refusal ≡ Some (TooLarge bytes)
-Tells (Err (Full need free)) refusal = refusal ≡ Some (Full need free)
+abbrev pub RefusesOnly : {A : Type 0} → Result A StoreErr → Option StoreErr → Type 0
+RefusesOnly (Ok x) refusal = refusal ≡ None
+RefusesOnly (Err NoMemory) refusal = Unit {0}
+RefusesOnly (Err (TooLarge bytes)) refusal = refusal ≡ Some (TooLarge bytes)
+RefusesOnly (Err (Full need free)) refusal = refusal ≡ Some (Full need free)
 
 -- the branch's changes are committed
 abbrev pub committed : Contents → BranchId → Contents

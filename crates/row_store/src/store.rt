@@ -10,7 +10,7 @@ ghost use Rattle.row_store.specs.Own.{changes_length, last_at as last_at_of};
 ghost use Rattle.row_store.specs.Pending.{changes_of, undo_of};
 ghost use Rattle.row_store.specs.Tables.{apply_all, with_table};
 ghost use Rattle.row_store.specs.Made.{changes_in, undo_in, set_in};
-ghost use Rattle.row_store.specs.Store.{nothing_kept, AreOfTables, own_changes, seen_by, set_seen, sets_at, own_extents, extents_of_sets, with_set, with_pending, bytes_with as bytes_with_of, extents_needed, extents_free, refusal_of, Tells, without_last, committed, rolled_back, held_from, sealed, is_in_doubt as is_in_doubt_of, doubt_committed, doubt_dropped};
+ghost use Rattle.row_store.specs.Store.{nothing_kept, AreOfTables, own_changes, seen_by, set_seen, sets_at, own_extents, extents_of_sets, with_set, with_pending, bytes_with as bytes_with_of, extents_needed, extents_free, refusal_of, RefusesOnly, without_last, committed, rolled_back, held_from, sealed, is_in_doubt as is_in_doubt_of, doubt_committed, doubt_dropped};
 
 use crate::StoreErr;
 use crate::held_back::{HeldBack, HeldChanges};
@@ -169,7 +169,7 @@ impl Store {
     ) -> Result<(), StoreErr>
         requires { AreOfTables self.old.rows changes }
         ensures ok { OnOk result (self.new ≡ with_pending self.old branch.now changes) }
-        ensures refused { Tells result (refusal_of self.old branch.now changes) }
+        ensures refused { RefusesOnly result (refusal_of self.old branch.now changes) }
         ensures err { OnErr result (self.new ≡ self.old) }
     {
         let set = self.admitted(alloc, branch, changes)?;
@@ -268,7 +268,7 @@ impl Store {
         changes: Changes,
     ) -> Result<Vec<Made>, StoreErr>
         ensures set { IfOk result (λ set. set_in set.items ≡ set_seen self.now branch.now changes) }
-        ensures refused { Tells result (refusal_of self.now branch.now changes) }
+        ensures refused { RefusesOnly result (refusal_of self.now branch.now changes) }
         ensures room { OnOk result (own_extents self.now.owns + extents_needed self.now branch.now changes < 2 ^ 64) }
     {
         let bytes = self.bytes_with(branch, changes.as_slice())?;

@@ -24,7 +24,7 @@ use Rattle.run_rules.specs.Lawful.{IsPlace, MayTurn, MayHappen, Comes, IsOwed, I
 use Rattle.run_base_laws.specs.RunEvents.{events_after}
 use Rattle.run_rules.specs.Births.{Born, births_after, births_of, born_at}
 use Rattle.run_base_laws.specs.BirthLaws.{Began, LiveIs, NamesAre, GoesSo}
-use Rattle.run_base_laws.specs.InTurnLaws.{post_of, said_in, exec_number, reply_number, newest_exec, newest_reply, call_at, GoesOn, CallsAreAnswered, BranchesCallInTurn, EdgesFit}
+use Rattle.run_base_laws.specs.InTurnLaws.{post_of, said_in, exec_number, reply_number, newest_exec, newest_reply, call_at, NeedsNoRollback, CallsAreAnswered, BranchesCallInTurn, EdgesFit}
 use Rattle.run_rules.proofs.ListLemmas.{all_weaker}
 use Rattle.run_base_laws.proofs.OwnLemmas.{Own, all_found}
 use Rattle.run_base_laws.proofs.LawfulLemmas.{serves}
@@ -52,7 +52,7 @@ use Rattle.run_base_laws.proofs.SaidPostLemmas.{posts_back, posts_of, said_after
 
 -- the calls of a node's live branches are in turn
 abbrev pub CallsOf : List Post → NodeState → Live → Work → Type 0
-CallsOf said k l w = InTurn (GoesOn k l) said l.me l.parent (children_of l) w
+CallsOf said k l w = InTurn (NeedsNoRollback k l) said l.me l.parent (children_of l) w
 
 abbrev pub NodeCalls : List Post → NodeState → Type 0
 NodeCalls said k = EachLive (CallsOf said k) k.lives k.works
@@ -90,7 +90,7 @@ each_both P Q ls ws one other = record { there = one.there; each = λ b l found.
 -- messages of others leave a node's branches in turn
 calls_stay : (said says : List Post) (k : NodeState) → ((b : BranchId) (l : Live) → live_at k b ≡ Some l → Silent l.me says) → NodeCalls said k → NodeCalls (said ++ says) k
 calls_stay said says k silent now =
-    each_same (CallsOf said k) (CallsOf (said ++ says) k) k.lives k.works now (λ y v live any is. stays_in_turn (GoesOn k y) said says y.me y.parent (children_of y) v (silent y.me y live) is)
+    each_same (CallsOf said k) (CallsOf (said ++ says) k) k.lives k.works now (λ y v live any is. stays_in_turn (NeedsNoRollback k y) said says y.me y.parent (children_of y) v (silent y.me y live) is)
 
 module _ (places : List Place) (asked : List Command) (each : (n : ℕ) (p : Place) → numbered places n ≡ Some p → IsPlace places n p) where
   module _ (f : Facts) (t : List Event) (bs : List Born) (stand : StandBorn places asked each f t bs) (roots : RootsStand places asked each f) (now : CallsStand f) where
@@ -142,7 +142,7 @@ module _ (places : List Place) (asked : List Command) (each : (n : ℕ) (p : Pla
       own = (owned_so places asked each f t stand.0 n k may.up).1
 
       -- a root that may go on after the turn needed no rollback before it
-      goes_before : (b : BranchId) (l : Live) → live_at k b ≡ Some l → (l.parent ≡ None → May l.me) → GoesOn k l
+      goes_before : (b : BranchId) (l : Live) → live_at k b ≡ Some l → (l.parent ≡ None → May l.me) → NeedsNoRollback k l
       goes_before b l live goes none =
           let may_go : May l.me = goes none in
           let before : (session_at k.sessions l.me.session).root ≡ Some l.me = (live_root k rests.1 b l live none).root in
@@ -157,7 +157,7 @@ module _ (places : List Place) (asked : List Command) (each : (n : ℕ) (p : Pla
           (each_same (λ l w. CallsOf said k l w × RootIs k.sessions l w) (turns.Begun (edge_of bs) (parent_of bs) May Here u.input said) k.lives k.works
           (each_both (CallsOf said k) (RootIs k.sessions) k.lives k.works (subst (λ o. IfSome o (NodeCalls said)) may.up (now.nodes n)) rests.1)
           (λ y v live any is. record {
-            turn = in_turn_goes (GoesOn k y) (y.parent ≡ None → May y.me) said y.me y.parent (children_of y) v (goes_before y.me y live) is.0;
+            turn = in_turn_goes (NeedsNoRollback k y) (y.parent ≡ None → May y.me) said y.me y.parent (children_of y) v (goes_before y.me y live) is.0;
             kids = kids_of bs y (all_found (LiveIs (Began bs)) live_id k.lives y.me y names.0 live);
             above = above_of bs y (all_found (LiveIs (Began bs)) live_id k.lives y.me y names.0 live);
             idle = λ none s call. (free_waits (session_at k.sessions y.me.session).call y.phase v.going (is.1 none).waits
@@ -192,7 +192,7 @@ module _ (places : List Place) (asked : List Command) (each : (n : ℕ) (p : Pla
       after : NodeCalls (said ++ d.says) d.after
       after =
           each_same (turns.Done (edge_of bs) (parent_of bs) May Here u.input said d.says) (CallsOf (said ++ d.says) d.after) d.after.lives d.after.works left.0
-          (λ y v live any is. in_turn_goes (y.parent ≡ None → May y.me) (GoesOn d.after y) (said ++ d.says) y.me y.parent (children_of y) v (λ goes none. (y, live, none, goes none)) is)
+          (λ y v live any is. in_turn_goes (y.parent ≡ None → May y.me) (NeedsNoRollback d.after y) (said ++ d.says) y.me y.parent (children_of y) v (λ goes none. (y, live, none, goes none)) is)
 
       pub here_after : node_at g n ≡ kept_after u.cut (Some (turn_of p k u.input))
       here_after = (turn_here places asked f stand.0.0.even u k may.up).0

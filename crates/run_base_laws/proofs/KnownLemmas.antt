@@ -21,7 +21,7 @@ use Rattle.run_rules.specs.Data.{Turn, Happening, Command}
 use Rattle.run_rules.specs.Data.happenings
 use Rattle.run_rules.specs.Facts.{Facts, place_at, records_at}
 use Rattle.run_rules.specs.Lawful.{MayHappen}
-use Rattle.run_rules.specs.BranchRecords.{Commits, IsRecorded}
+use Rattle.run_rules.specs.BranchRecords.{Commits, CommitIsRecorded}
 use Rattle.run_base_laws.specs.NodeLaws.{KnowsAt, CommitsNow, MayTell, TellsRecorded, TellsRecords, CommitsAreRecorded}
 use Rattle.run_rules.proofs.ListLemmas.{all_weaker}
 use Rattle.run_base_laws.proofs.LawfulLemmas.{Serves, of_sent, serves}
@@ -111,29 +111,29 @@ module _ (b : BranchId) (n : ℕ) where
   known_applied s (records.Param (params.Strength strength)) knows = inl knows
   known_applied s r knows = known_after s.durable.kept r knows
 
-  known_by_if : (s : Stored) (r : RedoRecord) (rs : List RedoRecord) → KnowsAt (applied s r).durable.kept b n ⊎ IsRecorded rs b n → KnowsAt s.durable.kept b n ⊎ IsRecorded (r ∷ rs) b n
+  known_by_if : (s : Stored) (r : RedoRecord) (rs : List RedoRecord) → KnowsAt (applied s r).durable.kept b n ⊎ CommitIsRecorded rs b n → KnowsAt s.durable.kept b n ⊎ CommitIsRecorded (r ∷ rs) b n
   known_by_if s r rs (inl known) = elim (known_applied s r known) [ inl old ↦ inl old | inr new ↦ inr (inl new) ]
   known_by_if s r rs (inr later) = inr (inr later)
 
   -- and by some record
-  known_by : (s : Stored) (rs : List RedoRecord) → KnowsAt (stored_by s rs).durable.kept b n → KnowsAt s.durable.kept b n ⊎ IsRecorded rs b n
+  known_by : (s : Stored) (rs : List RedoRecord) → KnowsAt (stored_by s rs).durable.kept b n → KnowsAt s.durable.kept b n ⊎ CommitIsRecorded rs b n
   unfolding stored_by
   known_by s [] knows = inl knows
   known_by s (r ∷ rs) knows = known_by_if s r rs (known_by (applied s r) rs knows)
 
   -- what a node that is up knows, its records say
-  pub known_recorded : (rs : List RedoRecord) (k : NodeState) → StoresOf rs k → KnowsAt k.stored.durable.kept b n → IsRecorded rs b n
+  pub known_recorded : (rs : List RedoRecord) (k : NodeState) → StoresOf rs k → KnowsAt k.stored.durable.kept b n → CommitIsRecorded rs b n
   known_recorded rs k stored knows =
       elim (known_by nothing_stored rs (subst (λ s. KnowsAt s.durable.kept b n) stored (known_unacked k.stored.durable.kept b n knows))) [ inl none ↦ absurd none | inr there ↦ there ]
 
   -- more records say it too
-  recorded_before : (rs more : List RedoRecord) → IsRecorded rs b n → IsRecorded (rs ++ more) b n
+  recorded_before : (rs more : List RedoRecord) → CommitIsRecorded rs b n → CommitIsRecorded (rs ++ more) b n
   recorded_before [] more is = absurd is
   recorded_before (r ∷ rs) more (inl here) = inl here
   recorded_before (r ∷ rs) more (inr there) = inr (recorded_before rs more there)
 
   -- and the record of this turn
-  recorded_last : (rs : List RedoRecord) (w : Option RedoRecord) → CommitsNow w b n → IsRecorded (rs ++ option_to_list w) b n
+  recorded_last : (rs : List RedoRecord) (w : Option RedoRecord) → CommitsNow w b n → CommitIsRecorded (rs ++ option_to_list w) b n
   recorded_last rs None now = absurd now
   recorded_last [] (Some r) now = inl now
   recorded_last (x ∷ rs) (Some r) now = inr (recorded_last rs (Some r) now)

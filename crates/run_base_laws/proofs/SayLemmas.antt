@@ -28,7 +28,7 @@ use Rattle.node_rules.specs.Inputs.{Came}
 use Rattle.node_rules.proofs.Steps as steps
 use Rattle.node_rules.proofs.Steps.{Step, Says, Doing, IsKept}
 use Rattle.run_base_laws.specs.RunEvents.{with_event, wrote_event}
-use Rattle.run_base_laws.specs.EventRows.{RowIs, RowsAre, IsKnown, MaySay}
+use Rattle.run_base_laws.specs.EventRows.{RowIs, RowsAre, IsKnown, MaySayByEvents}
 use Rattle.run_rules.proofs.ListLemmas.{all_weaker, all_append, all_map, all_each, all_put}
 use Rattle.node_rules.proofs.StepLemmas.{IsLive, acting_live}
 use Rattle.run_base_laws.proofs.OwnLemmas.{all_found, all_with}
@@ -40,17 +40,17 @@ use Rattle.run_base_laws.proofs.MayStandLemmas.{IsUntaught, Fits, live_exit, row
 
 module _ (r : List Event) (scn : ℕ) where
   abbrev May : Post → Type 0
-  May x = MaySay r x.from x.to scn x.kind
+  May x = MaySayByEvents r x.from x.to scn x.kind
 
   -- each of these may be said
   abbrev pub Told : List Post → Type 0
   Told posts = AllByRecursion May posts
 
-  one_told : (from : BranchId) (kind : Kind) (to : Option BranchId) → ((b : BranchId) → MaySay r from b scn kind) → Told (to_one from kind to)
+  one_told : (from : BranchId) (kind : Kind) (to : Option BranchId) → ((b : BranchId) → MaySayByEvents r from b scn kind) → Told (to_one from kind to)
   one_told from kind None may = tt
   one_told from kind (Some to) may = (may to, tt)
 
-  each_told : (from : BranchId) (kind : Kind) (tos : List BranchId) → ((b : BranchId) → MaySay r from b scn kind) → Told (to_each from kind tos)
+  each_told : (from : BranchId) (kind : Kind) (tos : List BranchId) → ((b : BranchId) → MaySayByEvents r from b scn kind) → Told (to_each from kind tos)
   each_told from kind tos may = all_each May (post_one from kind) tos may
 
   answer_told : (x : Branch) (a : Answer) (parent : Option BranchId) → Told (answer_says x a parent)
@@ -73,15 +73,15 @@ module _ (r : List Event) (scn : ℕ) where
   passes_told : (s : KeptRow) (d : Decision) → ((n : ℕ) → d ≡ decisions.Commit n → Knows r s.me n) → Told (passes s d)
   passes_told s (decisions.Commit n) knows = commit_told s n (beyond s) (knows n refl)
   passes_told s decisions.Rollback knows =
-      all_each May (rollback_to s.me) (beyond s) (λ b. cond_both b.is_parent kinds.RolledBack kinds.Rollback (λ kind. MaySay r s.me b.branch scn kind) (λ up. tt) (λ down. tt))
+      all_each May (rollback_to s.me) (beyond s) (λ b. cond_both b.is_parent kinds.RolledBack kinds.Rollback (λ kind. MaySayByEvents r s.me b.branch scn kind) (λ up. tt) (λ down. tt))
 
-  known_told : (s : KeptRow) (to : BranchId) (d : Option Decision) → IsKnown r s d → MaySay r s.me to scn (tells d)
+  known_told : (s : KeptRow) (to : BranchId) (d : Option Decision) → IsKnown r s d → MaySayByEvents r s.me to scn (tells d)
   known_told s to None known = tt
   known_told s to (Some (decisions.Commit n)) known = known
   known_told s to (Some decisions.Rollback) known = tt
 
-  asked_told : (s : KeptRow) (from : BranchId) → RowIs r s → MaySay r s.me from scn (ask_answer s from)
-  asked_told s from row = cond_both (is_neighbor s from) (told_by s.decision) tolds.RolledBack (λ t. MaySay r s.me from scn (told_kind t)) (λ near. known_told s from s.decision row.known) (λ other. tt)
+  asked_told : (s : KeptRow) (from : BranchId) → RowIs r s → MaySayByEvents r s.me from scn (ask_answer s from)
+  asked_told s from row = cond_both (is_neighbor s from) (told_by s.decision) tolds.RolledBack (λ t. MaySayByEvents r s.me from scn (told_kind t)) (λ near. known_told s from s.decision row.known) (λ other. tt)
 
   -- ---- recovery
 

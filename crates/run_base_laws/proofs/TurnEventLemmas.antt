@@ -29,7 +29,7 @@ use Rattle.run_base_laws.proofs.FreshLemmas.{Node}
 use Rattle.run_base_laws.proofs.LawfulLemmas.{Serves, of_wrote, of_sent, serves}
 use Rattle.run_base_laws.proofs.OwnLemmas.{rows_stored, recorded_too, Own, own_on, OwnAt}
 use Rattle.run_base_laws.proofs.LaterLemmas.{Added, Later, exit_later, learned_same, forced_same, exit_made, later_learned, later_forced, later_exit, turn_added}
-use Rattle.run_base_laws.specs.EventRows.{RowIs, RowsAre, MayStand, MaySay, MaySayAll}
+use Rattle.run_base_laws.specs.EventRows.{RowIs, RowsAre, MayStand, MaySayByEvents, MaySayAll}
 use Rattle.run_base_laws.proofs.RowEventLemmas.{EndsSo, row_later}
 use Rattle.run_base_laws.proofs.GivenLemmas.{given_on}
 use Rattle.run_base_laws.proofs.MayStandLemmas.{IsUntaught, Fits, may_on, lives_on, ended_given}
@@ -288,5 +288,5 @@ module _ (places : List Place) (asked : List Command) (each : (n : ℕ) (p : Pla
     pub sent_may : Below k.clock k.stored.durable.kept → AcksWereSent t u.input → MaySayAll t1 u.sent
     sent_may below acks =
         of_sent p k u serving (λ w ms. MaySayAll (with_event (wrote_event n w) t) ms) tt
-        (all_map (λ m. MaySay (with_event (wrote_event n d.wrote) t) m.from m.to m.scn m.kind) (stamped d.after.clock) d.says
+        (all_map (λ m. MaySayByEvents (with_event (wrote_event n d.wrote) t) m.from m.to m.scn m.kind) (stamped d.after.clock) d.says
         (step_told t n (boots rs) now.untaught p u.input is acks serving.step fits (heard_below u.input below)))

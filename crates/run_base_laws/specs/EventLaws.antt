@@ -14,7 +14,7 @@ use Rattle.run_rules.specs.Book.{Agreement, MixedIsMarked, AboveSeals}
 use Rattle.run_rules.specs.Lawful.{History, IsLawfulRun, facts_at}
 use Rattle.run_rules.specs.Facts.{Facts, first_facts, facts_after, node_at, records_at}
 use Rattle.run_base_laws.specs.RunEvents.{with_record, events_after, events_of, AreJust}
-use Rattle.run_base_laws.specs.EventRows.{RowsAre, MayStand, MaySayAll, HasRow, IsDone}
+use Rattle.run_base_laws.specs.EventRows.{RowsAre, MayStand, MaySayAll, IsKeptIn, IsGoneForGood}
 
 -- The book of a run is that of its events.
 abbrev pub BookOfEvents : Type 0
@@ -58,9 +58,9 @@ TurnsTellAsEvents = (t : History) → IsLawfulRun t → AtEachEvent TellsAsEvent
 -- In every lawful run a sealed branch has a row, by the records of its node, until it learned a rollback or forgot.
 abbrev pub SealedAreKept : Type 0
 SealedAreKept = (t : History) → IsLawfulRun t → (b : BranchId) (n : ℕ) → exit (events_of t) b ≡ Some (Sealed n)
-    → HasRow b (stored_by nothing_stored (records_at (facts_at t) b.node)).durable.kept ⊎ IsDone (events_of t) b
+    → IsKeptIn b (stored_by nothing_stored (records_at (facts_at t) b.node)).durable.kept ⊎ IsGoneForGood (events_of t) b
 
 -- In every lawful run a sealed branch of which its node knows nothing learned a rollback or forgot.
 abbrev pub GoneAreDone : Type 0
 GoneAreDone = (t : History) → IsLawfulRun t → (b : BranchId) (k : NodeState) → node_at (facts_at t) b.node ≡ Some k → status_of k b ≡ Is_gone
-    → (n : ℕ) → exit (events_of t) b ≡ Some (Sealed n) → IsDone (events_of t) b
+    → (n : ℕ) → exit (events_of t) b ≡ Some (Sealed n) → IsGoneForGood (events_of t) b

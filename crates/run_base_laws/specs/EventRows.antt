@@ -47,21 +47,21 @@ MayStand t _ = Unit {0}
 
 -- What a message needs of what stands after its turn's record, where that hangs on no tree: a vote of a seal whose SCN its
 -- clock has met, Committed of a commit that its sender knows, Forgotten of a sender that forgot, or as the answer to an Ack.
-abbrev pub MaySay : List Event → BranchId → BranchId → ℕ → Kind → Type 0
-MaySay t from to scn kinds.Prepared = (n : ℕ) × (exit t from ≡ Some (Sealed n)) × (n ≤ scn)
-MaySay t from to scn kinds.CommitPoint = (n : ℕ) × (exit t from ≡ Some (Sealed n)) × (n ≤ scn)
-MaySay t from to scn (kinds.Committed n) = Knows t from n
-MaySay t from to scn kinds.Forgotten = Has (Forget from) t ⊎ Has (Send_ack to from) t
-MaySay t from to scn _ = Unit {0}
+abbrev pub MaySayByEvents : List Event → BranchId → BranchId → ℕ → Kind → Type 0
+MaySayByEvents t from to scn kinds.Prepared = (n : ℕ) × (exit t from ≡ Some (Sealed n)) × (n ≤ scn)
+MaySayByEvents t from to scn kinds.CommitPoint = (n : ℕ) × (exit t from ≡ Some (Sealed n)) × (n ≤ scn)
+MaySayByEvents t from to scn (kinds.Committed n) = Knows t from n
+MaySayByEvents t from to scn kinds.Forgotten = Has (Forget from) t ⊎ Has (Send_ack to from) t
+MaySayByEvents t from to scn _ = Unit {0}
 
 -- each of these messages may be said
 abbrev pub MaySayAll : List Event → List Msg → Type 0
-MaySayAll t ms = AllByRecursion (λ m. MaySay t m.from m.to m.scn m.kind) ms
+MaySayAll t ms = AllByRecursion (λ m. MaySayByEvents t m.from m.to m.scn m.kind) ms
 
 -- a branch has a row
-abbrev pub HasRow : BranchId → List KeptRow → Type 0
-HasRow b ks = list_any (stands_at b) ks ≡ true
+abbrev pub IsKeptIn : BranchId → List KeptRow → Type 0
+IsKeptIn b ks = list_any (stands_at b) ks ≡ true
 
 -- it learned a rollback or forgot
-abbrev pub IsDone : List Event → BranchId → Type 0
-IsDone t b = (learned t b ≡ Some decisions.Rollback) ⊎ Has (Forget b) t
+abbrev pub IsGoneForGood : List Event → BranchId → Type 0
+IsGoneForGood t b = (learned t b ≡ Some decisions.Rollback) ⊎ Has (Forget b) t

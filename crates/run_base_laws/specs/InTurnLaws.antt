@@ -77,8 +77,8 @@ pub record MakesInTurn (said : List Post) (goes_on : Type 0) (me : BranchId) (pe
   pub heard : goes_on → (i : ℕ) (c : BranchId) → numbered peers i ≡ Some c → WaitsFor i w.going ⊎ (call_at w i ≤ newest_reply said c)
 
 -- a root's transaction needs no rollback
-abbrev pub GoesOn : NodeState → Live → Type 0
-GoesOn k l = l.parent ≡ None → (session_at k.sessions l.me.session).code ≡ None
+abbrev pub NeedsNoRollback : NodeState → Live → Type 0
+NeedsNoRollback k l = l.parent ≡ None → (session_at k.sessions l.me.session).code ≡ None
 
 -- ---- laws of every lawful run
 
@@ -89,7 +89,7 @@ CallsAreAnswered = (t : History) → IsLawfulRun t → (a b : BranchId) → newe
 -- Each live branch takes and answers its parent's calls, and makes its own, in turn.
 abbrev pub BranchesCallInTurn : Type 0
 BranchesCallInTurn = (t : History) → IsLawfulRun t → (n : ℕ) (k : NodeState) → node_at (facts_at t) n ≡ Some k → (x : Branch) → branch_at k x.live.me ≡ Some x
-    → TakesInTurn (said_in (facts_at t)) x.live.me x.live.parent x.work × MakesInTurn (said_in (facts_at t)) (GoesOn k x.live) x.live.me (children_of x.live) x.work
+    → TakesInTurn (said_in (facts_at t)) x.live.me x.live.parent x.work × MakesInTurn (said_in (facts_at t)) (NeedsNoRollback k x.live) x.live.me (children_of x.live) x.work
 
 -- Between a live branch and its live child: the child took the last call, or is about to and waits for nothing. Where the
 -- branch does not wait for its Reply it took the last, and waits for nothing.
@@ -101,4 +101,4 @@ pub record EdgeFits (goes_on : Type 0) (x : Work) (i : ℕ) (y : Work) : Type 0 
 abbrev pub EdgesFit : Type 0
 EdgesFit = (t : History) → IsLawfulRun t → (n : ℕ) (k : NodeState) → node_at (facts_at t) n ≡ Some k → (x : Branch) → branch_at k x.live.me ≡ Some x
     → (i : ℕ) (c : BranchId) → numbered (children_of x.live) i ≡ Some c → (m : ℕ) (j : NodeState) → node_at (facts_at t) m ≡ Some j → (y : Branch) → branch_at j y.live.me ≡ Some y → y.live.me ≡ c
-    → EdgeFits (GoesOn k x.live) x.work i y.work
+    → EdgeFits (NeedsNoRollback k x.live) x.work i y.work

@@ -13,7 +13,7 @@ use Rattle.node_rules.specs.Turn.{turn_of}
 use Rattle.run_rules.specs.Data.{Command, Happening}
 use Rattle.run_rules.specs.Data.happenings
 use Rattle.run_rules.specs.Facts.{Facts, first_facts, facts_after, place_at, node_at, records_at}
-use Rattle.run_rules.specs.BranchRecords.{IsRecorded, Commits}
+use Rattle.run_rules.specs.BranchRecords.{CommitIsRecorded, Commits}
 use Rattle.run_rules.specs.Lawful.{History, IsLawfulRun, facts_at}
 
 -- each of these happenings is so, by the facts before it
@@ -115,7 +115,7 @@ CommitsAreKnown = (t : History) → IsLawfulRun t → AtEachFact TellsItsOwn t
 
 -- Committed is told where a record of its node says so
 abbrev pub TellsRecorded : List RedoRecord → BranchId → Kind → Type 0
-TellsRecorded rs b (kinds.Committed n) = IsRecorded rs b n
+TellsRecorded rs b (kinds.Committed n) = CommitIsRecorded rs b n
 TellsRecorded rs b _ = Unit {0}
 
 -- each Committed of a turn is told where a record of the node says so

@@ -24,7 +24,7 @@ use Rattle.run_rules.specs.Facts.{Facts, first_facts, place_at, node_at, kept_af
 use Rattle.run_rules.specs.Lawful.{IsPlace, MayHappen, MayTurn, IsOwed, Comes}
 use Rattle.run_base_laws.specs.NodeLaws.{count_of, unacked_row}
 use Rattle.run_base_laws.specs.RunEvents.{with_event, wrote_event, lives_at, leave_event, has_left, with_leaver, with_leavers, with_record, with_exits, events_after}
-use Rattle.run_base_laws.specs.EventRows.{RowIs, RowsAre, IsKnown, MayStand, HasRow, IsDone}
+use Rattle.run_base_laws.specs.EventRows.{RowIs, RowsAre, IsKnown, MayStand, IsKeptIn, IsGoneForGood}
 use Rattle.run_rules.specs.Births.{Born, born_id, born_at, births_after}
 use Rattle.run_base_laws.specs.BirthLaws.{Began, HasBegun, IsChild, AreNeighbors, StandsBelow, GoesSo}
 use Rattle.run_branch_laws.specs.HeardLaws.{AcksAre}
@@ -241,11 +241,11 @@ module _ (places : List Place) (asked : List Command) (each : (n : ℕ) (q : Pla
     sealed_over b m here gone sealed = elim (now.kept b m sealed) [
       | inl row ↦ absurd (kept_not_gone k b
           (sym (any_map b unacked_row (λ x. refl) k.stored.durable.kept)
-          ∙ subst (λ s. HasRow b s.durable.kept) (sym (node_so places asked each f t now.stand n k may.up).stored) (subst (λ i. HasRow b (stored_rows f i)) here row)) gone)
+          ∙ subst (λ s. IsKeptIn b s.durable.kept) (sym (node_so places asked each f t now.stand n k may.up).stored) (subst (λ i. IsKeptIn b (stored_rows f i)) here row)) gone)
       | inr done ↦ inl (done_gone done)
     ]
       where
-        done_gone : IsDone t b → Gone t b
+        done_gone : IsGoneForGood t b → Gone t b
         done_gone (inl learned_it) = inr (inr (inl learned_it))
         done_gone (inr forgot) = inr (inr (inr forgot))
 

@@ -14,7 +14,7 @@ use Rattle.run_rules.specs.Branches.{is_among}
 use Rattle.run_rules.specs.Facts.{Facts, first_facts, node_at, facts_after}
 use Rattle.run_rules.specs.Lawful.{IsPlace, MayHappen, IsLawful}
 use Rattle.run_base_laws.specs.RunEvents.{wrote_event, record_event, message_event, lives_at, with_leaver, with_record, events_after, IsAllowed, MaySend, MayLeave, HappensJustly, AreJust}
-use Rattle.run_base_laws.specs.EventRows.{MayStand, MaySay, MaySayAll}
+use Rattle.run_base_laws.specs.EventRows.{MayStand, MaySayByEvents, MaySayAll}
 use Rattle.run_branch_laws.specs.TreeJust.{TreeAllows, IsTreeAllowed, TreeSends, TreeLeaves, HappensByTree, GoByTree, RunsByTreesAreJust, RunsByTreesAgree}
 use Rattle.run_base_laws.proofs.LaterLemmas.{Added, Nothing_more, One_more, leavers_added}
 use Rattle.run_branch_laws.proofs.JustLemmas.{said_stays, none_is, just_runs_agree}
@@ -51,7 +51,7 @@ module _ (p : Forest) where
   allowed_later (One_more {s = s} e so more) from to scn kind is = said_stays p e s from to scn kind (allowed_later more from to scn kind is)
 
   module _ {Q : Event → Type 0} {t r : List Event} (more : Added Q t r) where
-    message_allowed : (from to : BranchId) (scn : ℕ) (kind : Kind) → MaySay t from to scn kind → IsTreeAllowed p r (message_event from to scn kind) → IsAllowed p r (message_event from to scn kind)
+    message_allowed : (from to : BranchId) (scn : ℕ) (kind : Kind) → MaySayByEvents t from to scn kind → IsTreeAllowed p r (message_event from to scn kind) → IsAllowed p r (message_event from to scn kind)
     message_allowed from to scn kinds.Prepared may tree = allowed_later more from to scn kinds.Prepared may
     message_allowed from to scn kinds.CommitPoint may tree = allowed_later more from to scn kinds.CommitPoint may
     message_allowed from to scn (kinds.Committed n) may tree = allowed_later more from to scn (kinds.Committed n) may

@@ -13,7 +13,7 @@ use Rattle.run_rules.specs.Trail.{is_quiet}
 use Rattle.run_rules.specs.Facts.{Facts, first_facts, node_at, facts_after}
 use Rattle.run_rules.specs.Lawful.{IsPlace, MayHappen}
 use Rattle.run_base_laws.specs.RunEvents.{with_event, wrote_event, record_event, message_event, with_messages, lives_at, leave_event, has_left, with_leaver, with_leavers, with_record, with_happening, events_after, events_of}
-use Rattle.run_base_laws.specs.EventRows.{MaySay, MaySayAll}
+use Rattle.run_base_laws.specs.EventRows.{MaySayByEvents, MaySayAll}
 use Rattle.run_branch_laws.specs.VoteLaws.{VotesAreOfSealed, LiveHaveNotVoted}
 use Rattle.run_rules.proofs.ListLemmas.{all_weaker}
 use Rattle.run_base_laws.proofs.LaterLemmas.{Added, Any, added_on, added_wider, exit_later, wrote_added, turn_added, stop_added, events_keep}
@@ -68,7 +68,7 @@ module _ (r : List Event) where
   VoteMay from to scn kinds.CommitPoint = IsSealed r from scn
   VoteMay from to scn _ = Unit {0}
 
-  may_later : {Q : Event → Type 0} {t : List Event} → Added Q t r → (from to : BranchId) (scn : ℕ) (kind : Kind) → MaySay t from to scn kind → VoteMay from to scn kind
+  may_later : {Q : Event → Type 0} {t : List Event} → Added Q t r → (from to : BranchId) (scn : ℕ) (kind : Kind) → MaySayByEvents t from to scn kind → VoteMay from to scn kind
   may_later more from to scn kinds.Prepared may = (may.0, exit_later from (Sealed may.0) more may.1, may.2)
   may_later more from to scn kinds.CommitPoint may = (may.0, exit_later from (Sealed may.0) more may.1, may.2)
   may_later more from to scn _ may = tt

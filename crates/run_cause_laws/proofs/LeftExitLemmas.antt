@@ -14,7 +14,7 @@ use Rattle.node_rules.specs.NodeState.{live_id}
 use Rattle.node_rules.proofs.Steps.{Answers}
 use Rattle.run_rules.specs.Branches.{Seen, is_live, is_live_at, is_among}
 use Rattle.run_rules.specs.Trail.{is_first_vote, is_quiet, input_drops, kind_drops, stopped_by}
-use Rattle.tree_trail_laws.specs.LowerLaws.{IsToldLive}
+use Rattle.tree_trail_laws.specs.LowerLaws.{IsTracedLive}
 use Rattle.tree_trail_laws.proofs.HearLemmas.{first_among}
 
 -- ---- exits
@@ -52,7 +52,7 @@ stopped_there n s here = elim (exit_or s.exit) [
 
 -- ---- a turn that is whole, in which a live branch leaves without a record
 
-module _ (n : ℕ) (input : Input) (sent : List Msg) (z : Live) (s : Seen) (me : s.me ≡ z.me) (told : IsToldLive z s) where
+module _ (n : ℕ) (input : Input) (sent : List Msg) (z : Live) (s : Seen) (me : s.me ≡ z.me) (told : IsTracedLive z s) where
   abbrev Leaves : Type 0
   Leaves = (list_any (is_quiet s.me) sent || input_drops n s input) ≡ true
 

@@ -38,7 +38,7 @@ use Rattle.tree_laws.proofs.FateLemmas.{among_found}
 use Rattle.book_laws.specs.LeaveLaws.{LeavesOn, LeavesDuly}
 use Rattle.book_laws.proofs.LeaveLemmas.{branches_leave_duly}
 use Rattle.tree_laws.proofs.TimeLemmas.{Part, part_on, part_lawful, may_of, fact_at, born_end, keep_on}
-use Rattle.tree_trail_laws.specs.LowerLaws.{IsToldLive}
+use Rattle.tree_trail_laws.specs.LowerLaws.{IsTracedLive}
 use Rattle.tree_trail_laws.proofs.FullLemmas.{Sees, SeesAll}
 use Rattle.tree_trail_laws.proofs.MomentLemmas.{tr_at, trail_one_on, at_moment}
 use Rattle.tree_trail_laws.proofs.SeenLemmas.{item_mapped, planned, brings, turned, seen_turned}
@@ -82,7 +82,7 @@ module _ (t : History) (whole : IsLawfulRun t) (sees : SeesAll t) where
       pub is_me : born.me ≡ b
       pub seen : Seen
       pub at : seen_at (tr_at t hs) b ≡ Some seen
-      pub told : IsToldLive z seen
+      pub told : IsTracedLive z seen
       pub parent : seen.parent ≡ born.parent
       pub its : z.parent ≡ born.parent
       pub me : seen.me ≡ b

@@ -26,7 +26,7 @@ use Rattle.run_rules.specs.Branches.{Seen, Trail, seen_id, seen_at}
 use Rattle.run_rules.specs.Data.{Turn, Happening}
 use Rattle.run_rules.specs.Data.happenings
 use Rattle.run_rules.specs.Facts.{Facts, node_at, records_at}
-use Rattle.run_base_laws.specs.InTurnLaws.{GoesOn}
+use Rattle.run_base_laws.specs.InTurnLaws.{NeedsNoRollback}
 use Rattle.run_claims.specs.Knowledge.{PassesOn, asked_of}
 use Rattle.run_rules.specs.Lawful.{History, IsLawfulRun}
 use Rattle.run_rules.specs.Trail.{asked_after}
@@ -34,7 +34,7 @@ use Rattle.run_key_laws.proofs.ChangedLemmas.{found_last}
 use Rattle.run_base_laws.proofs.InTurnLemmas.{numbered_last}
 use Rattle.run_base_laws.proofs.StoredLemmas.{records_are_kept}
 use Rattle.tree_laws.proofs.PrefixLemmas.{f_at}
-use Rattle.tree_trail_laws.specs.OwnLaws.{TellsRoots}
+use Rattle.tree_trail_laws.specs.OwnLaws.{TracesRoots}
 use Rattle.tree_trail_laws.proofs.MomentLemmas.{tr_at}
 use Rattle.tree_trail_laws.proofs.OwnAskLemmas.{asked_so}
 use Rattle.tree_trail_laws.proofs.OwnKnowLemmas.{Knows, from_knows, from_stored}
@@ -71,7 +71,7 @@ waits_apart : (g : Going) (i : ℕ) (link : List ℕ) → g.waits ≡ waiting.Fo
 waits_apart g i link reply opened = absurd (cc (reply, opened))
 
 module _ (t : History) (whole : IsLawfulRun t) (hs : List Happening) (u : Turn) (rest : List Happening) (is : hs ++ happenings.Turn u ∷ rest ≡ t.trace)
-    (roots : TellsRoots t.places (f_at t hs) (tr_at t hs)) (owns : Owns (f_at t hs) (tr_at t hs)) (now : EachWaits (f_at t hs) (tr_at t hs)) where
+    (roots : TracesRoots t.places (f_at t hs) (tr_at t hs)) (owns : Owns (f_at t hs) (tr_at t hs)) (now : EachWaits (f_at t hs) (tr_at t hs)) where
   open at_turn t whole hs u rest is use {part as part0, s as s0, lawful as lawful0, f as f0, may, k, heard_k as k1, p, said}
   open at_trail t hs u use {tr as tr0, begun_tr as trb, tr_on as tr1}
 
@@ -130,7 +130,7 @@ module _ (t : History) (whole : IsLawfulRun t) (hs : List Happening) (u : Turn) 
   abbrev LeadsAll : NodeState → Type 0
   LeadsAll j = (b : BranchId) (l : Live) → live_at j b ≡ Some l → Leads l.edges
 
-  line : (b : BranchId) (l : Live) → live_at k b ≡ Some l → Line p D0 (GivenBy t whole hs) (CalledAt t whole) said (GoesOn k l) l.me l.edges (works_of k.works b)
+  line : (b : BranchId) (l : Live) → live_at k b ≡ Some l → Line p D0 (GivenBy t whole hs) (CalledAt t whole) said (NeedsNoRollback k l) l.me l.edges (works_of k.works b)
   line b l live = (stand_at t whole hs part0 u.node k may.1.up).each b l live
 
   lives_are : (b : BranchId) (l : Live) → live_at k1 b ≡ Some l → live_at k b ≡ Some l

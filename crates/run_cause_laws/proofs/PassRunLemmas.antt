@@ -30,8 +30,8 @@ use Rattle.run_rules.proofs.ListLemmas.{all_weaker, all_map}
 use Rattle.run_base_laws.proofs.OwnLemmas.{all_found}
 use Rattle.tree_laws.proofs.PrefixLemmas.{so_far, f_at, one_on}
 use Rattle.tree_laws.proofs.TimeLemmas.{Part, part_on, part_lawful, keep_on}
-use Rattle.tree_trail_laws.specs.OwnLaws.{TellsRoots}
-use Rattle.tree_trail_laws.specs.SeenLaws.{TellsOwns, Sees}
+use Rattle.tree_trail_laws.specs.OwnLaws.{TracesRoots}
+use Rattle.tree_trail_laws.specs.SeenLaws.{TracesOwns, Sees}
 use Rattle.tree_trail_laws.proofs.ChildTurnLemmas as kids
 use Rattle.tree_trail_laws.proofs.LowerRunLemmas.{stop_still}
 use Rattle.tree_trail_laws.proofs.MomentLemmas.{tr_at, trail_one_on, at_moment, by_moment}
@@ -85,18 +85,18 @@ waits_same D link o q g asked was = record { statement = was.statement; asked = 
 module _ (t : History) (whole : IsLawfulRun t) where
   -- ---- what is told of roots
 
-  roots_at : (hs : List Happening) → Part t whole hs → TellsRoots t.places (f_at t hs) (tr_at t hs)
+  roots_at : (hs : List Happening) → Part t whole hs → TracesRoots t.places (f_at t hs) (tr_at t hs)
   roots_at hs part =
       let s0 : History = so_far t hs in
       let lawful0 : IsLawfulRun s0 = part_lawful t whole hs part in
-      let it = tops_follow s0 lawful0 (by_moment s0 (λ places f tr h. TellsOwns f tr) (λ xs h more is. (at_moment s0 (λ places f tr h. Sees f tr) (all_is_seen s0 lawful0) xs h more is).owns)) in
+      let it = tops_follow s0 lawful0 (by_moment s0 (λ places f tr h. TracesOwns f tr) (λ xs h more is. (at_moment s0 (λ places f tr h. Sees f tr) (all_is_seen s0 lawful0) xs h more is).owns)) in
       record { tops = it.0; roots = it.1; next = it.2 }
 
   part_here : (hs : List Happening) (h : Happening) (more : List Happening) → hs ++ h ∷ more ≡ t.trace → Part t whole hs
   part_here hs h more is = record { rest = h ∷ more; is = is }
 
-  roots_each : AtEach (λ places f tr h. TellsRoots places f tr) t
-  roots_each = by_moment t (λ places f tr h. TellsRoots places f tr) (λ hs h more is. roots_at hs (part_here hs h more is))
+  roots_each : AtEach (λ places f tr h. TracesRoots places f tr) t
+  roots_each = by_moment t (λ places f tr h. TracesRoots places f tr) (λ hs h more is. roots_at hs (part_here hs h more is))
 
 module _ (t : History) (whole : IsLawfulRun t) where
   -- What is known so far.
@@ -113,7 +113,7 @@ module _ (t : History) (whole : IsLawfulRun t) where
     part0 : Part t whole hs
     part0 = part_here t whole hs (happenings.Turn u) more is
 
-    roots0 : TellsRoots t.places f0 tr0
+    roots0 : TracesRoots t.places f0 tr0
     roots0 = roots_at t whole hs part0
 
     passing : Passing p u.input (heard k u.input) d
@@ -213,7 +213,7 @@ module _ (t : History) (whole : IsLawfulRun t) where
         part1 : Part t whole (hs ++ h ∷ [])
         part1 = part_on t whole hs h more is
 
-        owns_there : TellsOwns (f_at t (hs ++ h ∷ [])) (tr_at t (hs ++ h ∷ []))
+        owns_there : TracesOwns (f_at t (hs ++ h ∷ [])) (tr_at t (hs ++ h ∷ []))
         owns_there = owns_follow (so_far t (hs ++ h ∷ [])) (part_lawful t whole (hs ++ h ∷ []) part1) (roots_each (so_far t (hs ++ h ∷ [])) (part_lawful t whole (hs ++ h ∷ []) part1))
 
   stop_keeps : (n : ℕ) (xs : List Seen) (b : BranchId) → (asked_of (item_at seen_id (map (stopped_by n) xs) b) ≡ asked_of (item_at seen_id xs b)) × (taken_of (item_at seen_id (map (stopped_by n) xs) b) ≡ taken_of (item_at seen_id xs b))

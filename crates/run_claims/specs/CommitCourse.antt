@@ -13,14 +13,14 @@ use Rattle.run_rules.specs.Data.commands
 use Rattle.run_rules.specs.Data.happenings
 use Rattle.run_rules.specs.Due.{next_command, due_of}
 use Rattle.run_rules.specs.Facts.{command_at}
-use Rattle.run_rules.specs.Reported.{IsBetween}
+use Rattle.run_rules.specs.Reported.{IsBetweenCommands}
 use Rattle.run_rules.specs.Scripts.{IsTheRunOf}
 use Rattle.run_rules.specs.Lawful.{History}
 use Rattle.run_rules.specs.Lines.{spent}
 use Rattle.run_rules.specs.Past.{past}
 use Rattle.run_claims.specs.Places.{node_line, reported_of}
 use Rattle.run_rules.specs.RunReport.{Past, start}
-use Rattle.run_claims.specs.Undisturbed.{Commit, Undisturbed, IsComplete, LostNone, HasNotStopped, IsCalm, facts_by, branches_by, answers_from}
+use Rattle.run_claims.specs.Undisturbed.{Commit, Undisturbed, CommitIsComplete, LostNone, HasNotStopped, NoneComesIn, facts_by, branches_by, answers_from}
 
 -- what these happenings leave, with what is told of them
 abbrev pub past_by : List Place → List Command → List Happening → Past
@@ -36,7 +36,7 @@ GoesWell _ = Unit {0}
 
 -- A COMMIT at the end of the first part of a run, whose command has gone well so far: the command is COMMIT itself, HOLD is
 -- off, and the turn of the call is whole.
-pub record IsUnderWay (t : History) (front later : List Happening) (c : Commit t.places t.commands front) : Type 0 where
+pub record CommitIsUnderWay (t : History) (front later : List Happening) (c : Commit t.places t.commands front) : Type 0 where
   pub within : front ++ later ≡ t.trace
   pub own : command_at t.commands (facts_by t.places t.commands c.before).command ≡ commands.At c.call.node c.session (Some (stmts.Commit c.comment))
   pub off : (past_by t.places t.commands c.before).run_report.hold ≡ false
@@ -53,12 +53,12 @@ Delivers k _ = ⊥
 -- In the run of a script, while messages are in flight in the command of a COMMIT that goes well, the first of them is
 -- delivered next, up to 4,096 in a command.
 abbrev pub CommitsFlow : Type 0
-CommitsFlow = (t : History) → IsTheRunOf t → (front later : List Happening) (h : Happening) (c : Commit t.places t.commands front) → IsUnderWay t front (h ∷ later) c → GoesWell h
+CommitsFlow = (t : History) → IsTheRunOf t → (front later : List Happening) (h : Happening) (c : Commit t.places t.commands front) → CommitIsUnderWay t front (h ∷ later) c → GoesWell h
     → (k : ℕ) → first_flying (facts_by t.places t.commands front).net ≡ Some k → spent (past_by t.places t.commands front).run_report.deliveries ≡ false → Delivers k h
 
 -- the answers that the call of a COMMIT has had
-abbrev pub IsAnswered : (t : History) (front : List Happening) → Commit t.places t.commands front → Type 0
-IsAnswered t front c = answers_from t.places t.commands (facts_by t.places t.commands c.before) c.call.node c.session (happenings.Turn c.call ∷ c.during) ≡ commit_complete ∷ []
+abbrev pub CommitIsAnswered : (t : History) (front : List Happening) → Commit t.places t.commands front → Type 0
+CommitIsAnswered t front c = answers_from t.places t.commands (facts_by t.places t.commands c.before) c.call.node c.session (happenings.Turn c.call ∷ c.during) ≡ commit_complete ∷ []
 
 -- no loss is to be told, and no message is in flight
 abbrev pub IsStill : (t : History) (front : List Happening) → Type 0
@@ -67,7 +67,7 @@ IsStill t front = ((facts_by t.places t.commands front).losses_to_report ≡ [])
 -- In the run of a script, where such a COMMIT has been answered and nothing is in flight any more, no call is pending, and the
 -- next command is due, or the end of the script.
 abbrev pub CommitsEnd : Type 0
-CommitsEnd = (t : History) → IsTheRunOf t → (front later : List Happening) (c : Commit t.places t.commands front) → IsUnderWay t front later c → IsAnswered t front c → IsStill t front
+CommitsEnd = (t : History) → IsTheRunOf t → (front later : List Happening) (c : Commit t.places t.commands front) → CommitIsUnderWay t front later c → CommitIsAnswered t front c → IsStill t front
     → ((past_by t.places t.commands front).run_report.calls ≡ []) × (due_of t.commands (past_by t.places t.commands front) ≡ next_command t.commands (facts_by t.places t.commands front))
 
 -- the report has the line of a COMMIT's command: Commit complete
@@ -76,7 +76,7 @@ IsReportedComplete t front c = (i : ℕ) × (slice_get (reported_of t) i ≡ Som
 
 -- In the run of a script, where such a COMMIT has been answered in its command, the report says so.
 abbrev pub AnsweredCommitsAreReported : Type 0
-AnsweredCommitsAreReported = (t : History) → IsTheRunOf t → (front later : List Happening) (c : Commit t.places t.commands front) → IsUnderWay t front later c → IsAnswered t front c → IsReportedComplete t front c
+AnsweredCommitsAreReported = (t : History) → IsTheRunOf t → (front later : List Happening) (c : Commit t.places t.commands front) → CommitIsUnderWay t front later c → CommitIsAnswered t front c → IsReportedComplete t front c
 
 -- ---- a quiet COMMIT
 
@@ -85,18 +85,18 @@ AnsweredCommitsAreReported = (t : History) → IsTheRunOf t → (front later : L
 -- cut, no message is lost and no node stops; of its transaction no message was lost before, no node of its branches has
 -- stopped since they began, and neither a rollback nor a question of the recoverer came to any of them.
 pub record QuietCommit (t : History) (front later : List Happening) (c : Commit t.places t.commands front) : Type 0 where
-  pub goes : IsUnderWay t front later c
-  pub done : IsBetween (due_of t.commands (past_by t.places t.commands front))
+  pub goes : CommitIsUnderWay t front later c
+  pub done : IsBetweenCommands (due_of t.commands (past_by t.places t.commands front))
   pub goes_on : (session_at c.kept.sessions c.session).code ≡ None
   pub still : first_flying (facts_by t.places t.commands c.before).net ≡ None
   pub lost : LostNone (branches_by t.places t.commands front c.root) (facts_by t.places t.commands front).net.packets
   pub stopped : AllByRecursion (HasNotStopped (facts_by t.places t.commands front)) (branches_by t.places t.commands front c.root)
-  pub calm : AllByRecursion (IsCalm (branches_by t.places t.commands front c.root)) front
+  pub calm : AllByRecursion (NoneComesIn (branches_by t.places t.commands front c.root)) front
 
 -- A COMMIT is undisturbed, it is complete when its command is done, and the report says so.
 pub record IsDone (t : History) (front : List Happening) (c : Commit t.places t.commands front) : Type 0 where
   pub undisturbed : Undisturbed t.places t.commands front c
-  pub complete : IsComplete t.places t.commands front c
+  pub complete : CommitIsComplete t.places t.commands front c
   pub told : IsReportedComplete t front c
 
 -- Each quiet COMMIT of a run is.

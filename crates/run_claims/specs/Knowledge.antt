@@ -27,7 +27,7 @@ use Rattle.run_rules.specs.Tree.{tree, parent_of}
 use Rattle.run_rules.specs.Trail.{trail_after, is_first_vote, voted_after}
 use Rattle.run_rules.specs.Each.{AtEach}
 use Rattle.run_rules.specs.Lawful.{History}
-use Rattle.run_rules.specs.BranchRecords.{sealed_in, decided_in, toward_in, toward_at, Commits, IsRecorded}
+use Rattle.run_rules.specs.BranchRecords.{sealed_in, decided_in, toward_in, toward_at, Commits, CommitIsRecorded}
 
 -- ---- what comes to a branch
 
@@ -157,7 +157,7 @@ abbrev pub MaySay : Place → Facts → Trail → Trail → List RedoRecord → 
 MaySay p f tr after rs input b to (kinds.Exec call given advice passed) = (s : Stmt) × (asked_of (seen_at after b) ≡ Some s) × PassesOn p f s to passed
 MaySay p f tr after rs input b to kinds.Abort = ((life_at f tr b ≡ Gone) × IsPrepare b input) ⊎ IsAbortTo tr b input
 MaySay p f tr after rs input b to kinds.ReadOnly = HasNoChanges tr b
-MaySay p f tr after rs input b to (kinds.Committed n) = IsRecorded rs b n
+MaySay p f tr after rs input b to (kinds.Committed n) = CommitIsRecorded rs b n
 MaySay p f tr after rs input b to _ = Unit {0}
 
 -- each record and each message of a turn was to be written or said
@@ -166,10 +166,10 @@ pub record TurnKnows (places : List Place) (f : Facts) (tr : Trail) (u : Turn) (
   pub says : AllByRecursion (λ m. MaySay (place_at places u.node) f tr (trail_after places f tr (happenings.Turn u)) (records_at f u.node ++ option_to_list u.wrote) u.input m.from m.to m.kind) u.sent
 
 -- each turn of a node that is up writes and says what it may
-abbrev pub Knows : List Place → Facts → Trail → Happening → Type 0
-Knows places f tr (happenings.Turn u) = (k : NodeState) → node_at f u.node ≡ Some k → TurnKnows places f tr u k
-Knows places f tr _ = Unit {0}
+abbrev pub KnowsEnough : List Place → Facts → Trail → Happening → Type 0
+KnowsEnough places f tr (happenings.Turn u) = (k : NodeState) → node_at f u.node ≡ Some k → TurnKnows places f tr u k
+KnowsEnough places f tr _ = Unit {0}
 
 -- each turn of a run writes and says what it may
 abbrev pub Knowledge : History → Type 0
-Knowledge t = AtEach Knows t
+Knowledge t = AtEach KnowsEnough t

@@ -7,3 +7,4 @@ pub mod Undisturbed
 pub mod Recorded
 pub mod ReportedDone
 pub mod CommitCourse
+pub mod TriedClaims

@@ -14,7 +14,7 @@ use Rattle.run_rules.specs.Data.commands
 use Rattle.run_rules.specs.Facts.{command_at, place_at, records_at, outcome_at}
 use Rattle.run_rules.specs.RunReport.{Past, Call, start}
 use Rattle.run_rules.specs.Past.{past}
-use Rattle.run_rules.specs.Lines.{told}
+use Rattle.run_rules.specs.Lines.{all_lines}
 use Rattle.run_rules.specs.Calls.{call_at}
 use Rattle.run_rules.specs.Branches.{Run, Seen, root_at}
 use Rattle.run_rules.specs.Trail.{with_begun}
@@ -69,9 +69,9 @@ pub record PlaceOf (t : History) (command : ℕ) (a : Answer) : Type 0 where
 abbrev pub node_line : ℕ → Answer → AnswerLine
 node_line command a = record { command = command; said = said.Node a }
 
--- all that is told of a run
+-- all that is all_lines of a run
 abbrev pub reported_of : History → List AnswerLine
-reported_of t = told (past t.places t.commands (start t.places) t.trace).facts (past t.places t.commands (start t.places) t.trace).run_report
+reported_of t = all_lines (past t.places t.commands (start t.places) t.trace).facts (past t.places t.commands (start t.places) t.trace).run_report
 
 -- each answer of a query, and of a change of rows, has a place
 abbrev pub AnswersHavePlaces : History → Type 0

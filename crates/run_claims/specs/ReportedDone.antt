@@ -39,7 +39,7 @@ pub record CameTo (t : History) (command node session : ℕ) (s : Stmt) : Type 0
 
 -- The statement came, its record was written in that turn, and stays on the disk of the node to the end of the run; this is
 -- what the line says.
-pub record IsWritten (t : History) (command node session : ℕ) (s : Stmt) (a : Answer) : Type 0 where
+pub record StatementIsWritten (t : History) (command node session : ℕ) (s : Stmt) (a : Answer) : Type 0 where
   pub came : CameTo t command node session s
   pub uncut : came.turn.cut ≡ false
   pub kept : NodeState
@@ -54,25 +54,25 @@ pub record IsWritten (t : History) (command node session : ℕ) (s : Stmt) (a : 
 -- each line that says so has its record
 abbrev pub DoneHasItsRecord : History → Type 0
 DoneHasItsRecord t = (i command node session : ℕ) (s : Stmt) (a : Answer) → command_at t.commands command ≡ commands.At node session (Some s) → is_recorded s ≡ true → is_accepted (Some a) ≡ true
-    → slice_get (reported_of t) i ≡ Some (node_line command a) → IsWritten t command node session s a
+    → slice_get (reported_of t) i ≡ Some (node_line command a) → StatementIsWritten t command node session s a
 
 -- ---- lines that refuse it
 
 -- Where a refusal comes from: the statement came and wrote nothing, or the COMMIT before a CREATE was refused.
-pub data IsRefused (t : History) (command node session : ℕ) (s : Stmt) : Type 0 where
-  Writes_nothing : (came : CameTo t command node session s) → came.turn.cut ≡ false → came.turn.wrote ≡ None → IsRefused t command node session s
-  Has_no_commit : commits_first s ≡ true → CameTo t command node session (stmts.Commit None) → IsRefused t command node session s
+pub data StatementIsRefused (t : History) (command node session : ℕ) (s : Stmt) : Type 0 where
+  Writes_nothing : (came : CameTo t command node session s) → came.turn.cut ≡ false → came.turn.wrote ≡ None → StatementIsRefused t command node session s
+  Has_no_commit : commits_first s ≡ true → CameTo t command node session (stmts.Commit None) → StatementIsRefused t command node session s
 
 -- each line that refuses such a statement comes from there
 abbrev pub RefusedHasNone : History → Type 0
 RefusedHasNone t = (i command node session : ℕ) (s : Stmt) (r : Refusal) → command_at t.commands command ≡ commands.At node session (Some s) → is_recorded s ≡ true
-    → slice_get (reported_of t) i ≡ Some (node_line command (answers.Refused r)) → IsRefused t command node session s
+    → slice_get (reported_of t) i ≡ Some (node_line command (answers.Refused r)) → StatementIsRefused t command node session s
 
 -- ---- records
 
 -- The record of a statement was written in the turn that the statement of a command came to, and the report says that it is
 -- done; or that the node is down, where the turn was cut, once the node has stopped.
-pub record IsReported (t : History) (moment : ℕ) (u : Turn) (r : RedoRecord) : Type 0 where
+pub record RecordIsReported (t : History) (moment : ℕ) (u : Turn) (r : RedoRecord) : Type 0 where
   pub command : ℕ
   pub session : ℕ
   pub statement : Stmt
@@ -88,7 +88,7 @@ pub record IsReported (t : History) (moment : ℕ) (u : Turn) (r : RedoRecord) :
 
 -- each record of such a statement is told
 abbrev pub RecordsAreReported : History → Type 0
-RecordsAreReported t = (moment : ℕ) (u : Turn) → slice_get t.trace moment ≡ Some (happenings.Turn u) → (r : RedoRecord) → u.wrote ≡ Some r → is_of_statement r ≡ true → IsReported t moment u r
+RecordsAreReported t = (moment : ℕ) (u : Turn) → slice_get t.trace moment ≡ Some (happenings.Turn u) → (r : RedoRecord) → u.wrote ≡ Some r → is_of_statement r ≡ true → RecordIsReported t moment u r
 
 -- ---- the report
 

@@ -55,9 +55,9 @@ abbrev pub branches_by : List Place → List Command → List Happening → Bran
 branches_by places asked trace root = branches_in (births_from places asked (first_facts places) trace []) root
 
 -- a message is delivered, for the first time, in a turn that is whole
-abbrev pub IsDelivery : Happening → Type 0
-IsDelivery (happenings.Turn u) = (u.cut ≡ false) × (number : ℕ) × (u.took ≡ Some (record { number = number; again = false }))
-IsDelivery _ = ⊥
+abbrev pub IsFirstDelivery : Happening → Type 0
+IsFirstDelivery (happenings.Turn u) = (u.cut ≡ false) × (number : ℕ) × (u.took ≡ Some (record { number = number; again = false }))
+IsFirstDelivery _ = ⊥
 
 -- whether a message was lost
 abbrev pub is_lost : Fate → Bool
@@ -85,9 +85,9 @@ is_disturbed bs (inputs.Message m) = is_among m.to bs && disturbs m.kind
 is_disturbed bs _ = false
 
 -- none comes in a turn
-abbrev pub IsCalm : List BranchId → Happening → Type 0
-IsCalm bs (happenings.Turn u) = is_disturbed bs u.input ≡ false
-IsCalm bs _ = Unit {0}
+abbrev pub NoneComesIn : List BranchId → Happening → Type 0
+NoneComesIn bs (happenings.Turn u) = is_disturbed bs u.input ≡ false
+NoneComesIn bs _ = Unit {0}
 
 -- A COMMIT is undisturbed: no statement of its transaction asks for a rollback; nothing is in flight when it is called;
 -- from then on there are deliveries alone, of whole turns, until nothing is in flight, as they come while HOLD is off; none
@@ -97,11 +97,11 @@ pub record Undisturbed (places : List Place) (asked : List Command) (trace : Lis
   pub goes_on : (session_at c.kept.sessions c.session).code ≡ None
   pub still : first_flying (facts_by places asked c.before).net ≡ None
   pub whole : c.call.cut ≡ false
-  pub delivers : AllByRecursion IsDelivery c.during
+  pub delivers : AllByRecursion IsFirstDelivery c.during
   pub over : first_flying (facts_by places asked trace).net ≡ None
   pub lost : LostNone (branches_by places asked trace c.root) (facts_by places asked trace).net.packets
   pub stopped : AllByRecursion (HasNotStopped (facts_by places asked trace)) (branches_by places asked trace c.root)
-  pub calm : AllByRecursion (IsCalm (branches_by places asked trace c.root)) trace
+  pub calm : AllByRecursion (NoneComesIn (branches_by places asked trace c.root)) trace
 
 -- ---- what it leaves
 
@@ -127,11 +127,11 @@ stand_at f b = option_map (λ k. status_of k b) (node_at f b.node)
 
 -- A COMMIT is complete: its call has one answer, Commit complete; each sealed branch of the transaction has ended with
 -- commit; and of none of its branches a node knows anything any more, so no view shows one.
-pub record IsComplete (places : List Place) (asked : List Command) (trace : List Happening) (c : Commit places asked trace) : Type 0 where
+pub record CommitIsComplete (places : List Place) (asked : List Command) (trace : List Happening) (c : Commit places asked trace) : Type 0 where
   pub answered : answers_from places asked (facts_by places asked c.before) c.call.node c.session (happenings.Turn c.call ∷ c.during) ≡ commit_complete ∷ []
   pub ended : AllByRecursion (SealIsEnded (facts_by places asked trace).book c.root) (facts_by places asked trace).book
   pub gone : AllByRecursion (λ b. stand_at (facts_by places asked trace) b ≡ Some Is_gone) (branches_by places asked trace c.root)
 
 -- An undisturbed COMMIT of a lawful run is complete.
 abbrev pub UndisturbedCommitsAreComplete : Type 0
-UndisturbedCommitsAreComplete = (t : History) → IsLawfulRun t → (c : Commit t.places t.commands t.trace) → Undisturbed t.places t.commands t.trace c → IsComplete t.places t.commands t.trace c
+UndisturbedCommitsAreComplete = (t : History) → IsLawfulRun t → (c : Commit t.places t.commands t.trace) → Undisturbed t.places t.commands t.trace c → CommitIsComplete t.places t.commands t.trace c

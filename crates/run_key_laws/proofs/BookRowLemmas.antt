@@ -21,7 +21,7 @@ use Rattle.redo_record.specs.Durable.{durable_after}
 use Rattle.book.specs.Entries.{entry_of}
 use Rattle.run_rules.specs.Data.{Entry}
 use Rattle.run_rules.specs.Data.entries
-use Rattle.run_rules.specs.Book.{changes_in, changes_of, commits_now, rows_told}
+use Rattle.run_rules.specs.Book.{changes_in, changes_of, commits_now, rows_by_book}
 use Rattle.run_base_laws.specs.IdLaws.{IsRecordOf}
 use Rattle.run_base_laws.specs.RunEvents.{with_event, record_event}
 use Rattle.run_base_laws.specs.EventRows.{MayStand}
@@ -38,7 +38,7 @@ use Rattle.run_key_laws.proofs.ToldLemmas.{changes_more, told_more, first_left, 
 -- branch of the node is in doubt.
 pub record BookStands (t : List Event) (book : List Entry) (n : ℕ) (ts : List Table) (rows : List TableRows) (ds : List Doubt) : Type 0 where
   pub tables : (name : List ℕ) (x : Table) → table_in ts name ≡ Some x → has_table rows name ≡ true
-  pub told : (name : List ℕ) → rows_of_table rows name ≡ rows_told book n name
+  pub told : (name : List ℕ) → rows_of_table rows name ≡ rows_by_book book n name
   pub held : (b : BranchId) (d : Doubt) → item_at doubt_id ds b ≡ Some d → d.changes ≡ changes_of book b
   pub there : (b : BranchId) (m : ℕ) → b.node ≡ n → exit t b ≡ Some (Sealed m) → learned t b ≡ None → forced t b ≡ None → item_at doubt_id ds b ≢ None
 
@@ -77,8 +77,8 @@ module _ (t : List Event) (book : List Entry) (n : ℕ) (ts : List Table) (rows 
   held_on : (e : Entry) (b : BranchId) (d : Doubt) → changes_in b e ≡ [] → item_at doubt_id ds b ≡ Some d → d.changes ≡ changes_of (book ++ e ∷ []) b
   held_on e b d none found = now.held b d found ∙ sym (changes_more book e b ∙ (ap (λ cs. changes_of book b ++ cs) none ∙ append-nil (changes_of book b)))
 
-  told_on : (e : Entry) → commits_now book n e ≡ [] → (name : List ℕ) → rows_of_table rows name ≡ rows_told (book ++ e ∷ []) n name
-  told_on e none name = now.told name ∙ sym (told_more book e n name ∙ ap (apply name (rows_told book n name)) none)
+  told_on : (e : Entry) → commits_now book n e ≡ [] → (name : List ℕ) → rows_of_table rows name ≡ rows_by_book (book ++ e ∷ []) n name
+  told_on e none name = now.told name ∙ sym (told_more book e n name ∙ ap (apply name (rows_by_book book n name)) none)
 
   there_on : (e : Event) → ((b : BranchId) (m : ℕ) → exit_by e b ≡ Some (Sealed m) → ⊥) → (b : BranchId) (m : ℕ) → b.node ≡ n → exit (e ∷ t) b ≡ Some (Sealed m) → learned (e ∷ t) b ≡ None → forced (e ∷ t) b ≡ None
       → item_at doubt_id ds b ≢ None
@@ -88,9 +88,9 @@ module _ (t : List Event) (book : List Entry) (n : ℕ) (ts : List Table) (rows 
   ]
 
   -- changes of a branch of this node are committed
-  commits : (e : Entry) (cs : List Change) → AreChangesIn ts cs → commits_now book n e ≡ cs → (name : List ℕ) → rows_of_table (apply_all rows cs) name ≡ rows_told (book ++ e ∷ []) n name
+  commits : (e : Entry) (cs : List Change) → AreChangesIn ts cs → commits_now book n e ≡ cs → (name : List ℕ) → rows_of_table (apply_all rows cs) name ≡ rows_by_book (book ++ e ∷ []) n name
   commits e cs all is name =
-      rows_with ts rows ds fits now.tables cs all name ∙ (ap (λ rs. apply name rs cs) (now.told name) ∙ sym (told_more book e n name ∙ ap (apply name (rows_told book n name)) is))
+      rows_with ts rows ds fits now.tables cs all name ∙ (ap (λ rs. apply name rs cs) (now.told name) ∙ sym (told_more book e n name ∙ ap (apply name (rows_by_book book n name)) is))
 
   -- a branch that is in doubt no more
   module _ (c : BranchId) (e : Entry) (none : (b : BranchId) → changes_in b e ≡ []) where
@@ -106,10 +106,10 @@ module _ (t : List Event) (book : List Entry) (n : ℕ) (ts : List Table) (rows 
     settled_tables o (decisions.Commit m) name x found = has_applied rows (held_back o) name ∙ now.tables name x found
 
     -- its changes are committed where the entry says so
-    settled_told : (d : Decision) → item_at doubt_id ds c ≢ None → commits_now book n e ≡ decided_changes book c d → (name : List ℕ) → rows_of_table (settled rows (item_at doubt_id ds c) d) name ≡ rows_told (book ++ e ∷ []) n name
+    settled_told : (d : Decision) → item_at doubt_id ds c ≢ None → commits_now book n e ≡ decided_changes book c d → (name : List ℕ) → rows_of_table (settled rows (item_at doubt_id ds c) d) name ≡ rows_by_book (book ++ e ∷ []) n name
     settled_told d some is name = by d (item_at doubt_id ds c) refl is
       where
-        by : (d : Decision) (o : Option Doubt) → item_at doubt_id ds c ≡ o → commits_now book n e ≡ decided_changes book c d → rows_of_table (settled rows o d) name ≡ rows_told (book ++ e ∷ []) n name
+        by : (d : Decision) (o : Option Doubt) → item_at doubt_id ds c ≡ o → commits_now book n e ≡ decided_changes book c d → rows_of_table (settled rows o d) name ≡ rows_by_book (book ++ e ∷ []) n name
         by decisions.Rollback o at is = told_on e is name
         by (decisions.Commit m) None at is = absurd (some at)
         by (decisions.Commit m) (Some x) at is = commits e x.changes (all_found (λ y. AreChangesIn ts y.changes) doubt_id ds c x fits.doubts at) (is ∙ sym (now.held c x at)) name

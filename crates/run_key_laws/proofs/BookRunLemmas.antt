@@ -29,12 +29,12 @@ use Rattle.run_rules.specs.Data.entries
 use Rattle.run_rules.specs.Data.happenings
 use Rattle.run_rules.specs.Facts.{Facts, first_facts, place_at, records_at, facts_after}
 use Rattle.run_rules.specs.Lawful.{IsPlace, MayHappen, facts_at}
-use Rattle.run_rules.specs.Book.{changes_in, changes_of, rows_told}
+use Rattle.run_rules.specs.Book.{changes_in, changes_of, rows_by_book}
 use Rattle.run_base_laws.specs.IdLaws.{IsRecordOf}
 use Rattle.run_base_laws.specs.RunEvents.{with_event, wrote_event, record_event, with_record, events_after, events_of}
 use Rattle.run_base_laws.specs.EventRows.{MayStand}
 use Rattle.run_key_laws.specs.TableLaws.{StoredFits, LiveChangesFit}
-use Rattle.run_key_laws.specs.ToldLaws.{RowsAreTold}
+use Rattle.run_key_laws.specs.ToldLaws.{RowsAreOfTheBook}
 use Rattle.run_rules.proofs.FactLemmas.{book_is}
 use Rattle.run_base_laws.proofs.OwnLemmas.{all_found}
 use Rattle.run_base_laws.proofs.LawfulLemmas.{Serves, of_wrote, serves}
@@ -289,21 +289,21 @@ module _ (places : List Place) (asked : List Command) (each : (n : ℕ) (p : Pla
 -- ---- every run
 
 first_stands : (n : ℕ) → StoredStands [] [] n (stored_by nothing_stored [])
-unfolding stored_by rows_told
+unfolding stored_by rows_by_book
 first_stands n = record { tables = λ name x found. absurd cc; told = λ name. refl; held = λ b d found. absurd cc; there = λ b m here sealed. absurd cc }
 
 booted_first : (n : ℕ) → StoredStands [] [] n (stored_by nothing_stored (records.Boot 1 ∷ []))
-unfolding stored_by rows_told applied durable_after
+unfolding stored_by rows_by_book applied durable_after
 booted_first n = record { tables = λ name x found. absurd cc; told = λ name. refl; held = λ b d found. absurd cc; there = λ b m here sealed. absurd cc }
 
 first_losses : (places : List Place) → BookTells (first_facts places) []
 first_losses places = (λ b none. refl, λ n. first_disk (λ (xs : List RedoRecord). StoredStands [] [] n (stored_by nothing_stored xs)) (first_stands n) (booted_first n) places n)
 
-pub rows_are_told : RowsAreTold
+pub rows_are_told : RowsAreOfTheBook
 rows_are_told t lawful n k up table =
     let last : AllStands t.places t.commands t.of_a_script.each (facts_at t) (events_of t) × BookTells (facts_at t) (events_of t) =
     events_keep t.places t.commands (λ f s. AllStands t.places t.commands t.of_a_script.each f s × BookTells f s)
     (λ f s h now may. (all_on t.places t.commands t.of_a_script.each f s h now.0 may, tells_on t.places t.commands t.of_a_script.each f s now.0 now.1 h may))
     (first_facts t.places) t.trace [] (all_first t.places t.commands t.of_a_script.each, first_losses t.places) lawful in
     let stored : StoresOf (records_at (facts_at t) n) k = (node_so t.places t.commands t.of_a_script.each (facts_at t) (events_of t) last.0.stand n k up).stored in
-    ap (λ s. rows_of_table s.rows table) stored ∙ ((last.1.1 n).told table ∙ ap (λ bk. rows_told bk n table) (book_is t.places t.commands (first_facts t.places) t.trace))
+    ap (λ s. rows_of_table s.rows table) stored ∙ ((last.1.1 n).told table ∙ ap (λ bk. rows_by_book bk n table) (book_is t.places t.commands (first_facts t.places) t.trace))

@@ -20,7 +20,7 @@ use Rattle.node_rules.specs.Statement.{StmtOutcome, Refuses, Reads, Writes, ran,
 use Rattle.node_rules.proofs.Steps as steps
 use Rattle.node_rules.proofs.Steps.{Step, Asked, By_call, By_exec, Acting}
 use Rattle.node_rules.proofs.StandLemmas.{live_so}
-use Rattle.run_key_laws.specs.ChangedLaws.{changes_at, has_changes, IsMarked, ChangesFit, ChangesAreOfLive}
+use Rattle.run_key_laws.specs.ChangedLaws.{changes_at, has_changes, IsMarked, ChangesAreOfLives, ChangesAreOfLive}
 use Rattle.node_rules.proofs.StepLemmas.{acting_so}
 use Rattle.run_base_laws.proofs.NodeLemmas.{KeepsAlone, kept_alone}
 
@@ -64,9 +64,9 @@ none_last {A = A} id xs y b none = by (item_at id xs b) refl (sym (find-append (
 
 -- ---- one branch begins, changes or leaves
 
-module _ (ls : List Live) (os : List Owned) (now : ChangesFit ls os) where
+module _ (ls : List Live) (os : List Owned) (now : ChangesAreOfLives ls os) where
   -- a branch that begins has no changes
-  begun_fits : (l : Live) → l.changed ≡ false → ChangesFit (ls ++ l ∷ []) os
+  begun_fits : (l : Live) → l.changed ≡ false → ChangesAreOfLives (ls ++ l ∷ []) os
   begun_fits l fresh = record { live = λ b none. now.live b (none_last live_id ls l b none); marked = marked }
     where
       marked : (b : BranchId) (x : Live) → item_at live_id (ls ++ l ∷ []) b ≡ Some x → IsMarked os x
@@ -81,7 +81,7 @@ module _ (ls : List Live) (os : List Owned) (now : ChangesFit ls os) where
       ]
 
   -- a live branch that is changed, and marked as before
-  put_fits : (l : Live) → IsMarked os l → ChangesFit (put_item live_id ls l) os
+  put_fits : (l : Live) → IsMarked os l → ChangesAreOfLives (put_item live_id ls l) os
   put_fits l so = record { live = live; marked = marked }
     where
       live : (b : BranchId) → item_at live_id (put_item live_id ls l) b ≡ None → item_at own_id os b ≡ None
@@ -94,7 +94,7 @@ module _ (ls : List Live) (os : List Owned) (now : ChangesFit ls os) where
       ]
 
   -- one that leaves, with its changes
-  drop_fits : (c : BranchId) → ChangesFit (drop_item live_id ls c) (drop_item own_id os c)
+  drop_fits : (c : BranchId) → ChangesAreOfLives (drop_item live_id ls c) (drop_item own_id os c)
   drop_fits c = record { live = λ b none. live b (same c b) refl none; marked = λ b x found. marked b x (same c b) refl found }
     where
       live : (b : BranchId) (here : Bool) → same c b ≡ here → item_at live_id (drop_item live_id ls c) b ≡ None → item_at own_id (drop_item own_id os c) b ≡ None
@@ -126,7 +126,7 @@ module _ (ls : List Live) (os : List Owned) (now : ChangesFit ls os) where
         let all : changes_at more l.me ≡ changes_at os l.me ++ cs = ap changes_of own_now ∙ (one_more_set (sets_at os l.me) rows cs ∙ ap (λ ds. changes_at os l.me ++ ds) (append_none cs)) in
         ap (λ m. m || has_changes cs) so ∙ (sym (some_of (changes_at os l.me) cs) ∙ sym (ap has_changes all))
 
-    write_fits : ChangesFit (put_item live_id ls after) more
+    write_fits : ChangesAreOfLives (put_item live_id ls after) more
     write_fits = record { live = λ b none. live b (same l.me b) refl none; marked = λ b x found. marked b x (same l.me b) refl found }
       where
         live : (b : BranchId) (here : Bool) → same l.me b ≡ here → item_at live_id (put_item live_id ls after) b ≡ None → item_at own_id more b ≡ None
@@ -147,7 +147,7 @@ module _ (ls : List Live) (os : List Owned) (now : ChangesFit ls os) where
             subst (λ o. x.changed ≡ has_changes (changes_of (sets_of o))) (sym (put_leaves own_id os _ x.me other)) (now.marked b x was)
 
   -- a run
-  run_fits : (l : Live) (rows : List Keyed) (r : StmtOutcome) → IsMarked os l → ChangesFit (put_item live_id ls (after_run l r)) (owns_after os l.me rows r)
+  run_fits : (l : Live) (rows : List Keyed) (r : StmtOutcome) → IsMarked os l → ChangesAreOfLives (put_item live_id ls (after_run l r)) (owns_after os l.me rows r)
   run_fits l rows (Refuses e) so = put_fits (after_run l (Refuses e)) (or_false l.changed ∙ so)
   run_fits l rows (Reads rs keys) so = put_fits (after_run l (Reads rs keys)) (or_false l.changed ∙ so)
   run_fits l rows (Writes d cs keys undo) so = write_fits l rows cs so
@@ -156,7 +156,7 @@ module _ (ls : List Live) (os : List Owned) (now : ChangesFit ls os) where
 
 -- what a node keeps of changes fits its live branches
 abbrev pub Fits : NodeState → Type 0
-Fits k = ChangesFit k.lives k.owns
+Fits k = ChangesAreOfLives k.lives k.owns
 
 -- the live branches are marked
 marks : (k : NodeState) → Fits k → (b : BranchId) (l : Live) → live_at k b ≡ Some l → IsMarked k.owns l
@@ -200,7 +200,7 @@ module _ (p : Place) (input : Input) where
   changes_on _ now = now
 
 -- a node that starts has neither
-started_fits : (s : Stored) → ChangesFit [] []
+started_fits : (s : Stored) → ChangesAreOfLives [] []
 started_fits s = record { live = λ b none. refl; marked = λ b l found. absurd cc }
 
 pub changes_keep : KeepsAlone Fits

@@ -20,7 +20,7 @@ use Rattle.run_rules.specs.Facts.{Facts, first_facts, records_at, facts_after}
 use Rattle.run_rules.specs.Lawful.{IsPlace, MayHappen, History, IsLawfulRun, facts_at}
 use Rattle.run_base_laws.specs.RunEvents.{with_event, wrote_event, record_event, with_record, events_after, events_of}
 use Rattle.run_key_laws.specs.OrderLaws.{ends, commit_scn, have_a_key_in_common, IsDoneBefore, ComesInOrder, InOrderFrom}
-use Rattle.run_key_laws.specs.CommitOrderLaws.{IsIn, Leaves, changes_by, CommitsComeInOrder}
+use Rattle.run_key_laws.specs.CommitOrderLaws.{IsIn, SealsOrDecides, changes_by, CommitsComeInOrder}
 use Rattle.run_rules.proofs.ListLemmas.{all_weaker, all_append}
 use Rattle.run_base_laws.proofs.LaterLemmas.{Added, has_later, turn_added, stop_added, events_keep}
 use Rattle.run_rules.proofs.AtNodeLemmas.{turn_elsewhere, turn_here, start_elsewhere, start_here}
@@ -165,7 +165,7 @@ module _ (p : Forest) (w : IsForest p) (t : List Event) (l : Lawful p t) (n : �
   i = inv p t w l
 
   -- the SCN of a transaction is above the seals of its branches, and is that of its decision
-  above : (other : RedoRecord) (b : BranchId) (m : ℕ) → Leaves b other → IsEvent t n other → exit t (site_of p b) ≡ Some (Decided m) → (c : ℕ) → IsBelow c other → c < m
+  above : (other : RedoRecord) (b : BranchId) (m : ℕ) → SealsOrDecides b other → IsEvent t n other → exit t (site_of p b) ≡ Some (Decided m) → (c : ℕ) → IsBelow c other → c < m
   above (records.Sealed s) b m is event decided c below =
       let left : exit t b ≡ Some (Sealed s.scn) = subst (λ z. exit t z ≡ Some (Sealed s.scn)) is (exit_sealed p t s.me s.root s.scn s.changes l event) in
       let less : s.scn < m = sealed_below p w t l b m s.scn decided left in
@@ -193,7 +193,7 @@ module _ (p : Forest) (w : IsForest p) (t : List Event) (l : Lawful p t) (n : �
   known_end _ b k event over unforced decided = absurd (true≢false (sym over))
 
   -- so a record before tells the commit of a branch that left before
-  known : (older : List RedoRecord) (cs : List Change) (one : RedoRecord) (b : BranchId) (k : ℕ) → AreEvents t n older → IsIn one older → Leaves b one → IsDoneBefore older cs one → have_a_key_in_common (changes_by one) cs ≡ true
+  known : (older : List RedoRecord) (cs : List Change) (one : RedoRecord) (b : BranchId) (k : ℕ) → AreEvents t n older → IsIn one older → SealsOrDecides b one → IsDoneBefore older cs one → have_a_key_in_common (changes_by one) cs ≡ true
       → forced t b ≡ None → exit t (site_of p b) ≡ Some (Decided k) → (o : RedoRecord) × IsIn o older × (commit_scn o ≡ k)
   known older cs (records.Sealed f) b k events there is done common unforced decided =
       let over : list_any (ends b) older ≡ true = subst (λ z. list_any (ends z) older ≡ true) is (done common) in
@@ -206,7 +206,7 @@ module _ (p : Forest) (w : IsForest p) (t : List Event) (l : Lawful p t) (n : �
       (records.Decided f, there, (let same_scn : f.scn ≡ k = cc (left, at) in same_scn))
   known older cs _ b k events there is done common unforced decided = absurd is
 
-  ordered : (older : List RedoRecord) (one other : RedoRecord) (a b : BranchId) (k m : ℕ) → AreEvents t n older → IsEvent t n other → ComesInOrder older other → IsIn one older → Leaves a one → Leaves b other
+  ordered : (older : List RedoRecord) (one other : RedoRecord) (a b : BranchId) (k m : ℕ) → AreEvents t n older → IsEvent t n other → ComesInOrder older other → IsIn one older → SealsOrDecides a one → SealsOrDecides b other
       → have_a_key_in_common (changes_by one) (changes_by other) ≡ true → forced t a ≡ None → exit t (site_of p a) ≡ Some (Decided k) → exit t (site_of p b) ≡ Some (Decided m) → k < m
   ordered older one (records.Sealed s) a b k m events event order there is leaves common unforced first_decided decided =
       let o : (o : RedoRecord) × IsIn o older × (commit_scn o ≡ k) = known older s.changes one a k events there is (in_all (IsDoneBefore older s.changes) one older order.0 there) common unforced first_decided in

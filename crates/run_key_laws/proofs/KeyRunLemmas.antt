@@ -23,7 +23,7 @@ use Rattle.run_rules.specs.Facts.{Facts, first_facts, place_at, node_at, records
 use Rattle.run_rules.specs.Lawful.{IsPlace, MayHappen, MayTurn, History, IsLawfulRun, facts_at}
 use Rattle.run_base_laws.specs.RunEvents.{events_after, events_of}
 use Rattle.run_base_laws.specs.EventRows.{RowIs, RowsAre}
-use Rattle.run_key_laws.specs.ChangedLaws.{ChangesFit}
+use Rattle.run_key_laws.specs.ChangedLaws.{ChangesAreOfLives}
 use Rattle.run_key_laws.specs.RiseLaws.{are_of_one_key}
 use Rattle.run_key_laws.specs.KeyLaws.{is_written_by, is_doubted_by, is_held, AreHeld, KeysAreHeld}
 use Rattle.run_rules.proofs.ListLemmas.{all_weaker}
@@ -137,7 +137,7 @@ module _ (places : List Place) (asked : List Command) (each : (n : ℕ) (p : Pla
     heard_fits (inputs.GiveUp m) fits = fits
     heard_fits inputs.Reco fits = fits
 
-    heard_own : (input : Input) → ChangesFit k.lives k.owns → ChangesFit (heard k input).lives (heard k input).owns
+    heard_own : (input : Input) → ChangesAreOfLives k.lives k.owns → ChangesAreOfLives (heard k input).lives (heard k input).owns
     heard_own (inputs.Message m) own = own
     heard_own (inputs.Call m s) own = own
     heard_own (inputs.GiveUp m) own = own

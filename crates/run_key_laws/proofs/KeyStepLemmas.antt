@@ -22,7 +22,7 @@ use Rattle.node_rules.specs.Statement.{ran, ground_of, owns_after, view}
 use Rattle.node_rules.proofs.Steps as steps
 use Rattle.node_rules.proofs.Steps.{Step, IsOfRows, IsKept, Collects, By_commit, By_prepare, Acting, Asks_down, Has_no_children, Hears_abort, Waits_on, Hears_last, At_point, Drops, By_rollback, By_parent, Doing, Ends_so}
 use Rattle.node_rules.proofs.StandLemmas.{live_so}
-use Rattle.run_key_laws.specs.ChangedLaws.{ChangesFit}
+use Rattle.run_key_laws.specs.ChangedLaws.{ChangesAreOfLives}
 use Rattle.run_key_laws.specs.KeyLaws.{KeysHeld}
 use Rattle.run_rules.proofs.ListLemmas.{all_weaker, all_filter}
 use Rattle.run_base_laws.proofs.OwnLemmas.{all_found, all_with, forced_one}
@@ -120,7 +120,7 @@ forced_so names P ks id b all is = forced_one P id (filter (is_named_by names id
 
 module _ (p : Place) (input : Input) where
   -- each step leaves them held
-  pub keys_on : {k : NodeState} {d : TurnDraft} → Step p input k d → Fits k → ChangesFit k.lives k.owns → Apart k → Keys k → Keys d.after
+  pub keys_on : {k : NodeState} {d : TurnDraft} → Step p input k d → Fits k → ChangesAreOfLives k.lives k.owns → Apart k → Keys k → Keys d.after
   unfolding applied
   keys_on (steps.Begins n s call rows fit none step) fits own apart now = rows_on call rows p step fits now
   keys_on (steps.Pends n l given call has live code step) fits own apart now = keys_on step fits own (record { rows = apart.rows; doubts = apart.doubts }) now

@@ -13,7 +13,7 @@ use Rattle.node_rules.specs.Data.{Change, Table, BranchId, Keyed, Doubt}
 use Rattle.node_rules.specs.Words.{same, same_text}
 use Rattle.node_rules.specs.Rows.{TableRows, rows_of_table, apply_all, with_table}
 use Rattle.run_rules.specs.Data.{Entry}
-use Rattle.run_rules.specs.Book.{changes_in, changes_of, commits_now, committed_at, rows_told}
+use Rattle.run_rules.specs.Book.{changes_in, changes_of, commits_now, committed_at, rows_by_book}
 use Rattle.run_key_laws.specs.TableLaws.{table_in, AreChangesIn, TablesFit}
 use Rattle.run_key_laws.proofs.TableLemmas.{table_more, no_rows, has_applied, rows_applied}
 
@@ -33,19 +33,19 @@ apply_more : (table : List ℕ) (rows : List Keyed) (xs ys : List Change) → ap
 apply_more table rows [] ys = refl
 apply_more table rows (x ∷ xs) ys = apply_more table (change_one table rows x) xs ys
 
-pub told_more : (book : List Entry) (e : Entry) (n : ℕ) (table : List ℕ) → rows_told (book ++ e ∷ []) n table ≡ apply table (rows_told book n table) (commits_now book n e)
-unfolding rows_told
+pub told_more : (book : List Entry) (e : Entry) (n : ℕ) (table : List ℕ) → rows_by_book (book ++ e ∷ []) n table ≡ apply table (rows_by_book book n table) (commits_now book n e)
+unfolding rows_by_book
 told_more book e n table = ap (apply table []) (committed_more [] n book e) ∙ apply_more table [] (committed_at [] n book) (commits_now book n e)
 
 -- an entry that commits nothing at a node, and has no changes of its branches
 abbrev pub IsQuietAt : ℕ → Entry → Type 0
 IsQuietAt n e = ((older : List Entry) → commits_now older n e ≡ []) × ((b : BranchId) → b.node ≡ n → changes_in b e ≡ [])
 
-pub told_quietly : (n : ℕ) (table : List ℕ) (book es : List Entry) → AllByRecursion (IsQuietAt n) es → rows_told (book ++ es) n table ≡ rows_told book n table
-told_quietly n table book [] all = ap (λ bk. rows_told bk n table) (append-nil book)
+pub told_quietly : (n : ℕ) (table : List ℕ) (book es : List Entry) → AllByRecursion (IsQuietAt n) es → rows_by_book (book ++ es) n table ≡ rows_by_book book n table
+told_quietly n table book [] all = ap (λ bk. rows_by_book bk n table) (append-nil book)
 told_quietly n table book (e ∷ es) all =
-    ap (λ bk. rows_told bk n table) (sym (append_assoc book (e ∷ []) es))
-    ∙ (told_quietly n table (book ++ e ∷ []) es all.1 ∙ (told_more book e n table ∙ ap (apply table (rows_told book n table)) (all.0.0 book)))
+    ap (λ bk. rows_by_book bk n table) (sym (append_assoc book (e ∷ []) es))
+    ∙ (told_quietly n table (book ++ e ∷ []) es all.1 ∙ (told_more book e n table ∙ ap (apply table (rows_by_book book n table)) (all.0.0 book)))
 
 pub changes_quietly : (n : ℕ) (b : BranchId) (book es : List Entry) → b.node ≡ n → AllByRecursion (IsQuietAt n) es → changes_of (book ++ es) b ≡ changes_of book b
 changes_quietly n b book [] here all = ap (λ bk. changes_of bk b) (append-nil book)

@@ -19,10 +19,10 @@ abbrev pub IsMarked : List Owned → Live → Type 0
 IsMarked owns l = l.changed ≡ has_changes (changes_at owns l.me)
 
 -- Changes are kept of live branches alone, and each live branch is marked so.
-pub record ChangesFit (lives : List Live) (owns : List Owned) : Type 0 where
+pub record ChangesAreOfLives (lives : List Live) (owns : List Owned) : Type 0 where
   pub live : (b : BranchId) → item_at live_id lives b ≡ None → item_at own_id owns b ≡ None
   pub marked : (b : BranchId) (l : Live) → item_at live_id lives b ≡ Some l → IsMarked owns l
 
 -- so it is at each node of every lawful run
 abbrev pub ChangesAreOfLive : Type 0
-ChangesAreOfLive = OfEachNode (λ p rs k. ChangesFit k.lives k.owns)
+ChangesAreOfLive = OfEachNode (λ p rs k. ChangesAreOfLives k.lives k.owns)

@@ -17,10 +17,10 @@ IsIn r [] = ⊥
 IsIn r (s ∷ rs) = (s ≡ r) ⊎ IsIn r rs
 
 -- a branch seals or decides by a record
-abbrev pub Leaves : BranchId → RedoRecord → Type 0
-Leaves b (records.Sealed r) = r.me ≡ b
-Leaves b (records.Decided r) = r.me ≡ b
-Leaves b _ = ⊥
+abbrev pub SealsOrDecides : BranchId → RedoRecord → Type 0
+SealsOrDecides b (records.Sealed r) = r.me ≡ b
+SealsOrDecides b (records.Decided r) = r.me ≡ b
+SealsOrDecides b _ = ⊥
 
 -- the changes of a branch that seals or decides
 abbrev pub changes_by : RedoRecord → List Change
@@ -36,8 +36,8 @@ pub record LeavesAfter (rs : List RedoRecord) (first second : BranchId) : Type 0
   pub other : RedoRecord
   pub split : rs ≡ older ++ other ∷ newer
   pub before : IsIn one older
-  pub leaves : Leaves first one
-  pub leaves_after : Leaves second other
+  pub leaves : SealsOrDecides first one
+  pub leaves_after : SealsOrDecides second other
   pub common : have_a_key_in_common (changes_by one) (changes_by other) ≡ true
 
 -- where the turns of a lawful run do what its session trees allow, the transaction of a branch that was never forced has a lower

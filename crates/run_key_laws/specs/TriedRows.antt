@@ -8,7 +8,7 @@ use Rattle.node_rules.specs.NodeState.{NodeState}
 use Rattle.node_rules.specs.Records.{nothing_stored, stored_by}
 use Rattle.run_rules.specs.Data.{Happening}
 use Rattle.run_rules.specs.Entries.{book_of}
-use Rattle.run_rules.specs.Book.{rows_told}
+use Rattle.run_rules.specs.Book.{rows_by_book}
 use Rattle.run_rules.specs.Facts.{Facts, first_facts, node_at, records_at, facts_of}
 use Rattle.run_key_laws.specs.KeyLaws.{is_written_by, is_doubted_by, is_held}
 use Rattle.run_branch_laws.specs.TriedRun.{places, trace, one, a, b}
@@ -32,8 +32,8 @@ the_row = (record { key = one; row = record { cells = one ∷ [] } }) ∷ []
 
 -- rows are told as they are stored, and keys are held
 pub record TheTriedRows : Type 0 where
-  pub told_at_a : rows_told (book_of trace) 1 (codes "T") ≡ the_row
-  pub told_at_b : rows_told (book_of trace) 2 (codes "T") ≡ the_row
+  pub told_at_a : rows_by_book (book_of trace) 1 (codes "T") ≡ the_row
+  pub told_at_b : rows_by_book (book_of trace) 2 (codes "T") ≡ the_row
   pub stored_at_a : stored_rows 1 ≡ the_row
   pub stored_at_b : stored_rows 2 ≡ the_row
   pub held_at_a : is_held (is_written_by a) (locks_in (node_at (facts_after_so_many 9) 1)) (codes "T") one ≡ true

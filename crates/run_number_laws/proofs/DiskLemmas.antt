@@ -5,7 +5,7 @@ use Rattle.node_rules.specs.Data.decisions
 use Rattle.node_rules.specs.Data.records
 use Rattle.node_rules.specs.NodeState.{NodeState, Stored}
 use Rattle.node_rules.specs.Records.{nothing_stored, raised_by, applied, stored_by}
-use Rattle.run_rules.specs.BranchRecords.{Commits, IsRecorded}
+use Rattle.run_rules.specs.BranchRecords.{Commits, CommitIsRecorded}
 use Rattle.run_rules.specs.Lawful.{boots}
 use Rattle.run_base_laws.proofs.NodeLemmas.{Keeps, keeps_both, keeps_alone}
 use Rattle.run_base_laws.proofs.StoredLemmas.{StoresOf, stores, stored_with}
@@ -42,7 +42,7 @@ commit_told s b n (records.Met c d mixed) is = subst (λ e. n ≤ raised_by s.sc
 commit_told s b n _ is = absurd is
 
 -- a commit that a record tells is no greater than what is stored
-pub recorded_below : (s : Stored) (rs : List RedoRecord) (b : BranchId) (n : ℕ) → IsRecorded rs b n → n ≤ (stored_by s rs).scn
+pub recorded_below : (s : Stored) (rs : List RedoRecord) (b : BranchId) (n : ℕ) → CommitIsRecorded rs b n → n ≤ (stored_by s rs).scn
 unfolding stored_by
 recorded_below s [] b n is = absurd is
 recorded_below s (r ∷ rs) b n (inl here) = let one = commit_told s b n r here in let rest = all_kept (applied s r) rs in omega (arith, one, rest)

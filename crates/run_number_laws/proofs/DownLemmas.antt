@@ -12,7 +12,7 @@ use Rattle.run_rules.specs.Data.{Took, Turn, Happening, Command}
 use Rattle.run_rules.specs.Data.commands
 use Rattle.run_rules.specs.Data.happenings
 use Rattle.run_rules.specs.Facts.{Facts, place_at, node_at, kept_after, taken, to_stop_after, ordered, command_at, facts_after}
-use Rattle.run_rules.specs.Lawful.{IsNode, IsSettled, MayTurn, MayStop, MayStart, MayHappen}
+use Rattle.run_rules.specs.Lawful.{IsNode, NothingComesFirst, MayTurn, MayStop, MayStart, MayHappen}
 use Rattle.run_rules.proofs.AtNodeLemmas.{turn_elsewhere, stop_elsewhere, start_elsewhere, turn_here, start_here}
 use Rattle.run_base_laws.proofs.TurnEventLemmas.{cases_nat}
 
@@ -56,7 +56,7 @@ abbrev pub DownsAreKnown : ℕ → Facts → Type 0
 DownsAreKnown count f = (n : ℕ) → IsNode count n → node_at f n ≡ None → f.node_to_stop ≢ Some n → is_down f.net n ≡ true
 
 -- no node is to stop
-none_stops : (f : Facts) → IsSettled f → (n : ℕ) → f.node_to_stop ≢ Some n
+none_stops : (f : Facts) → NothingComesFirst f → (n : ℕ) → f.node_to_stop ≢ Some n
 none_stops f settled n is = let none = settled.upright in absurd (cc (is, none))
 
 module _ (places : List Place) (asked : List Command) (f : Facts) (even : length f.nodes ≡ length f.records) (many : length f.nodes ≡ length places) (now : DownsAreKnown (length places) f) where

@@ -17,7 +17,7 @@ use Rattle.run_rules.specs.Past.{report_after, past}
 use Rattle.run_rules.specs.Lines.{spent}
 use Rattle.run_rules.specs.Commands.{is_enabled}
 use Rattle.run_rules.specs.Calls.{is_call_at, call_at}
-use Rattle.run_rules.specs.Lawful.{IsNode, IsProper, IsSettled, AreOfAScript, History}
+use Rattle.run_rules.specs.Lawful.{IsNode, IsCommandOver, NothingComesFirst, AreOfAScript, History}
 use Rattle.run_rules.specs.Due.{Due, Pends, Gives_up, Delivers, Recovers, Loses, Stops, Starts, Begins, Ends, if_due, call_due, act_of, next_command, next_give_up, next_delivery, most_of, next_pumped, flows, acts_first, acts_once, follows_first, falls_first, first_losses, due_of, IsTheRun}
 use Rattle.run_rules.specs.Reported.{past_of}
 use Rattle.run_rules.specs.Scripts.{IsTheRunOf, TheRunIsLawful}
@@ -161,7 +161,7 @@ module _ (places : List Place) (asked : List Command) (script : AreOfAScript pla
   t = p.run_report
 
   -- a pending call is at a node that is up
-  called_up : (n s : ℕ) → IsSettled f → called_at t.calls n s ≡ true → IsUp f n
+  called_up : (n s : ℕ) → NothingComesFirst f → called_at t.calls n s ≡ true → IsUp f n
   called_up n s settled called = by (node_at f n) refl
     where
       by : (o : Option NodeState) → node_at f n ≡ o → IsUp f n
@@ -169,7 +169,7 @@ module _ (places : List Place) (asked : List Command) (script : AreOfAScript pla
       by (Some k) at = (k, at)
 
   -- a message that passes goes to one
-  target_up : (k : ℕ) (x : Packet) → IsSettled f → packet_at f.net k ≡ Some x → is_blocked f.net x.msg ≡ false → (y : Packet) × (packet_at f.net k ≡ Some y) × IsUp f y.msg.to.node
+  target_up : (k : ℕ) (x : Packet) → NothingComesFirst f → packet_at f.net k ≡ Some x → is_blocked f.net x.msg ≡ false → (y : Packet) × (packet_at f.net k ≡ Some y) × IsUp f y.msg.to.node
   target_up k x settled at free = (x, at, by (node_at f x.msg.to.node) refl)
     where
       by : (o : Option NodeState) → node_at f x.msg.to.node ≡ o → IsUp f x.msg.to.node
@@ -180,15 +180,15 @@ module _ (places : List Place) (asked : List Command) (script : AreOfAScript pla
           absurd (cc (down, passes))
       by (Some k) up = (k, up)
 
-  flying_up : (k : ℕ) → IsSettled f → (o : Option Packet) → packet_at f.net k ≡ o → is_flying_at o ≡ true → (y : Packet) × (packet_at f.net k ≡ Some y) × IsUp f y.msg.to.node
+  flying_up : (k : ℕ) → NothingComesFirst f → (o : Option Packet) → packet_at f.net k ≡ o → is_flying_at o ≡ true → (y : Packet) × (packet_at f.net k ≡ Some y) × IsUp f y.msg.to.node
   flying_up k settled None at flying = absurd cc
   flying_up k settled (Some x) at flying = target_up k x settled at (all_at (λ y. flies y ≡ true → is_blocked f.net y.msg ≡ false) f.net.packets k x now.free at flying)
 
-  copy_up : (k : ℕ) → IsSettled f → (o : Option Packet) → packet_at f.net k ≡ o → may_pass f.net o ≡ true → (y : Packet) × (packet_at f.net k ≡ Some y) × IsUp f y.msg.to.node
+  copy_up : (k : ℕ) → NothingComesFirst f → (o : Option Packet) → packet_at f.net k ≡ o → may_pass f.net o ≡ true → (y : Packet) × (packet_at f.net k ≡ Some y) × IsUp f y.msg.to.node
   copy_up k settled None at passes = absurd cc
   copy_up k settled (Some x) at passes = target_up k x settled at (let it : is_blocked f.net x.msg ≡ false = grind (arith, passes) in it)
 
-  beside_up : {d : Due} → IsSettled f → ComesBeside asked f t d → Enabled f d → FindsUp f d
+  beside_up : {d : Due} → NothingComesFirst f → ComesBeside asked f t d → Enabled f d → FindsUp f d
   beside_up settled (due.Gives n s c at) on = called_up n s settled (there_called n s t.calls c at)
   beside_up settled (due.Takes k may) on = flying_up k settled (packet_at f.net k) refl may
   beside_up settled (due.Repeats k may) on = copy_up k settled (packet_at f.net k) refl may
@@ -219,8 +219,8 @@ module _ (places : List Place) (asked : List Command) (script : AreOfAScript pla
   its_node : (n : ℕ) → IsUp f n → IsNode count n
   its_node n up = up_there places asked script f n up.0 now.many up.1
 
-  command_is : (c : Command) → command_at asked f.command ≡ c → IsProper count c
-  command_is c is = subst (IsProper count) is (proper_at count asked f.command script.proper)
+  command_is : (c : Command) → command_at asked f.command ≡ c → IsCommandOver count c
+  command_is c is = subst (IsCommandOver count) is (proper_at count asked f.command script.proper)
 
   beside_names : {d : Due} → ComesBeside asked f t d → FindsUp f d → NamesNodes count d
   beside_names (due.Gives n s c at) up = its_node n up

@@ -20,7 +20,7 @@ use Rattle.run_rules.specs.Lawful.{IsPlace, MayTurn, MayHappen, IsOwed, IsLawful
 use Rattle.run_base_laws.specs.NodeLaws.{EachFactFrom}
 use Rattle.run_base_laws.specs.RunEvents.{events_after}
 use Rattle.run_rules.specs.Births.{Born, births_after}
-use Rattle.run_base_laws.specs.InTurnLaws.{post_of, packet_post, said_in, GoesOn}
+use Rattle.run_base_laws.specs.InTurnLaws.{post_of, packet_post, said_in, NeedsNoRollback}
 use Rattle.run_rules.proofs.ListLemmas.{all_weaker}
 use Rattle.run_base_laws.proofs.TurnEventLemmas.{cases_nat}
 use Rattle.run_base_laws.proofs.EventsStandLemmas.{first_node}
@@ -98,7 +98,7 @@ few_each places asked f (h ∷ hs) low = (few_happen places f h low.0, few_each 
 -- ---- what stands
 
 abbrev pub LiveFits : List Post → NodeState → Live → Work → Type 0
-LiveFits said k l w = ChildFits said l.me l.parent (count l) (spare l.parent (count l) w.going) w.came w.going × ParentFits said (GoesOn k l) l.me (count l) (spare l.parent (count l) w.going) l.edges w
+LiveFits said k l w = ChildFits said l.me l.parent (count l) (spare l.parent (count l) w.going) w.came w.going × ParentFits said (NeedsNoRollback k l) l.me (count l) (spare l.parent (count l) w.going) l.edges w
 
 -- of a node's live branches
 abbrev pub NodeFits : List Post → NodeState → Type 0
@@ -117,7 +117,7 @@ parent_goes said G H me n sp es w goes is = record { held = λ h. is.held (goes 
 node_stays : (said says : List Post) (k : NodeState) → AllNew said says → ((b : BranchId) (l : Live) → live_at k b ≡ Some l → Silent l.me says) → NodeFits said k → NodeFits (said ++ says) k
 node_stays said says k new silent now = each_same (LiveFits said k) (LiveFits (said ++ says) k) k.lives k.works now (λ y v live any is. (
   child_more said says y.me y.parent (count y) (spare y.parent (count y) v.going) v.came v.going (silent y.me y live).replies is.0,
-  parent_more said says (GoesOn k y) y.me (count y) (spare y.parent (count y) v.going) y.edges v new (silent y.me y live) is.1,
+  parent_more said says (NeedsNoRollback k y) y.me (count y) (spare y.parent (count y) v.going) y.edges v new (silent y.me y live) is.1,
 ))
 
 module _ (places : List Place) (asked : List Command) (each : (n : ℕ) (p : Place) → numbered places n ≡ Some p → IsPlace places n p) where
@@ -158,7 +158,7 @@ module _ (places : List Place) (asked : List Command) (each : (n : ℕ) (p : Pla
       codes = subst (λ ss. AllNeed ss d.after.sessions) (sessions_heard k u.input) (codes_on p u.input (calls.step places asked each f t bs stand roots turns u k may))
 
       -- a root that may go on after the turn needed no rollback before it
-      goes_before : (b : BranchId) (l : Live) → live_at k b ≡ Some l → (l.parent ≡ None → May l.me) → GoesOn k l
+      goes_before : (b : BranchId) (l : Live) → live_at k b ≡ Some l → (l.parent ≡ None → May l.me) → NeedsNoRollback k l
       goes_before b l live goes none =
           let may_go : May l.me = goes none in
           let before : (session_at k.sessions l.me.session).root ≡ Some l.me = (live_root k rests.1 b l live none).root in
@@ -180,7 +180,7 @@ module _ (places : List Place) (asked : List Command) (each : (n : ℕ) (p : Pla
       olds = subst (λ o. IfSome o (NodeFits said)) may.up (now.nodes n)
 
       fits_before : EachLive (λ l w. ChildFits said l.me l.parent (count l) (spare l.parent (count l) w.going) w.came w.going × ParentFits said (l.parent ≡ None → May l.me) l.me (count l) (spare l.parent (count l) w.going) l.edges w) k.lives k.works
-      fits_before = each_same (LiveFits said k) _ k.lives k.works olds (λ y v live any is. (is.0, parent_goes said (GoesOn k y) (y.parent ≡ None → May y.me) y.me (count y) (spare y.parent (count y) v.going) y.edges v (goes_before y.me y live) is.1))
+      fits_before = each_same (LiveFits said k) _ k.lives k.works olds (λ y v live any is. (is.0, parent_goes said (NeedsNoRollback k y) (y.parent ≡ None → May y.me) y.me (count y) (spare y.parent (count y) v.going) y.edges v (goes_before y.me y live) is.1))
 
       fits_done : EachLive (λ l w. ChildFits more l.me l.parent (count l) (spare l.parent (count l) w.going) w.came w.going × ParentFits more (l.parent ≡ None → May l.me) l.me (count l) (spare l.parent (count l) w.going) l.edges w) d.after.lives d.after.works
           × AllNew said d.says
@@ -191,7 +191,7 @@ module _ (places : List Place) (asked : List Command) (each : (n : ℕ) (p : Pla
 
       after : NodeFits more d.after
       after = each_same _ (LiveFits more d.after) d.after.lives d.after.works fits_done.0
-          (λ y v live any is. (is.0, parent_goes more (y.parent ≡ None → May y.me) (GoesOn d.after y) y.me (count y) (spare y.parent (count y) v.going) y.edges v (λ goes none. (y, live, none, goes none)) is.1))
+          (λ y v live any is. (is.0, parent_goes more (y.parent ≡ None → May y.me) (NeedsNoRollback d.after y) y.me (count y) (spare y.parent (count y) v.going) y.edges v (λ goes none. (y, live, none, goes none)) is.1))
 
       here_after : node_at g n ≡ kept_after u.cut (Some (turn_of p k u.input))
       here_after = calls.here_after places asked each f t bs stand roots turns u k may

@@ -17,7 +17,7 @@ use Rattle.run_rules.specs.RunReport.{Past, RunReport, Call}
 use Rattle.run_rules.specs.Lines.{spent}
 use Rattle.run_rules.specs.Commands.{is_enabled}
 use Rattle.run_rules.specs.Calls.{call_at, is_call_at}
-use Rattle.run_rules.specs.Lawful.{IsSettled}
+use Rattle.run_rules.specs.Lawful.{NothingComesFirst}
 use Rattle.run_rules.specs.Due.{Due, Tells, Falls, Pends, Gives_up, Delivers, Recovers, Cuts, Joins, Loses, Stops, Starts, Begins, Ends, if_due, call_due, act_of, next_command, next_give_up, next_delivery, most_of, next_pumped, flows, acts_first, acts_once, follows_first, falls_first, first_losses, due_of}
 
 -- a command makes no call of its own
@@ -44,10 +44,10 @@ pub data IsDue (asked : List Command) (f : Facts) (t : RunReport) : Due → Type
   Told : (k : ℕ) (ks : List ℕ) → f.losses_to_report ≡ k ∷ ks → IsDue asked f t (Tells k)
   Node_falls : (n : ℕ) → f.losses_to_report ≡ [] → f.node_to_stop ≡ Some n → IsDue asked f t (Falls n)
   Start_falls : (n : ℕ) → f.losses_to_report ≡ [] → f.node_to_stop ≡ None → t.start_to_stop ≡ Some n → IsDue asked f t (Falls n)
-  Follows : (c : Call) → IsSettled f → t.start_to_stop ≡ None → t.next_call ≡ Some c → IsDue asked f t (Pends c)
-  Own_call : (c : Call) (n session : ℕ) (s : Option Stmt) → IsSettled f → t.start_to_stop ≡ None → t.next_call ≡ None → t.acted ≡ false → command_at asked f.command ≡ commands.At n session s
+  Follows : (c : Call) → NothingComesFirst f → t.start_to_stop ≡ None → t.next_call ≡ Some c → IsDue asked f t (Pends c)
+  Own_call : (c : Call) (n session : ℕ) (s : Option Stmt) → NothingComesFirst f → t.start_to_stop ≡ None → t.next_call ≡ None → t.acted ≡ false → command_at asked f.command ≡ commands.At n session s
       → call_at t n session ≡ Some c → (c.command == f.command) ≡ true → IsDue asked f t (Pends c)
-  Beside : {d : Due} → IsSettled f → t.start_to_stop ≡ None → t.next_call ≡ None → (t.acted ≡ false → MakesNoCall f t (command_at asked f.command)) → ComesBeside asked f t d → IsDue asked f t d
+  Beside : {d : Due} → NothingComesFirst f → t.start_to_stop ≡ None → t.next_call ≡ None → (t.acted ≡ false → MakesNoCall f t (command_at asked f.command)) → ComesBeside asked f t d → IsDue asked f t d
 
 module _ (asked : List Command) (f : Facts) (t : RunReport) where
   -- ---- what comes by itself
@@ -96,7 +96,7 @@ module _ (asked : List Command) (f : Facts) (t : RunReport) where
 
   -- ---- with nothing to tell
 
-  module _ (settled : IsSettled f) (stands : t.start_to_stop ≡ None) (alone : t.next_call ≡ None) where
+  module _ (settled : NothingComesFirst f) (stands : t.start_to_stop ≡ None) (alone : t.next_call ≡ None) where
     -- a command that makes no call
     beside : (c : Command) → command_at asked f.command ≡ c → MakesNoCall f t c → {d : Due} → ComesBeside asked f t d → IsDue asked f t d
     beside c is none comes = Beside settled stands alone (λ fresh. subst (MakesNoCall f t) (sym is) none) comes
@@ -150,11 +150,11 @@ module _ (asked : List Command) (f : Facts) (t : RunReport) where
         by true acted = Beside settled stands alone (λ fresh. absurd (cc (acted, fresh))) flows_so
         by false fresh = act_so fresh (command_at asked f.command) refl
 
-  follows_so : IsSettled f → t.start_to_stop ≡ None → (o : Option Call) → t.next_call ≡ o → IsDue asked f t (follows_first (acts_once asked f t) o)
+  follows_so : NothingComesFirst f → t.start_to_stop ≡ None → (o : Option Call) → t.next_call ≡ o → IsDue asked f t (follows_first (acts_once asked f t) o)
   follows_so settled stands None is = once_so settled stands is
   follows_so settled stands (Some c) is = Follows c settled stands is
 
-  starts_so : IsSettled f → (o : Option ℕ) → t.start_to_stop ≡ o → IsDue asked f t (falls_first (follows_first (acts_once asked f t) t.next_call) o)
+  starts_so : NothingComesFirst f → (o : Option ℕ) → t.start_to_stop ≡ o → IsDue asked f t (falls_first (follows_first (acts_once asked f t) t.next_call) o)
   starts_so settled None is = follows_so settled is t.next_call refl
   starts_so settled (Some n) is = Start_falls n settled.told settled.upright is
 

@@ -6,7 +6,7 @@ use Rattle.run_rules.specs.Data.commands
 use Rattle.run_rules.specs.Facts.{Facts, command_at}
 use Rattle.run_rules.specs.RunReport.{RunReport, Call}
 use Rattle.run_rules.specs.Calls.{is_call_at, call_at}
-use Rattle.run_rules.specs.Lawful.{IsSettled}
+use Rattle.run_rules.specs.Lawful.{NothingComesFirst}
 use Rattle.run_ready_laws.proofs.CallEndLemmas.{same_number}
 use Rattle.run_ready_laws.proofs.DueLemmas.{MakesNoCall}
 use Rattle.run_ready_laws.proofs.PendingLemmas.{IsOf, follows_at, found_so, at_parts}
@@ -42,7 +42,7 @@ module _ (asked : List Command) (count : ℕ) (f : Facts) (t : RunReport) (stand
   pub quiet_acted : t.acted ≡ true → IsQuiet f t
   quiet_acted acted n s = grind (arith, acted)
 
-  pub acted_by : (q : Bool) → t.acted ≡ q → (IsSettled f × (t.start_to_stop ≡ None) × (t.next_call ≡ None) → ⊥) → t.acted ≡ true
+  pub acted_by : (q : Bool) → t.acted ≡ q → (NothingComesFirst f × (t.start_to_stop ≡ None) × (t.next_call ≡ None) → ⊥) → t.acted ≡ true
   acted_by true is busy = is
   acted_by false is busy = absurd (busy (stand.fresh is))
 

@@ -19,7 +19,7 @@ use Rattle.run_rules.specs.RunReport.{RunReport, Call}
 use Rattle.run_rules.specs.Calls.{is_call_at, stopped_calls}
 use Rattle.run_rules.specs.Commands.{has_call, has_transaction, commits_first, call_of, calls_after, begins}
 use Rattle.run_rules.specs.Past.{acts, failed_start, start_refused, is_stop_of, stop_line, report_stopped, falls_if, report_started}
-use Rattle.run_rules.specs.Lawful.{IsSettled, IsNode, IsProper}
+use Rattle.run_rules.specs.Lawful.{NothingComesFirst, IsNode, IsCommandOver}
 use Rattle.run_rules.proofs.AtNodeLemmas.{stop_here, stop_elsewhere, start_here, start_elsewhere}
 use Rattle.run_ready_laws.proofs.CallEndLemmas.{is_pending, pends_at, and_true, same_number}
 use Rattle.run_ready_laws.proofs.PendingLemmas.{IsOf, called_at, follows_at, found_so, SameCalls, same_calls, StopLeaves, stop_leaves}
@@ -138,7 +138,7 @@ unfolding start_of
 fresh_pends rs s = ap (λ x. is_pending x.call) (fresh_at s)
 
 module _ (places : List Place) (asked : List Command) (f : Facts) (t : RunReport) (even : length f.nodes ≡ length f.records) (many : length f.nodes ≡ length places) (stand : CallsStand asked (length places) f t)
-    (n boot : ℕ) (node : IsNode (length places) n) (settled : IsSettled f) (alone : t.next_call ≡ None) (off : node_at f n ≡ None) (quiet : IsQuiet f t) where
+    (n boot : ℕ) (node : IsNode (length places) n) (settled : NothingComesFirst f) (alone : t.next_call ≡ None) (off : node_at f n ≡ None) (quiet : IsQuiet f t) where
   new : node_at (facts_after places asked f (happenings.Started n boot)) n ≡ Some (start_of (with_boot f n boot))
   new = (start_here places asked f even n boot node.0 (omega (arith, node.1, many))).0
 
@@ -184,14 +184,14 @@ module _ (places : List Place) (asked : List Command) (f : Facts) (t : RunReport
 -- ---- the next command
 
 -- the command of each number is proper
-pub proper_at : (count : ℕ) (cs : List Command) (n : ℕ) → AllByRecursion (IsProper count) cs → IsProper count (command_at cs n)
+pub proper_at : (count : ℕ) (cs : List Command) (n : ℕ) → AllByRecursion (IsCommandOver count) cs → IsCommandOver count (command_at cs n)
 proper_at count cs zero all = tt
 proper_at count [] (suc i) all = tt
 proper_at count (d ∷ ds) (suc zero) all = all.0
 proper_at count (d ∷ ds) (suc (suc i)) all = proper_at count ds (suc i) all.1
 
-module _ (places : List Place) (asked : List Command) (proper : AllByRecursion (IsProper (length places)) asked) (f : Facts) (t : RunReport) (stand : CallsStand asked (length places) f t)
-    (settled : IsSettled f) (no_start : t.start_to_stop ≡ None) (alone : t.next_call ≡ None) (quiet : IsQuiet f t) (c : ℕ) (next : c ≡ f.command + 1) where
+module _ (places : List Place) (asked : List Command) (proper : AllByRecursion (IsCommandOver (length places)) asked) (f : Facts) (t : RunReport) (stand : CallsStand asked (length places) f t)
+    (settled : NothingComesFirst f) (no_start : t.start_to_stop ≡ None) (alone : t.next_call ≡ None) (quiet : IsQuiet f t) (c : ℕ) (next : c ≡ f.command + 1) where
   later : (d : Call) → IsOf asked f.command d → IsOf asked c d
   later d is = record { text = is.text; command = is.command; whole = is.whole; then_whole = is.then_whole; past = omega (arith, is.past, next) }
 
@@ -258,7 +258,7 @@ module _ (places : List Place) (asked : List Command) (proper : AllByRecursion (
           let there : called_at (t.calls ++ d ∷ []) n s ≡ false = list_any-append (is_call_at n s) t.calls (d ∷ []) ∙ (ap (λ q. q || (is_call_at n s d || false)) was ∙ ap (λ q. false || (q || false)) here) in
           was ∙ (let it : false ≡ (called_at (t.calls ++ d ∷ []) n s && not (is_own c (find (is_call_at n s) (t.calls ++ d ∷ [])))) = grind (arith, there) in it)
 
-  begins_calls : (d : Command) → command_at asked c ≡ d → IsProper (length places) d → BeginsSo (calls_after f t c d)
+  begins_calls : (d : Command) → command_at asked c ≡ d → IsCommandOver (length places) d → BeginsSo (calls_after f t c d)
   begins_calls (commands.At node session s) is so =
       cond_both (is_up f node && not (has_call t node session)) (t.calls ++ call_of c node session s (has_transaction (node_at f node) session) ∷ []) t.calls BeginsSo
       (λ may. (let parts = and_parts (is_up f node) (not (has_call t node session)) may in let at = made_at node session s (has_transaction (node_at f node) session) in

@@ -28,7 +28,7 @@ use Rattle.run_rules.specs.Past.{is_call, acts, report_after, next}
 use Rattle.run_rules.specs.Calls.{is_call_at, call_at}
 use Rattle.run_rules.specs.Cuts.{Cut_by, By_nothing, By_point, By_strike, cut_by}
 use Rattle.run_rules.specs.Disks.{Strike, struck}
-use Rattle.run_rules.specs.Lawful.{IsNode, IsProper, IsSettled, Comes, MayTurn, IsInFlight, MayBeLost, MayStop, boots, MayHappen, IsLawful, IsPending, AreOfAScript}
+use Rattle.run_rules.specs.Lawful.{IsNode, IsCommandOver, NothingComesFirst, Comes, MayTurn, IsInFlight, MayBeLost, MayStop, boots, MayHappen, IsLawful, IsPending, AreOfAScript}
 use Rattle.run_rules.specs.Due.{Due, Pends, Gives_up, turn_by, turn_comes, turn_at, start_by, delivery_at, happens, comes_next, IsTheRun}
 use Rattle.run_rules.specs.Scripts.{TheRunIsLawful}
 use Rattle.run_base_laws.proofs.BirthRunLemmas.{StandBorn, stand_born_on, stand_born_first}
@@ -85,7 +85,7 @@ module _ (places : List Place) (asked : List Command) (script : AreOfAScript pla
 
   -- ---- turns
 
-  module _ (node : ℕ) (input : Input) (took : Option Took) (k : NodeState) (up : node_at f node ≡ Some k) (settled : IsSettled f) (no_start : t.start_to_stop ≡ None) (comes : Comes f k node input took)
+  module _ (node : ℕ) (input : Input) (took : Option Took) (k : NodeState) (up : node_at f node ≡ Some k) (settled : NothingComesFirst f) (no_start : t.start_to_stop ≡ None) (comes : Comes f k node input took)
       (fresh_is : (n s : ℕ) → is_fresh f.command t n s ≡ ((node == n) && made_by input s)) (there : (s : ℕ) → made_by input s ≡ true → called_at t.calls node s ≡ true) (quiet : is_call input ≡ false → t.next_call ≡ None) where
     abbrev o : TurnOutput
     o = turn_of (place_at places node) k input
@@ -119,12 +119,12 @@ module _ (places : List Place) (asked : List Command) (script : AreOfAScript pla
   -- ---- calls
 
   its_session : (c : Call) → IsOf asked f.command c → IsSession c.session
-  its_session c is = (subst (IsProper (length places)) is.command (proper_at (length places) asked c.command script.proper)).1
+  its_session c is = (subst (IsCommandOver (length places)) is.command (proper_at (length places) asked c.command script.proper)).1
 
   same_both : (a b : ℕ) → ((a == a) && (b == b)) ≡ true
   same_both a b = grind (arith, nat_tests)
 
-  call_goes : (c : Call) → IsOf asked f.command c → IsSettled f → t.start_to_stop ≡ None → ((n s : ℕ) → is_fresh f.command t n s ≡ ((c.node == n) && (c.session == s))) → called_at t.calls c.node c.session ≡ true
+  call_goes : (c : Call) → IsOf asked f.command c → NothingComesFirst f → t.start_to_stop ≡ None → ((n s : ℕ) → is_fresh f.command t n s ≡ ((c.node == n) && (c.session == s))) → called_at t.calls c.node c.session ≡ true
       → (h : Happening) → happens places p (Pends c) ≡ Some h → GoesOn h
   call_goes c of settled no_start fresh there h is =
       turn_due c.node (inputs.Call c.session c.statement) None h (node_at f c.node) refl is
@@ -137,7 +137,7 @@ module _ (places : List Place) (asked : List Command) (script : AreOfAScript pla
 
   -- ---- beside
 
-  module _ (settled : IsSettled f) (no_start : t.start_to_stop ≡ None) (alone : t.next_call ≡ None) (quiet : IsQuiet f t) where
+  module _ (settled : NothingComesFirst f) (no_start : t.start_to_stop ≡ None) (alone : t.next_call ≡ None) (quiet : IsQuiet f t) where
     none_fresh : (n s : ℕ) → is_fresh f.command t n s ≡ false
     none_fresh n s = quiet n s ∙ ap (λ o. follows_at o n s) alone
 
@@ -166,8 +166,8 @@ module _ (places : List Place) (asked : List Command) (script : AreOfAScript pla
     in_flight k None at flying = absurd cc
     in_flight k (Some x) at flying = (x, record { sent = at; flying = flying_fate x.fate flying })
 
-    command_is : (c : Command) → command_at asked f.command ≡ c → IsProper (length places) c
-    command_is c is = subst (IsProper (length places)) is (proper_at (length places) asked f.command script.proper)
+    command_is : (c : Command) → command_at asked f.command ≡ c → IsCommandOver (length places) c
+    command_is c is = subst (IsCommandOver (length places)) is (proper_at (length places) asked f.command script.proper)
 
     only_none : (n m : ℕ) → f.node_to_stop ≡ Some m → m ≡ n
     only_none n m is = let none = settled.upright in absurd (cc (is, none))

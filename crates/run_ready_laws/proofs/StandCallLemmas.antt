@@ -19,7 +19,7 @@ use Rattle.run_rules.specs.RunReport.{RunReport, Call}
 use Rattle.run_rules.specs.Calls.{is_call_at, call_at, waits, waits_if_pending, after_input, finished}
 use Rattle.run_rules.specs.Cuts.{Cut_by, By_nothing, By_point, By_strike, appends_if, cut_appends, cut_by, arms_point, arms, turn_appends}
 use Rattle.run_rules.specs.Past.{delivered_more, is_call, without_following, ends_calls, acts, report_turned}
-use Rattle.run_rules.specs.Lawful.{IsSettled, IsNode}
+use Rattle.run_rules.specs.Lawful.{NothingComesFirst, IsNode}
 use Rattle.run_ready_laws.proofs.CallEndLemmas.{pends_at, is_ended, same_number}
 use Rattle.run_ready_laws.proofs.PendingLemmas.{IsOf, called_at, follows_at, SameCalls, same_calls, same_again, Leaves, few_leave}
 use Rattle.run_ready_laws.proofs.TurnCallLemmas.{made_by, TurnLeaves}
@@ -46,7 +46,7 @@ pub record CallsStand (asked : List Command) (count : ℕ) (f : Facts) (t : RunR
   pub starts : IfSome t.start_to_stop (IsNode count)
   pub stop_alone : f.node_to_stop ≢ None → t.next_call ≡ None
   pub start_alone : t.start_to_stop ≢ None → t.next_call ≡ None
-  pub fresh : t.acted ≡ false → IsSettled f × (t.start_to_stop ≡ None) × (t.next_call ≡ None)
+  pub fresh : t.acted ≡ false → NothingComesFirst f × (t.start_to_stop ≡ None) × (t.next_call ≡ None)
 
 -- ---- a turn
 
@@ -112,7 +112,7 @@ plain c true = refl
 plain c false = refl
 
 module _ (places : List Place) (asked : List Command) (f : Facts) (t : RunReport) (even : length f.nodes ≡ length f.records) (many : length f.nodes ≡ length places) (stand : CallsStand asked (length places) f t) where
-  module _ (u : Turn) (k : NodeState) (up : node_at f u.node ≡ Some k) (settled : IsSettled f) (no_start : t.start_to_stop ≡ None)
+  module _ (u : Turn) (k : NodeState) (up : node_at f u.node ≡ Some k) (settled : NothingComesFirst f) (no_start : t.start_to_stop ≡ None)
       (fresh_is : (n s : ℕ) → is_fresh f.command t n s ≡ ((u.node == n) && made_by u.input s)) (there : (s : ℕ) → made_by u.input s ≡ true → called_at t.calls u.node s ≡ true)
       (quiet : is_call u.input ≡ false → t.next_call ≡ None) where
     abbrev o : TurnOutput

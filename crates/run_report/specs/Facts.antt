@@ -12,7 +12,7 @@ use Rattle.run_rules.specs.Data.commands
 use Rattle.run_rules.specs.Facts.{Facts, command_at, is_up, node_at}
 use Rattle.run_rules.specs.Disks.{struck}
 use Rattle.run_rules.specs.RunReport.{RunReport, node_name, orders_at}
-use Rattle.run_rules.specs.Lines.{told}
+use Rattle.run_rules.specs.Lines.{all_lines}
 use Rattle.run_rules.specs.Commands.{begins, has_transaction, says_at_once}
 use Rattle.run_rules.specs.Cuts.{Cut_by, cut_by}
 use Rattle.run_rules.specs.Past.{acts, report_started, report_stopped, report_turned}
@@ -67,22 +67,22 @@ pub record KnownDue (script : List Command) (f : Facts) (facts : DueFacts) : Typ
 
 -- all lines
 abbrev pub ReportsAll : ℕ → Bool → RunReport → List AnswerLine → Type 0
-ReportsAll running flying t lines = (f : Facts) → running ≡ f.command → flying ≡ is_some (first_flying f.net) → lines ≡ told f t
+ReportsAll running flying t lines = (f : Facts) → running ≡ f.command → flying ≡ is_some (first_flying f.net) → lines ≡ all_lines f t
 
--- what is told after a command begins
+-- what is all_lines after a command begins
 abbrev pub ReportsBegin : BeginFacts → RunReport → ℕ → Command → RunReport → Type 0
 ReportsBegin facts t c command after = (places : List Place) (f : Facts) → KnownAtBegin places f t command facts → after ≡ begins places f t c command
 
--- what is told after a node stops
+-- what is all_lines after a node stops
 abbrev pub ReportsStop : StopFacts → RunReport → ℕ → List ℕ → Command → RunReport → Type 0
 ReportsStop facts t n name command after =
     (places : List Place) (asked : List Command) (f : Facts) → KnownAtStop f n facts → name ≡ node_name places n → command ≡ command_at asked f.command → after ≡ acts (report_stopped places asked f t n)
 
--- what is told after a node starts
+-- what is all_lines after a node starts
 abbrev pub ReportsStart : RunReport → ℕ → List ℕ → RunReport → Type 0
 ReportsStart t n name after = (places : List Place) → name ≡ node_name places n → after ≡ acts (report_started places t n (struck 3 (orders_at t n)))
 
--- what is told after a turn
+-- what is all_lines after a turn
 abbrev pub ReportsTurn : TurnFacts → ℕ → RunReport → Turn → RunReport → Type 0
 ReportsTurn facts running t u after = (k : NodeState) (o : TurnOutput) → KnownOfTurn k u o facts → after ≡ report_turned running (Some k) t u (Some o)
 

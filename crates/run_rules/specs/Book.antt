@@ -58,8 +58,8 @@ committed_at older n [] = []
 committed_at older n (e ∷ es) = commits_now older n e ++ committed_at (older ++ e ∷ []) n es
 
 -- the rows of a table of a node as they are committed there, one entry after the other
-unfoldable pub rows_told : List Entry → ℕ → List ℕ → List Keyed
-rows_told book n table = apply table [] (committed_at [] n book)
+unfoldable pub rows_by_book : List Entry → ℕ → List ℕ → List Keyed
+rows_by_book book n table = apply table [] (committed_at [] n book)
 
 -- branches in doubt
 abbrev pub doubt_in : List Entry → ℕ → Entry → List BranchId

@@ -36,6 +36,6 @@ Commits b n (records.Met c d mixed) = (c ≡ b) × (d ≡ decisions.Commit n)
 Commits b n _ = ⊥
 
 -- one of these records tells the commit of the branch at this SCN
-abbrev pub IsRecorded : List RedoRecord → BranchId → ℕ → Type 0
-IsRecorded [] b n = ⊥
-IsRecorded (r ∷ rs) b n = Commits b n r ⊎ IsRecorded rs b n
+abbrev pub CommitIsRecorded : List RedoRecord → BranchId → ℕ → Type 0
+CommitIsRecorded [] b n = ⊥
+CommitIsRecorded (r ∷ rs) b n = Commits b n r ⊎ CommitIsRecorded rs b n

@@ -15,7 +15,7 @@ use Rattle.net_bag.specs.Net.{may_deliver, may_repeat}
 use Rattle.run_rules.specs.Shown.{shown}
 use Rattle.run_rules.specs.Disks.{DiskOrders, opens_gate}
 use Rattle.run_rules.specs.Calls.{call_at}
-use Rattle.run_rules.specs.Lines.{fine, is_down, refuses_with, told}
+use Rattle.run_rules.specs.Lines.{fine, is_down, refuses_with, all_lines}
 use Rattle.run_rules.specs.Facts.{Facts, is_up, node_at}
 use Rattle.run_rules.specs.RunReport.{Call, RunReport, CommandOutput, node_name, no_page, orders_at}
 
@@ -97,7 +97,7 @@ orders_after t _ = t.orders
 abbrev pub page_of : List Said → CommandOutput
 page_of own = record no_page { own = own }
 
--- a command of this number begins: the lines of the one before it are told
+-- a command of this number begins: the lines of the one before it are all_lines
 abbrev pub begins : List Place → Facts → RunReport → ℕ → Command → RunReport
 begins places f t c command = record t {
   acted = false;
@@ -106,5 +106,5 @@ begins places f t c command = record t {
   hold = hold_after t.hold command;
   calls = calls_after f t c command;
   orders = orders_after t command;
-  lines = told f t;
+  lines = all_lines f t;
 }

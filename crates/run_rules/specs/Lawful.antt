@@ -1,4 +1,5 @@
 -- Which happening may come after those before it, and which runs are lawful.
+pub use Rattle.script_read.specs.Sound.{IsNode}
 use Rattle.std.specs.Prelude.{◌≡◌, ℕ, ◌+◌, ◌≤◌, ◌⊎◌, Bool, true, false, List, [], ◌∷◌, length, IfSome, Option, Some, None}
 use Rattle.std.specs.List.{AllByRecursion}
 use Rattle.sql_statement.specs.Whole.{IsWhole}
@@ -28,33 +29,29 @@ pub record IsPlace (places : List Place) (n : ℕ) (p : Place) : Type 0 where
   pub links : (1 ≤ p.links) × (p.links ≤ 64)
   pub undo : (1 ≤ p.undo) × (p.undo ≤ 1024)
 
--- a node of this many
-abbrev pub IsNode : ℕ → ℕ → Type 0
-IsNode count n = (1 ≤ n) × (n ≤ count)
-
 -- a command names nodes that there are, sessions 1 to 64, and statements that a text spells
-abbrev pub IsProper : ℕ → Command → Type 0
-IsProper count (commands.At node session statement) = IsNode count node × IsSession session × IfSome statement IsWhole
-IsProper count (commands.Cut a b) = IsNode count a × IsNode count b
-IsProper count (commands.Join a b) = IsNode count a × IsNode count b
-IsProper count (commands.LoseNext kind from to) = IsNode count from × IsNode count to
-IsProper count (commands.Stop n) = IsNode count n
-IsProper count (commands.Start n) = IsNode count n
-IsProper count (commands.Crash n write how) = IsNode count n
-IsProper count (commands.Fault n call) = IsNode count n
-IsProper count (commands.GiveUp n session) = IsNode count n × IsSession session
-IsProper count (commands.Reco n) = IsNode count n
-IsProper count (commands.ShowPending n) = IsNode count n
-IsProper count (commands.ShowNeighbors n) = IsNode count n
-IsProper count (commands.ShowDisk n) = IsNode count n
-IsProper count _ = Unit {0}
+abbrev pub IsCommandOver : ℕ → Command → Type 0
+IsCommandOver count (commands.At node session statement) = IsNode count node × IsSession session × IfSome statement IsWhole
+IsCommandOver count (commands.Cut a b) = IsNode count a × IsNode count b
+IsCommandOver count (commands.Join a b) = IsNode count a × IsNode count b
+IsCommandOver count (commands.LoseNext kind from to) = IsNode count from × IsNode count to
+IsCommandOver count (commands.Stop n) = IsNode count n
+IsCommandOver count (commands.Start n) = IsNode count n
+IsCommandOver count (commands.Crash n write how) = IsNode count n
+IsCommandOver count (commands.Fault n call) = IsNode count n
+IsCommandOver count (commands.GiveUp n session) = IsNode count n × IsSession session
+IsCommandOver count (commands.Reco n) = IsNode count n
+IsCommandOver count (commands.ShowPending n) = IsNode count n
+IsCommandOver count (commands.ShowNeighbors n) = IsNode count n
+IsCommandOver count (commands.ShowDisk n) = IsNode count n
+IsCommandOver count _ = Unit {0}
 
 -- What the reader of scripts gives: at most 16 nodes, each in its place, and commands over them.
 pub record AreOfAScript (places : List Place) (asked : List Command) : Type 0 where
   pub few : length places ≤ 16
   pub named : length (names_in places) ≡ length places
   pub each : (n : ℕ) (p : Place) → numbered places n ≡ Some p → IsPlace places n p
-  pub proper : AllByRecursion (IsProper (length places)) asked
+  pub proper : AllByRecursion (IsCommandOver (length places)) asked
 
 -- A run: its places, its commands, its happenings.
 pub record History : Type 0 where
@@ -66,7 +63,7 @@ pub record History : Type 0 where
 -- ---- which happening may come
 
 -- nothing must come before: no loss to tell, no node to stop
-pub record IsSettled (f : Facts) : Type 0 where
+pub record NothingComesFirst (f : Facts) : Type 0 where
   pub told : f.losses_to_report ≡ []
   pub upright : f.node_to_stop ≡ None
 
@@ -98,7 +95,7 @@ IsOwed place k input wrote sent true = ((wrote ≡ None) ⊎ (wrote ≡ (turn_of
 
 -- a node that is up serves an input that may come, and writes and sends what it owes
 pub record MayTurn (places : List Place) (f : Facts) (t : Turn) (k : NodeState) : Type 0 where
-  pub settled : IsSettled f
+  pub settled : NothingComesFirst f
   pub up : node_at f t.node ≡ Some k
   pub comes : Comes f k t.node t.input t.took
   pub owed : IsOwed (place_at places t.node) k t.input t.wrote t.sent t.cut
@@ -126,17 +123,17 @@ boots (_ ∷ rs) = boots rs
 
 -- a node that is down starts, for the next time
 pub record MayStart (count : ℕ) (f : Facts) (n boot : ℕ) : Type 0 where
-  pub settled : IsSettled f
+  pub settled : NothingComesFirst f
   pub there : IsNode count n
   pub down : node_at f n ≡ None
   pub next : boot ≡ boots (records_at f n) + 1
 
 -- this happening may come next
 abbrev pub MayHappen : List Place → List Command → Facts → Happening → Type 0
-MayHappen places asked f (happenings.Begun c) = IsSettled f × (c ≡ f.command + 1) × (c ≤ length asked)
+MayHappen places asked f (happenings.Begun c) = NothingComesFirst f × (c ≡ f.command + 1) × (c ≤ length asked)
 MayHappen places asked f (happenings.Turn t) = (k : NodeState) × MayTurn places f t k
-MayHappen places asked f (happenings.Cut a b) = IsSettled f × IsNode (length places) a × IsNode (length places) b
-MayHappen places asked f (happenings.Join a b) = IsSettled f × IsNode (length places) a × IsNode (length places) b
+MayHappen places asked f (happenings.Cut a b) = NothingComesFirst f × IsNode (length places) a × IsNode (length places) b
+MayHappen places asked f (happenings.Join a b) = NothingComesFirst f × IsNode (length places) a × IsNode (length places) b
 MayHappen places asked f (happenings.Lost k) = MayBeLost f k f.losses_to_report
 MayHappen places asked f (happenings.Stopped n) = IsNode (length places) n × MayStop f n f.node_to_stop
 MayHappen places asked f (happenings.Started n boot) = MayStart (length places) f n boot

@@ -1,4 +1,4 @@
--- The answer lines: those of the command that runs, those of earlier calls that it ended, and all that was told.
+-- The answer lines: those of the command that runs, those of earlier calls that it ended, and all that was all_lines.
 use Rattle.std.specs.Prelude.{ℕ, ◌==◌, ◌&&◌, Bool, if◌then◌else◌, List, [], ◌∷◌, ◌++◌, map, find, nat_lt, nat_le, is_some, codes, Option, Some, None}
 use Rattle.node_rules.specs.Data.{Refusal, Place}
 use Rattle.node_rules.specs.Words.{one}
@@ -79,5 +79,5 @@ abbrev pub page_lines : Facts → RunReport → List AnswerLine
 page_lines f t = map (line f.command) t.page.own ++ t.page.others ++ map (line f.command) (t.page.stops ++ over_line f t)
 
 -- all lines, those of the command that runs among them
-abbrev pub told : Facts → RunReport → List AnswerLine
-told f t = t.lines ++ page_lines f t
+abbrev pub all_lines : Facts → RunReport → List AnswerLine
+all_lines f t = t.lines ++ page_lines f t

@@ -1,4 +1,4 @@
--- What is told of the run of a script: its lines are those that are due, and SHOW DISK shows bytes that stand for the records
+-- What is all_lines of the run of a script: its lines are those that are due, and SHOW DISK shows bytes that stand for the records
 -- of its node.
 use Rattle.std.specs.Prelude.{◌≡◌, ℕ, ◌⊎◌, Bool, true, false, List, [], ◌∷◌, ◌++◌, map, Some}
 use Rattle.std.specs.List.{AllByRecursion}
@@ -14,7 +14,7 @@ use Rattle.run_rules.specs.Shown.{shown_disk}
 use Rattle.run_rules.specs.Facts.{command_at, records_at, facts_of, first_facts}
 use Rattle.run_rules.specs.RunReport.{Past, start}
 use Rattle.run_rules.specs.Past.{past}
-use Rattle.run_rules.specs.Lines.{told}
+use Rattle.run_rules.specs.Lines.{all_lines}
 use Rattle.run_rules.specs.Due.{Due, Begins, Ends, due_of}
 use Rattle.run_rules.specs.Lawful.{History}
 
@@ -58,17 +58,17 @@ pub data Ending : Type 0 where
   Out_of_memory : Ending  -- memory ran out
 
 -- no command is under way: the next one is due, or the end
-abbrev pub IsBetween : Due → Type 0
-IsBetween (Begins c) = Unit {0}
-IsBetween Ends = Unit {0}
-IsBetween _ = ⊥
+abbrev pub IsBetweenCommands : Due → Type 0
+IsBetweenCommands (Begins c) = Unit {0}
+IsBetweenCommands Ends = Unit {0}
+IsBetweenCommands _ = ⊥
 
--- what is told of a run that leaves this: all lines, where its script was run; where memory ran out, those of the commands
+-- what is all_lines of a run that leaves this: all lines, where its script was run; where memory ran out, those of the commands
 -- before the one that ran, and that one's too if it was done
 abbrev pub IsReportedOf : History → Past → List AnswerLine → Ending → Type 0
-IsReportedOf t p answers All_run = (due_of t.commands p ≡ Ends) × LinesAre t (told p.facts p.run_report) answers
-IsReportedOf t p answers Out_of_memory = LinesAre t p.run_report.lines answers ⊎ (IsBetween (due_of t.commands p) × LinesAre t (told p.facts p.run_report) answers)
+IsReportedOf t p answers All_run = (due_of t.commands p ≡ Ends) × LinesAre t (all_lines p.facts p.run_report) answers
+IsReportedOf t p answers Out_of_memory = LinesAre t p.run_report.lines answers ⊎ (IsBetweenCommands (due_of t.commands p) × LinesAre t (all_lines p.facts p.run_report) answers)
 
--- what is told of a run
+-- what is all_lines of a run
 abbrev pub IsReported : History → List AnswerLine → Ending → Type 0
 IsReported t answers ending = IsReportedOf t (past_of t) answers ending

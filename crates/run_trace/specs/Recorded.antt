@@ -18,8 +18,8 @@ abbrev pub past_of : RunSoFar → Past
 past_of r = past r.places r.asked (start r.places) r.happenings
 
 -- whether this is due next
-abbrev pub IsNext : RunSoFar → Happening → Type 0
-IsNext r h = comes_next r.places r.asked (past_of r) ≡ Some h
+abbrev pub IsDueNext : RunSoFar → Happening → Type 0
+IsDueNext r h = comes_next r.places r.asked (past_of r) ≡ Some h
 
 -- each happening was the one that was due: a first part of the run of the script, or all of it
 abbrev pub IsRunOfScript : RunSoFar → Type 0

@@ -2,7 +2,7 @@
 ghost use Rattle.std.specs.Prelude.{◌≡◌, ◌<◌, ◌≤◌, ◌∷◌, ◌++◌, [], length, true, IfOk, OnOk, OnErr, vec_len, vec_capacity};
 ghost use Rattle.run_rules.specs.Entries.{entries_in, book_of};
 ghost use Rattle.run_rules.specs.Past.{next};
-ghost use Rattle.run_trace.specs.Recorded.{Extends, IsNext, IsRunOfScript, happening_limit, past_of};
+ghost use Rattle.run_trace.specs.Recorded.{Extends, IsDueNext, IsRunOfScript, happening_limit, past_of};
 
 use book::{Book, Entry, Happening, entries};
 use dtx_values::Listing;
@@ -150,7 +150,7 @@ impl Trace {
     /// 2 ^ 31 happenings before, and then adds nothing.
     #[tactic(auto, using(crate::proofs::RecordedLemmas::recorded_steps, crate::proofs::ExtendsLemmas::extends_steps))]
     pub fn push(&mut self, alloc: Global, happening: Happening) -> Result<(), AllocError>
-        requires { IsNext self.old happening }
+        requires { IsDueNext self.old happening }
         ensures ok { OnOk result (self.new ≡ record self.old { happenings = self.old.happenings ++ happening ∷ [] }) }
         ensures past { OnOk result (past_of self.new ≡ next self.old.places self.old.asked (past_of self.old) happening) }
         ensures few { OnOk result (length self.new.happenings ≤ happening_limit) }

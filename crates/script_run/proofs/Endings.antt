@@ -12,12 +12,12 @@ use Rattle.script_run.specs.declared.outcome.Status.TheVariants.{Done, BadScript
 use Rattle.script_run.specs.Headline.{nothing_done}
 use Rattle.script_run.specs.Report.{output_of}
 use Rattle.dtx_values.specs.Limits.{script_limit}
-use Rattle.script_run.specs.Ending.{Read, Written, IsCut, due_of, IsAskedBy, IsWhole, EndsRefused, EndsReported, EndsOn, EndsRead, IsComplete}
+use Rattle.script_run.specs.Ending.{Read, Written, TextIsCut, due_of, IsAskedBy, RunIsWhole, EndsRefused, EndsReported, EndsOn, EndsRead, IsComplete}
 
 -- the report of a run of all the commands that the bytes ask for
-pub reported : (bytes : List ℕ) (with_book : Bool) (w : Written) (run : Run) (status : Status) → IsAskedBy bytes run → IsWhole run → EndsReported w (output_of with_book run) status → EndsOn bytes with_book w run status
+pub reported : (bytes : List ℕ) (with_book : Bool) (w : Written) (run : Run) (status : Status) → IsAskedBy bytes run → RunIsWhole run → EndsReported w (output_of with_book run) status → EndsOn bytes with_book w run status
 reported bytes with_book w run Done asks whole ends = (asks, whole, ends)
-reported bytes with_book w run WriteFault asks whole ends = (inl (asks, whole), subst (λ (a : Asked). IsCut w (due_of a with_book run)) (sym asks) ends)
+reported bytes with_book w run WriteFault asks whole ends = (inl (asks, whole), subst (λ (a : Asked). TextIsCut w (due_of a with_book run)) (sym asks) ends)
 reported bytes with_book w run NoMemory asks whole ends = (inl asks, ends)
 reported bytes with_book w run BadScript asks whole ends = absurd ends
 reported bytes with_book w run Usage asks whole ends = absurd ends
@@ -29,7 +29,7 @@ pub refused : (bytes : List ℕ) (with_book : Bool) (line : ℕ) (why : Why) (w 
 refused bytes with_book line why w run BadScript bad nothing ends =
     subst (λ (a : Asked). IsErr a × (run ≡ nothing_done) × Appends w.before w.now (due_of a with_book run)) (sym bad) (refl, nothing, ends)
 refused bytes with_book line why w run WriteFault bad nothing ends =
-    subst (λ (a : Asked). ((a ≡ Ok run.commands) × IsWhole run ⊎ (IsErr a × (run ≡ nothing_done))) × IsCut w (due_of a with_book run)) (sym bad) (inr (refl, nothing), ends)
+    subst (λ (a : Asked). ((a ≡ Ok run.commands) × RunIsWhole run ⊎ (IsErr a × (run ≡ nothing_done))) × TextIsCut w (due_of a with_book run)) (sym bad) (inr (refl, nothing), ends)
 refused bytes with_book line why w run NoMemory bad nothing ends = (inr nothing, ends)
 refused bytes with_book line why w run Done bad nothing ends = absurd ends
 refused bytes with_book line why w run Usage bad nothing ends = absurd ends

@@ -13,13 +13,13 @@ use Rattle.run_rules.specs.Past.{past}
 use Rattle.run_rules.specs.Lawful.{AreOfAScript, History}
 use Rattle.run_rules.specs.Book.{Agreement, MixedIsMarked, ScnLaw}
 use Rattle.run_claims.specs.Headline.{EveryBookAgrees, EveryMixedIsMarked, EveryScnIsLater, EverySiteDecides, EveryDecisionCovers, EveryRunIsMeant, EveryAnswerHasItsPlace, EveryTurnKnows}
-use Rattle.run_rules.specs.Reported.{Ending, All_run, Out_of_memory, IsReported, IsBetween}
+use Rattle.run_rules.specs.Reported.{Ending, All_run, Out_of_memory, IsReported, IsBetweenCommands}
 use Rattle.run_rules.specs.Scripts.{places_of, TheRunIsLawful}
 use Rattle.script_run.specs.declared.outcome.Run.{Run}
 use Rattle.script_run.specs.declared.outcome.Status.{Status}
 use Rattle.script_run.specs.declared.outcome.Status.TheVariants.{Done, BadScript, Usage, NoMemory, ReadFault, WriteFault, TooLong}
 use Rattle.script_run.specs.Headline.{IsRun, history_of, nothing_done}
-use Rattle.script_run.specs.Ending.{IsWhole, ending_of}
+use Rattle.script_run.specs.Ending.{RunIsWhole, ending_of}
 use Rattle.script_run.proofs.ScriptLemmas.{of_a_script}
 use Rattle.world.specs.declared.ran.EndedRun.{EndedRun}
 use Rattle.run_claims.specs.ReportedDone.{DoneIsReported}
@@ -86,11 +86,11 @@ module _ (lawful : TheRunIsLawful) (knows : EveryTurnKnows) (meant : EveryRunIsM
 -- ---- a whole run
 
 -- its script was run to the end
-pub is_whole : (run : Run) → IsRun run All_run → IsWhole run
+pub is_whole : (run : Run) → IsRun run All_run → RunIsWhole run
 is_whole run is = is.answered.0
 
-between : (due : Due) → due ≡ Ends → IsBetween due
-between due is = subst IsBetween (sym is) tt
+between : (due : Due) → due ≡ Ends → IsBetweenCommands due
+between due is = subst IsBetweenCommands (sym is) tt
 
 -- and it stands too where memory runs out behind it
 pub stands_too : (run : Run) → IsRun run All_run → IsRun run Out_of_memory

@@ -16,11 +16,11 @@ use Rattle.script_run.specs.declared.outcome.Run.{Run}
 use Rattle.script_run.specs.declared.outcome.Status.{Status}
 use Rattle.script_run.specs.declared.outcome.Status.TheVariants.{Done, BadScript, Usage, NoMemory, ReadFault, WriteFault, TooLong}
 use Rattle.script_run.specs.Headline.{nothing_done}
-use Rattle.script_run.specs.Ending.{Written, EndsReported, IsWhole}
+use Rattle.script_run.specs.Ending.{Written, EndsReported, RunIsWhole}
 use Rattle.script_run.specs.Making.{EndsMade, IsOfNumber, made_output, pending_at_end}
 
 -- the summary of a run of all the commands
-pub made : (number : ℕ) (with_book : Bool) (w : Written) (run : Run) (status : Status) → IsOfNumber number run → IsWhole run → EndsReported w (made_output number with_book run) status → EndsMade number with_book w run status
+pub made : (number : ℕ) (with_book : Bool) (w : Written) (run : Run) (status : Status) → IsOfNumber number run → RunIsWhole run → EndsReported w (made_output number with_book run) status → EndsMade number with_book w run status
 made number with_book w run Done asks whole ends = (asks, whole, ends)
 made number with_book w run WriteFault asks whole ends = (asks, whole, ends)
 made number with_book w run NoMemory asks whole ends = (inl asks, ends)

@@ -9,12 +9,12 @@ use Rattle.script_read.specs.declared.command.Command.TheVariants as commands
 use Rattle.script_read.specs.Sound.{IsInRange, IsOfAScript, names_in as names_read}
 use Rattle.script_read.specs.Sound.{IsProper as IsProperRead}
 use Rattle.run_rules.specs.Facts.{names_in}
-use Rattle.run_rules.specs.Lawful.{IsPlace, IsProper, AreOfAScript}
+use Rattle.run_rules.specs.Lawful.{IsPlace, IsCommandOver, AreOfAScript}
 use Rattle.run_rules.specs.Scripts.{names_asked, places_from, places_of}
 use Rattle.script_run.proofs.PlaceLemmas.{names_are, as_many}
 
 -- a command
-proper : (count : ℕ) (c : Command) → IsProperRead count c → IsProper count c
+proper : (count : ℕ) (c : Command) → IsProperRead count c → IsCommandOver count c
 proper count (commands.At node session statement) p = (p.0.0, p.1.0, p.1.1)
 proper count (commands.Cut a b) p = (p.0.0, p.0.1.0)
 proper count (commands.Join a b) p = (p.0.0, p.0.1.0)
@@ -30,7 +30,7 @@ proper count (commands.ShowNeighbors n) p = p.0.0
 proper count (commands.ShowDisk n) p = p.0.0
 proper count _ p = tt
 
-all_proper : (count : ℕ) (cs : List Command) → AllByRecursion (IsProperRead count) cs → AllByRecursion (IsProper count) cs
+all_proper : (count : ℕ) (cs : List Command) → AllByRecursion (IsProperRead count) cs → AllByRecursion (IsCommandOver count) cs
 all_proper count [] all = tt
 all_proper count (c ∷ cs) all = (proper count c all.0, all_proper count cs all.1)
 
@@ -87,7 +87,7 @@ of_a_script cs sound = record {
   few = omega (arith, counted cs, sound.few);
   named = named cs;
   each = λ n p is. each_placed cs n p sound is;
-  proper = subst (λ (count : ℕ). AllByRecursion (IsProper count) cs) (sym (counted cs)) (all_proper (length (names_read cs)) cs sound.proper);
+  proper = subst (λ (count : ℕ). AllByRecursion (IsCommandOver count) cs) (sym (counted cs)) (all_proper (length (names_read cs)) cs sound.proper);
 }
 
 -- few enough to have places

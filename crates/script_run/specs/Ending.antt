@@ -85,7 +85,7 @@ abbrev pub IsUnread : Read → Type 0
 IsUnread r = (r.now ≡ r.before) × IsUnfailed r
 
 -- only the first bytes of the text were written, and the sink failed
-pub record IsCut (w : Written) (text : List ℕ) : Type 0 where
+pub record TextIsCut (w : Written) (text : List ℕ) : Type 0 where
   pub front : AppendsPrefix w.before w.now text
   pub failed : Rose w.faults_before w.faults_now
 
@@ -94,13 +94,13 @@ abbrev pub IsAskedBy : List ℕ → Run → Type 0
 IsAskedBy bytes run = asked bytes ≡ Ok run.commands
 
 -- each command was run, and nothing is due any more
-abbrev pub IsWhole : Run → Type 0
-IsWhole run = next_due run.commands (past (places_of run.commands) run.commands (start (places_of run.commands)) run.trace) ≡ Ends
+abbrev pub RunIsWhole : Run → Type 0
+RunIsWhole run = next_due run.commands (past (places_of run.commands) run.commands (start (places_of run.commands)) run.trace) ≡ Ends
 
 -- how the writing of the usage line ends
 abbrev pub EndsExplained : Written → Status → Type 0
 EndsExplained w Usage = Appends w.before w.now usage_line
-EndsExplained w WriteFault = IsCut w usage_line
+EndsExplained w WriteFault = TextIsCut w usage_line
 EndsExplained w Done = ⊥
 EndsExplained w BadScript = ⊥
 EndsExplained w NoMemory = ⊥
@@ -116,7 +116,7 @@ pub record EndsUnread (r : Read) (w : Written) (run : Run) (status : Status) : T
 -- how the writing of the line ends that refuses a script which is bad on this line, for this reason
 abbrev pub EndsRefused : Written → ℕ → Why → Status → Type 0
 EndsRefused w line why BadScript = Appends w.before w.now (refusal_line line why)
-EndsRefused w line why WriteFault = IsCut w (refusal_line line why)
+EndsRefused w line why WriteFault = TextIsCut w (refusal_line line why)
 EndsRefused w line why NoMemory = Keeps w.before w.now
 EndsRefused w line why Done = ⊥
 EndsRefused w line why Usage = ⊥
@@ -126,7 +126,7 @@ EndsRefused w line why TooLong = ⊥
 -- how the writing of this output ends
 abbrev pub EndsReported : Written → List ℕ → Status → Type 0
 EndsReported w output Done = Appends w.before w.now output
-EndsReported w output WriteFault = IsCut w output
+EndsReported w output WriteFault = TextIsCut w output
 EndsReported w output NoMemory = Keeps w.before w.now
 EndsReported w output BadScript = ⊥
 EndsReported w output Usage = ⊥
@@ -135,9 +135,9 @@ EndsReported w output TooLong = ⊥
 
 -- how a run of the script with these bytes ends
 abbrev pub EndsOn : List ℕ → Bool → Written → Run → Status → Type 0
-EndsOn bytes with_book w run Done = IsAskedBy bytes run × IsWhole run × Appends w.before w.now (output_of with_book run)
+EndsOn bytes with_book w run Done = IsAskedBy bytes run × RunIsWhole run × Appends w.before w.now (output_of with_book run)
 EndsOn bytes with_book w run BadScript = IsErr (asked bytes) × (run ≡ nothing_done) × Appends w.before w.now (due_of (asked bytes) with_book run)
-EndsOn bytes with_book w run WriteFault = ((IsAskedBy bytes run × IsWhole run) ⊎ (IsErr (asked bytes) × (run ≡ nothing_done))) × IsCut w (due_of (asked bytes) with_book run)
+EndsOn bytes with_book w run WriteFault = ((IsAskedBy bytes run × RunIsWhole run) ⊎ (IsErr (asked bytes) × (run ≡ nothing_done))) × TextIsCut w (due_of (asked bytes) with_book run)
 EndsOn bytes with_book w run NoMemory = (IsAskedBy bytes run ⊎ (run ≡ nothing_done)) × Keeps w.before w.now
 EndsOn bytes with_book w run Usage = ⊥
 EndsOn bytes with_book w run ReadFault = ⊥

@@ -12,7 +12,7 @@ use Rattle.script_run.specs.declared.outcome.Run.{Run}
 use Rattle.script_run.specs.declared.outcome.Status.{Status}
 use Rattle.script_run.specs.declared.outcome.Status.TheVariants.{Done, BadScript, Usage, NoMemory, ReadFault, WriteFault, TooLong}
 use Rattle.script_run.specs.Headline.{nothing_done}
-use Rattle.script_run.specs.Ending.{Written, IsAskedBy, IsCut, IsWhole}
+use Rattle.script_run.specs.Ending.{Written, IsAskedBy, TextIsCut, RunIsWhole}
 
 -- how many rows of pending transactions all nodes have at the end of a run
 abbrev pub pending_at_end : Run → ℕ
@@ -29,8 +29,8 @@ IsOfNumber number run = IsAskedBy (script_of number) run
 
 -- How a call ends that runs the script of a number, which is never a bad one.
 abbrev pub EndsMade : ℕ → Bool → Written → Run → Status → Type 0
-EndsMade number with_book w run Done = IsOfNumber number run × IsWhole run × Appends w.before w.now (made_output number with_book run)
-EndsMade number with_book w run WriteFault = IsOfNumber number run × IsWhole run × IsCut w (made_output number with_book run)
+EndsMade number with_book w run Done = IsOfNumber number run × RunIsWhole run × Appends w.before w.now (made_output number with_book run)
+EndsMade number with_book w run WriteFault = IsOfNumber number run × RunIsWhole run × TextIsCut w (made_output number with_book run)
 EndsMade number with_book w run NoMemory = (IsOfNumber number run ⊎ (run ≡ nothing_done)) × Keeps w.before w.now
 EndsMade number with_book w run BadScript = ⊥
 EndsMade number with_book w run Usage = ⊥

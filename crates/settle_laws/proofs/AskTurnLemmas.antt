@@ -43,7 +43,7 @@ use Rattle.tree_laws.proofs.AskRunLemmas.{edges_asked}
 use Rattle.tree_laws.proofs.PrefixLemmas.{f_at}
 use Rattle.commit_laws.proofs.ListLemmas.{IsIn}
 use Rattle.settle_laws.specs.OverLaws.{is_rollback}
-use Rattle.settle_laws.specs.Interval.{Flies, is_ask, is_point, is_decision, LivesAt, RowNames, Sought, Asks, Points, Is_told, In_doubt, Under_live, Watched, Asks_up, Is_rolled, Up_lives, Up_names, Unasked, Obliged}
+use Rattle.settle_laws.specs.Interval.{Flies, is_ask, is_point, is_decision, LivesAt, RowNamesAnother, Sought, Asks, Points, Is_told, In_doubt, Under_live, Watched, Asks_up, Is_rolled, Up_lives, Up_names, Unasked, Obliged}
 use Rattle.settle_laws.proofs.CalmTurn.{calm}
 use Rattle.settle_laws.proofs.FlyLemmas.{in_map}
 use Rattle.settle_laws.proofs.RecoTurnLemmas.{unasked_on}
@@ -173,7 +173,7 @@ module _ (t : History) (s_lawful : IsLawfulRun t) (u : Turn) (k : NodeState) whe
       | inr other ↦ (i, (turn_elsewhere t.places t.commands f even u n other).0 ∙ up, refl)
     ]
 
-    names_on : (b z : BranchId) (r : RowNames f b z) → (w : RowNames g b z) × (w.row ≡ r.row)
+    names_on : (b z : BranchId) (r : RowNamesAnother f b z) → (w : RowNamesAnother g b z) × (w.row ≡ r.row)
     names_on b z r =
         let now = row_nodes b.node r.node r.up in
         (record { node = now.0; up = now.1; row = r.row; found = ap (λ xs. item_at kept_row_id xs b) now.2 ∙ r.found; names = r.names }, refl)
@@ -284,7 +284,7 @@ module _ (t : History) (s_lawful : IsLawfulRun t) (u : Turn) (k : NodeState) whe
     sought_asked s born me toward x dx (Rolls is) = Is_told (subst (Flies is_decision g m.to) (sym me) (told_flies is_decision kinds.RolledBack (says_one kinds.RolledBack (dx ∙ is)) refl))
     sought_asked s born me toward x dx (Row_tells r at near is) = by r.decision refl
       where
-        names : RowNames f m.to s.me
+        names : RowNamesAnother f m.to s.me
         names = record { node = k; up = up_to; row = r; found = at; names = ap (is_neighbor r) me ∙ near }
 
         told : (o : Decision) → r.decision ≡ Some o → is_decision (tells (Some o)) ≡ true → Sought g s m.to

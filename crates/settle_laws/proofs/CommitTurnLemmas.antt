@@ -35,7 +35,7 @@ use Rattle.run_base_laws.proofs.TurnEventLemmas.{all_both, cases_nat}
 use Rattle.tree_laws.proofs.PrefixLemmas.{f_at}
 use Rattle.commit_laws.proofs.ListLemmas.{IsIn}
 use Rattle.settle_laws.specs.OverLaws.{is_rollback}
-use Rattle.settle_laws.specs.Interval.{Flies, is_ask, is_point, is_decision, LivesAt, RowNames, Sought, Asks, Points, Is_told, In_doubt, Under_live, Watched, Asks_up, Is_rolled, Up_lives, Up_names, Unasked, Obliged}
+use Rattle.settle_laws.specs.Interval.{Flies, is_ask, is_point, is_decision, LivesAt, RowNamesAnother, Sought, Asks, Points, Is_told, In_doubt, Under_live, Watched, Asks_up, Is_rolled, Up_lives, Up_names, Unasked, Obliged}
 use Rattle.settle_laws.proofs.CalmTurn.{calm}
 use Rattle.settle_laws.proofs.FlyLemmas.{in_map}
 use Rattle.settle_laws.proofs.RecoTurnLemmas.{unasked_on, no_prepares}
@@ -214,11 +214,11 @@ module _ (t : History) (s_lawful : IsLawfulRun t) (u : Turn) (k : NodeState) whe
           (rows_changed Found Q s.me (changed why) (λ y at so. decided (changed why y) (changed_knows why y)) (λ y apart so. each y so.1 (apart_not s.me y (item_is kept_row_id ks m.to s row) apart)) ks all))
 
     -- a row that names a branch does so after; it is the same, or it is the one that learned the commit
-    data NamesAfter (b z : BranchId) (r : RowNames f b z) : Type 0 where
-      Still_names : (w : RowNames g b z) → w.row ≡ r.row → NamesAfter b z r
-      Has_learnt : (w : RowNames g b z) (s : KeptRow) (x : RedoRecord) → kept_row_at k m.to ≡ Some s → d ≡ learns k0 s (decisions.Commit c) x → b ≡ m.to → r.row ≡ s → NamesAfter b z r
+    data NamesAfter (b z : BranchId) (r : RowNamesAnother f b z) : Type 0 where
+      Still_names : (w : RowNamesAnother g b z) → w.row ≡ r.row → NamesAfter b z r
+      Has_learnt : (w : RowNamesAnother g b z) (s : KeptRow) (x : RedoRecord) → kept_row_at k m.to ≡ Some s → d ≡ learns k0 s (decisions.Commit c) x → b ≡ m.to → r.row ≡ s → NamesAfter b z r
 
-    names_after : (b z : BranchId) (r : RowNames f b z) → NamesAfter b z r
+    names_after : (b z : BranchId) (r : RowNamesAnother f b z) → NamesAfter b z r
     names_after b z r = elim (cases_nat u.node b.node) [
       | inr other ↦ Still_names (record { node = r.node; up = (turn_elsewhere t.places t.commands f even u b.node other).0 ∙ r.up; row = r.row; found = r.found; names = r.names }) refl
       | inl at ↦ (let both : Some k ≡ Some r.node = sym may.up ∙ subst (λ n. node_at f n ≡ Some r.node) (sym at) r.up in let same_node : k ≡ r.node = cc in

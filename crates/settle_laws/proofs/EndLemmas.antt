@@ -29,8 +29,8 @@ use Rattle.tree_laws.proofs.MoreLemmas.{inv_at, lawful_at}
 use Rattle.commit_forget_laws.proofs.EventLemmas.{learn_knows}
 use Rattle.tree_laws.proofs.FitRowLemmas.{RowFits, rows_fit}
 use Rattle.settle_laws.specs.RowLaws.{RowHolds, NamesSo}
-use Rattle.settle_laws.specs.Interval.{Flies, LivesAt, RowNames, Sought, Asks, Points, Is_told, In_doubt, Under_live, Watched, Asks_up, Is_rolled, Up_lives, Up_names, Unasked, Obliged}
-use Rattle.settle_laws.specs.EndLaws.{NothingFlies, RootsWork, NothingInDoubt, ObligedAreSettled}
+use Rattle.settle_laws.specs.Interval.{Flies, LivesAt, RowNamesAnother, Sought, Asks, Points, Is_told, In_doubt, Under_live, Watched, Asks_up, Is_rolled, Up_lives, Up_names, Unasked, Obliged}
+use Rattle.settle_laws.specs.EndLaws.{NothingFlies, EachRootWorks, NothingInDoubt, ObligedAreSettled}
 use Rattle.settle_laws.proofs.RowLemmas.{rows_hold, names_so}
 use Rattle.settle_laws.proofs.OverLemmas.{rollers_left}
 use Rattle.commit_forget_laws.proofs.FoundRowLemmas.{lives_found}
@@ -46,7 +46,7 @@ learn_rolled p (s ∷ t) lawful b is = elim (learned_new s t b decisions.Rollbac
   | inr new ↦ (let by = learn_by s b decisions.Rollback new.1 in inr (allowed_at p s (Learn b decisions.Rollback by.0) t by.1 lawful.0).2)
 ]
 
-module _ (t : History) (whole : IsLawfulRun t) (now : Obliged (λ n. Unit {0}) (facts_at t)) (still : NothingFlies (facts_at t)) (work : RootsWork (facts_at t)) where
+module _ (t : History) (whole : IsLawfulRun t) (now : Obliged (λ n. Unit {0}) (facts_at t)) (still : NothingFlies (facts_at t)) (work : EachRootWorks (facts_at t)) where
   open at_end t use {f, e, forest as p}
 
   abbrev B : Born → Type 0
@@ -142,7 +142,7 @@ module _ (t : History) (whole : IsLawfulRun t) (now : Obliged (λ n. Unit {0}) (
           ap (λ x. x + 1) (sym its.is_depth ∙ ap (λ (x : Born). x.depth) (sym one)) ∙ (up_one.4 ∙ place.is_depth)
 
       -- the row of its parent names it, so it is toward there, and knows nothing
-      named : RowNames f q l.me → ⊥
+      named : RowNamesAnother f q l.me → ⊥
       named r =
           let me : r.row.me ≡ q = item_is kept_row_id r.node.stored.durable.kept q r.row r.found in
           let row : kept_row_at r.node r.row.me ≡ Some r.row = subst (λ b. kept_row_at r.node b ≡ Some r.row) (sym me) r.found in
@@ -154,7 +154,7 @@ module _ (t : History) (whole : IsLawfulRun t) (now : Obliged (λ n. Unit {0}) (
                 (undecided_row q.node r.node r.up r.row row l.me on (unleft n k up l found)) l.me on)
           ]
         where
-          sought : (r : RowNames f q l.me) → kept_row_at r.node r.row.me ≡ Some r.row → r.row.me ≡ q → r.row.toward ≡ Some l.me → Sought f r.row l.me → ⊥
+          sought : (r : RowNamesAnother f q l.me) → kept_row_at r.node r.row.me ≡ Some r.row → r.row.me ≡ q → r.row.toward ≡ Some l.me → Sought f r.row l.me → ⊥
           sought r row me on (Asks fly) = none_flies _ r.row.me l.me fly
           sought r row me on (Points fly) = none_flies _ r.row.me l.me fly
           sought r row me on (Is_told fly) = none_flies _ l.me r.row.me fly
@@ -196,7 +196,7 @@ module _ (t : History) (whole : IsLawfulRun t) (now : Obliged (λ n. Unit {0}) (
 
   -- no row is undecided, where none is that is nearer to the site
   one_decided : (n : ℕ) (k : NodeState) → node_at f n ≡ Some k → (s : KeptRow) → kept_row_at k s.me ≡ Some s → s.decision ≡ None
-      → ((c : BranchId) (r : RowNames f c s.me) → r.row.decision ≡ None → p.far c < p.far s.me → ⊥) → ⊥
+      → ((c : BranchId) (r : RowNamesAnother f c s.me) → r.row.decision ≡ None → p.far c < p.far s.me → ⊥) → ⊥
   one_decided n k up s row undecided again = by s.toward refl way
     where
       way : RowFits p s.me s.toward

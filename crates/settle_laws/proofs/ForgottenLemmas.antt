@@ -13,7 +13,7 @@ use Rattle.node_rules.specs.NodeState.{NodeState, TurnDraft}
 use Rattle.node_rules.specs.Turn.{Is_gone, status_of, stamped, turn_of, heard, draft_of, kind_turn, ack_turn}
 use Rattle.run_rules.specs.Data.{Happening, Turn, Took}
 use Rattle.run_rules.specs.Data.happenings
-use Rattle.run_base_laws.specs.EventRows.{RowsAre, HasRow, IsDone}
+use Rattle.run_base_laws.specs.EventRows.{RowsAre, IsKeptIn, IsGoneForGood}
 use Rattle.run_rules.specs.Facts.{Facts, place_at, node_at, facts_after}
 use Rattle.run_rules.specs.Lawful.{IsOwed, MayHappen, MayTurn, Comes, History, IsLawfulRun}
 use Rattle.run_base_laws.specs.NodeLaws.{unacked_row}
@@ -120,9 +120,9 @@ module _ (t : History) (whole : IsLawfulRun t) where
       ]
     ]
       where
-        by_row : HasRow a (stored_rows f a.node) ⊎ (IsDone e a ⊎ IsAlone p e a) → {n : ℕ} → exit e a ≡ Some (Decided n) → (exit e b ≡ Some Quiet) ⊎ Has (Forget a) e
+        by_row : IsKeptIn a (stored_rows f a.node) ⊎ (IsGoneForGood e a ⊎ IsAlone p e a) → {n : ℕ} → exit e a ≡ Some (Decided n) → (exit e b ≡ Some Quiet) ⊎ Has (Forget a) e
         by_row (inl row) decided =
-            absurd (kept_not_gone k a (sym (any_map a unacked_row (λ x. refl) k.stored.durable.kept) ∙ subst (λ x. HasRow a x.durable.kept) (sym (records_are_kept s lawful a.node k up)) row) gone)
+            absurd (kept_not_gone k a (sym (any_map a unacked_row (λ x. refl) k.stored.durable.kept) ∙ subst (λ x. IsKeptIn a x.durable.kept) (sym (records_are_kept s lawful a.node k up)) row) gone)
         by_row (inr (inl (inl rolled))) decided = (let sealed = (i.learned_sealed a decisions.Rollback rolled).1 in absurd (cc (sealed, decided)))
         by_row (inr (inl (inr forgot))) decided = inr forgot
         by_row (inr (inr alone)) decided = inl (alone b edge)

@@ -25,7 +25,7 @@ use Rattle.run_base_laws.proofs.SaidPostLemmas.{posts_back, said_after}
 use Rattle.run_base_laws.proofs.TurnEventLemmas.{cases_nat}
 use Rattle.tree_laws.proofs.AskLemmas.{sent_split}
 use Rattle.commit_laws.proofs.ListLemmas.{IsIn, all_in}
-use Rattle.settle_laws.specs.Interval.{Flies, is_ask, LivesAt, RowNames, Sought, Asks, Points, Is_told, In_doubt, Under_live, Watched, Asks_up, Is_rolled, Up_lives, Up_names, Unasked, Obliged}
+use Rattle.settle_laws.specs.Interval.{Flies, is_ask, LivesAt, RowNamesAnother, Sought, Asks, Points, Is_told, In_doubt, Under_live, Watched, Asks_up, Is_rolled, Up_lives, Up_names, Unasked, Obliged}
 use Rattle.settle_laws.proofs.FlyLemmas.{in_before, in_behind, in_map, in_flat, in_sorted, sent_flies, flies_untaken}
 
 -- messages without a Prepare ask nobody to prepare
@@ -105,7 +105,7 @@ module _ (places : List Place) (asked : List Command) (f : Facts) (even : length
   abbrev pub lives_same : (b : BranchId) → LivesAt f b → LivesAt g b
   lives_same b l = record { node = l.node; up = nodes_same b.node ∙ l.up; live = l.live; found = l.found }
 
-  abbrev pub names_same : (b z : BranchId) → RowNames f b z → RowNames g b z
+  abbrev pub names_same : (b z : BranchId) → RowNamesAnother f b z → RowNamesAnother g b z
   names_same b z r = record { node = r.node; up = nodes_same b.node ∙ r.up; row = r.row; found = r.found; names = r.names }
 
   pub sought_same : (y : KeptRow) (e : BranchId) → Sought f y e → Sought g y e

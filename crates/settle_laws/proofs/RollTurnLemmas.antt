@@ -40,7 +40,7 @@ use Rattle.run_base_laws.proofs.TurnEventLemmas.{all_both, cases_nat}
 use Rattle.tree_laws.proofs.PrefixLemmas.{f_at}
 use Rattle.commit_laws.proofs.ListLemmas.{IsIn}
 use Rattle.settle_laws.specs.OverLaws.{is_rollback}
-use Rattle.settle_laws.specs.Interval.{Flies, is_ask, is_point, is_decision, LivesAt, RowNames, Sought, Asks, Points, Is_told, In_doubt, Under_live, Watched, Asks_up, Is_rolled, Up_lives, Up_names, Unasked, Obliged}
+use Rattle.settle_laws.specs.Interval.{Flies, is_ask, is_point, is_decision, LivesAt, RowNamesAnother, Sought, Asks, Points, Is_told, In_doubt, Under_live, Watched, Asks_up, Is_rolled, Up_lives, Up_names, Unasked, Obliged}
 use Rattle.settle_laws.proofs.CalmTurn.{calm}
 use Rattle.settle_laws.proofs.FlyLemmas.{in_map}
 use Rattle.settle_laws.proofs.RecoTurnLemmas.{unasked_on}
@@ -250,11 +250,11 @@ module _ (t : History) (s_lawful : IsLawfulRun t) (u : Turn) (k : NodeState) whe
     learnt_row s _ (Meets true) b other = change_leaves s.me (met_as decisions.Rollback true) (λ x. refl) ks b other
 
     -- a row that names a branch does so after, or it is the one that learned the rollback
-    data NamesAfter (b z : BranchId) (r : RowNames f b z) : Type 0 where
-      Still_names : (w : RowNames g b z) → w.row ≡ r.row → NamesAfter b z r
+    data NamesAfter (b z : BranchId) (r : RowNamesAnother f b z) : Type 0 where
+      Still_names : (w : RowNamesAnother g b z) → w.row ≡ r.row → NamesAfter b z r
       Has_learnt : (s : KeptRow) (c : RedoRecord) → kept_row_at k m.to ≡ Some s → s.toward ≡ Some m.from → Learns s c → d ≡ learns k0 s decisions.Rollback c → b ≡ m.to → r.row ≡ s → NamesAfter b z r
 
-    names_after : (b z : BranchId) (r : RowNames f b z) → NamesAfter b z r
+    names_after : (b z : BranchId) (r : RowNamesAnother f b z) → NamesAfter b z r
     names_after b z r = elim (cases_nat u.node b.node) [
       | inr other ↦ Still_names (record { node = r.node; up = (turn_elsewhere t.places t.commands f even u b.node other).0 ∙ r.up; row = r.row; found = r.found; names = r.names }) refl
       | inl at ↦ (let both : Some k ≡ Some r.node = sym may.up ∙ subst (λ n. node_at f n ≡ Some r.node) (sym at) r.up in let same_node : k ≡ r.node = cc in

@@ -16,8 +16,8 @@ abbrev pub NothingFlies : Facts → Type 0
 NothingFlies f = AllByRecursion (λ x. x.fate ≢ fates.InFlight) f.net.packets
 
 -- each live root works
-abbrev pub RootsWork : Facts → Type 0
-RootsWork f = (n : ℕ) (k : NodeState) → node_at f n ≡ Some k → AllByRecursion (λ l. l.parent ≡ None → l.phase ≡ phases.Working) k.lives
+abbrev pub EachRootWorks : Facts → Type 0
+EachRootWorks f = (n : ℕ) (k : NodeState) → node_at f n ≡ Some k → AllByRecursion (λ l. l.parent ≡ None → l.phase ≡ phases.Working) k.lives
 
 -- no live branch was asked to prepare, and each row knows its decision
 abbrev pub NothingInDoubt : Facts → Type 0
@@ -26,4 +26,4 @@ NothingInDoubt f = (n : ℕ) (k : NodeState) → node_at f n ≡ Some k
 
 -- After a lawful run at whose end it is so.
 abbrev pub ObligedAreSettled : Type 0
-ObligedAreSettled = (t : History) → IsLawfulRun t → Obliged (λ n. Unit {0}) (facts_at t) → NothingFlies (facts_at t) → RootsWork (facts_at t) → NothingInDoubt (facts_at t)
+ObligedAreSettled = (t : History) → IsLawfulRun t → Obliged (λ n. Unit {0}) (facts_at t) → NothingFlies (facts_at t) → EachRootWorks (facts_at t) → NothingInDoubt (facts_at t)

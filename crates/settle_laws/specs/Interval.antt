@@ -73,7 +73,7 @@ pub record LivesAt (f : Facts) (b : BranchId) : Type 0 where
   pub found : live_at node b ≡ Some live
 
 -- Its node keeps a row of it that names another.
-pub record RowNames (f : Facts) (b z : BranchId) : Type 0 where
+pub record RowNamesAnother (f : Facts) (b z : BranchId) : Type 0 where
   pub node : NodeState
   pub up : node_at f b.node ≡ Some node
   pub row : KeptRow
@@ -86,7 +86,7 @@ pub data Sought (f : Facts) (y : KeptRow) (e : BranchId) : Type 0 where
   Asks : Flies is_ask f y.me e → Sought f y e
   Points : Flies is_point f y.me e → Sought f y e
   Is_told : Flies is_decision f e y.me → Sought f y e
-  In_doubt : (r : RowNames f e y.me) → r.row.decision ≡ None → Sought f y e
+  In_doubt : (r : RowNamesAnother f e y.me) → r.row.decision ≡ None → Sought f y e
   Under_live : LivesAt f e → y.parent ≡ Some e → Sought f y e
 
 -- A live branch z with parent q: its question flies there, or a rollback flies back; or q is live, or its row names z; or q never
@@ -95,7 +95,7 @@ pub data Watched (f : Facts) (z q : BranchId) : Type 0 where
   Asks_up : Flies is_ask f z q → Watched f z q
   Is_rolled : Flies is_rollback f q z → Watched f z q
   Up_lives : LivesAt f q → Watched f z q
-  Up_names : RowNames f q z → Watched f z q
+  Up_names : RowNamesAnother f q z → Watched f z q
   Unasked : was_asked (said_in f) q z ≡ false → Watched f z q
 
 -- So it is of all undecided rows and of all live branches of these nodes.

@@ -27,7 +27,7 @@ use Rattle.stmt_run.specs.declared.ran.StmtOutcome.{StmtOutcome}
 use Rattle.stmt_run.specs.declared.ran.StmtOutcome.TheVariants.{Refuses, Reads, Writes}
 use Rattle.stmt_run.specs.Run.{StmtContext, held_refusal, in_doubt_refusal, locked_refusal, space_refusal, ran_within, ran_meant, ran_locked, ran_checked, ran_over}
 use Rattle.stmt_view_laws.specs.Views.{AreCertain, AreLocked, SeesAlike}
-use Rattle.stmt_view_laws.specs.RunLaws.{ExaminesNoDoubt, IsRunOf, RunDoesAsMeant, RunsDoAsMeant, IsViewBeside, IsMeantOver, RunIsMeantOver, RunsMeanAlike}
+use Rattle.stmt_view_laws.specs.RunLaws.{ExaminesNoDoubt, RunsAsMeant, RunDoesAsMeant, RunsDoAsMeant, IsViewBeside, IsMeantOver, RunIsMeantOver, RunsMeanAlike}
 use Rattle.stmt_view_laws.proofs.MeantLemmas.{meant_alike, writes_alike, avoids_alike}
 
 -- ---- no refusal, no key in doubt
@@ -144,7 +144,7 @@ module _ (g : StmtContext) (s : Stmt) (t : Table) (doubtful : List Value) (more 
     avoids = are_certain g.locks t.name doubtful beside.held (examined s t g.view (keys_held g.locks t.name)) certain;
   }
 
-  meant_beside : (m : Meant) (ks : List Value) → IsRunOf g s t m ks → IsMeantOver s t doubtful more m ks
+  meant_beside : (m : Meant) (ks : List Value) → RunsAsMeant g s t m ks → IsMeantOver s t doubtful more m ks
   meant_beside m ks run =
       let alike = sees run.certain in
       record {

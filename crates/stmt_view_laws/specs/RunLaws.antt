@@ -23,7 +23,7 @@ abbrev pub ExaminesNoDoubt : StmtContext → Stmt → Table → Type 0
 ExaminesNoDoubt g s t = AllByRecursion (λ key. doubt_on g.locks t.name key ≡ None) (examined s t g.view (keys_held g.locks t.name))
 
 -- What a run that is not refused says: its meaning over the view, the keys that it writes, and that it examined no key in doubt.
-pub record IsRunOf (g : StmtContext) (s : Stmt) (t : Table) (m : Meant) (keys : List Value) : Type 0 where
+pub record RunsAsMeant (g : StmtContext) (s : Stmt) (t : Table) (m : Meant) (keys : List Value) : Type 0 where
   pub means : meant s t g.view ≡ m
   pub writes : keys ≡ written s t g.view
   pub certain : ExaminesNoDoubt g s t
@@ -31,8 +31,8 @@ pub record IsRunOf (g : StmtContext) (s : Stmt) (t : Table) (m : Meant) (keys : 
 -- a run that is not refused reads or writes what its statement means
 abbrev pub RunDoesAsMeant : StmtContext → Stmt → Table → StmtOutcome → Type 0
 RunDoesAsMeant g s t (Refuses r) = Unit {0}
-RunDoesAsMeant g s t (Reads rows keys) = IsRunOf g s t (Gives rows) keys
-RunDoesAsMeant g s t (Writes d cs keys undo) = IsRunOf g s t (Changes d (length cs) cs) keys
+RunDoesAsMeant g s t (Reads rows keys) = RunsAsMeant g s t (Gives rows) keys
+RunDoesAsMeant g s t (Writes d cs keys undo) = RunsAsMeant g s t (Changes d (length cs) cs) keys
 
 -- so it is with every run
 abbrev pub RunsDoAsMeant : Type 0

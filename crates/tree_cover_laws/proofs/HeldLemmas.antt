@@ -19,7 +19,7 @@ use Rattle.run_rules.specs.Branches.{Seen, seen_at, own_of, children_at, is_amon
 use Rattle.run_rules.specs.Data.{Packet, Turn, Happening}
 use Rattle.run_rules.specs.Data.happenings
 use Rattle.run_rules.specs.Facts.{node_at}
-use Rattle.run_base_laws.specs.InTurnLaws.{packet_post, said_in, exec_number, newest_exec, call_at, GoesOn, TakesInTurn}
+use Rattle.run_base_laws.specs.InTurnLaws.{packet_post, said_in, exec_number, newest_exec, call_at, NeedsNoRollback, TakesInTurn}
 use Rattle.run_rules.specs.Lawful.{History, IsLawfulRun}
 use Rattle.run_base_laws.specs.RunEvents.{lives_at}
 use Rattle.run_rules.specs.Tree as of_tree
@@ -56,7 +56,7 @@ use Rattle.tree_trail_laws.proofs.FullLemmas.{SeesAll, full}
 use Rattle.tree_trail_laws.proofs.MomentLemmas.{tr_at}
 use Rattle.tree_trail_laws.proofs.SeenRunLemmas.{all_is_seen}
 use Rattle.tree_trail_laws.proofs.SiteLemmas.{sees_tree}
-use Rattle.answer_origin_laws.specs.ReplyLaws.{CallsAreTold}
+use Rattle.answer_origin_laws.specs.ReplyLaws.{CallsAreTraced}
 use Rattle.answer_origin_laws.proofs.ReplyRunLemmas.{lower_calls_are_told}
 use Rattle.tree_cover_laws.specs.ToldLaws.{ToldLast, AnswersTellWeights}
 use Rattle.tree_cover_laws.proofs.LeftTrailLemmas.{calls_none, ToldStill, told_still}
@@ -101,7 +101,7 @@ module _ (t : History) (whole : IsLawfulRun t) where
 
   -- ---- a live branch that rests
 
-  module _ (hs : List Happening) (part : Part t whole hs) (x : Branch) (k : NodeState) (up : node_at (f_at t hs) x.live.me.node ≡ Some k) (found : branch_at k x.live.me ≡ Some x) (goes : GoesOn k x.live) (waits : x.work.going ≡ None)
+  module _ (hs : List Happening) (part : Part t whole hs) (x : Branch) (k : NodeState) (up : node_at (f_at t hs) x.live.me.node ≡ Some k) (found : branch_at k x.live.me ≡ Some x) (goes : NeedsNoRollback k x.live) (waits : x.work.going ≡ None)
       (fine : HasGone x.work → ⊥) where
     abbrev s : History
     s = so_far t hs
@@ -162,7 +162,7 @@ module _ (t : History) (whole : IsLawfulRun t) where
       parts : (live_at k me ≡ Some x.live) × (x.work ≡ work_at k me)
       parts = branch_parts k me x found
 
-      reported_of : (z : Seen) × (seen_at (tr_at t hs) me ≡ Some z) × CallsAreTold s1 (work_at k me) z
+      reported_of : (z : Seen) × (seen_at (tr_at t hs) me ≡ Some z) × CallsAreTraced s1 (work_at k me) z
       reported_of = lower_calls_are_told s1 lawful1 me.node k up x.live parts.0 not_root
 
       its_tree : SeesTree (f_at t hs) (tr_at t hs) me

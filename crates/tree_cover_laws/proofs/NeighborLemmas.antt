@@ -35,7 +35,7 @@ use Rattle.run_rules.proofs.AtNodeLemmas.{turn_here}
 use Rattle.run_base_laws.proofs.BirthRunLemmas.{records_name_the_born}
 use Rattle.run_base_laws.proofs.EventsStandLemmas.{run_stands, turns_tell_as_events}
 use Rattle.tree_laws.specs.Forests.{comes_to, asked_by}
-use Rattle.tree_laws.specs.RecordLaws.{LeadsTo, RecordLeads, WritesAsTold}
+use Rattle.tree_laws.specs.RecordLaws.{LeadsToward, RecordLeads, WritesAsTold}
 use Rattle.tree_laws.proofs.AskLemmas.{sent_wider, below_asks, tells_asks}
 use Rattle.tree_laws.proofs.ForestLemmas as trees
 use Rattle.tree_laws.proofs.ForestLemmas.{Known}
@@ -96,7 +96,7 @@ module _ (t : History) (whole : IsLawfulRun t) (sees : SeesAll t) (hs : List Hap
       last_so (RecordNames (Began (births_of s1))) (records_at (f_at t hs) u.node) (records.Sealed r) (subst (AllByRecursion (RecordNames (Began (births_of s1)))) disk (records_name_the_born s1 lawful1 u.node))
 
   -- its toward is what Prepares told
-  leads : (q : BranchId) × (toward_of r r.toward ≡ Some q) × LeadsTo (said_in (f_at t hs)) r.me r.parent (Some q)
+  leads : (q : BranchId) × (toward_of r r.toward ≡ Some q) × LeadsToward (said_in (f_at t hs)) r.me r.parent (Some q)
   leads =
       let at : WritesAsTold t.places (f_at t hs) h
       = fact_at t.places t.commands (WritesAsTold t.places) (first_facts t.places) hs h rest (subst (EachFactFrom (WritesAsTold t.places) t.places t.commands (first_facts t.places)) (sym is) (records_are_as_told t whole)) in
@@ -273,8 +273,8 @@ module _ (t : History) (whole : IsLawfulRun t) (sees : SeesAll t) (hs : List Hap
 
     toward_so : x.toward ≡ Some q
     toward_so =
-        let so : LeadsTo (said_in (f_at t hs)) z.me z.parent (Some q)
-        = subst (λ c. LeadsTo (said_in (f_at t hs)) c z.parent (Some q)) (sym it.is_me) (subst (λ o. LeadsTo (said_in (f_at t hs)) r.me o (Some q)) (sym it.is_parent) leads.2) in
+        let so : LeadsToward (said_in (f_at t hs)) z.me z.parent (Some q)
+        = subst (λ c. LeadsToward (said_in (f_at t hs)) c z.parent (Some q)) (sym it.is_me) (subst (λ o. LeadsToward (said_in (f_at t hs)) r.me o (Some q)) (sym it.is_parent) leads.2) in
         ap (toward_by (seen.walk t.places tr0 r.root) z.me) parent_told ∙ toward_told s lawful hs0 part0 r.root next root top sees0 z it.began it.is_root it.asked kept_in q so
 
     planned_so : plan_at tr1 r.root ≡ Some (plan t.places tr0 r.root)

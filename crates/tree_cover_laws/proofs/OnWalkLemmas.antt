@@ -22,7 +22,7 @@ use Rattle.run_rules.specs.Tree as seen
 use Rattle.run_rules.specs.Tree.{walk_in}
 use Rattle.run_branch_laws.specs.WalkLaws.{is_below, is_above, was_sent}
 use Rattle.tree_laws.specs.Forests.{depth_in, depth_at, told_below, comes_to, asked_by}
-use Rattle.tree_laws.specs.RecordLaws.{LeadsTo}
+use Rattle.tree_laws.specs.RecordLaws.{LeadsToward}
 use Rattle.tree_laws.proofs.AskLemmas.{sent_wider, below_asks}
 use Rattle.tree_laws.proofs.ForestLemmas as trees
 use Rattle.tree_laws.proofs.ForestLemmas.{Known, told_sent}
@@ -341,6 +341,6 @@ module _ (t : History) (whole : IsLawfulRun t) (hs0 : List Happening) (part0 : P
             absurd (cc (told, no))
 
     -- it is the neighbour that a seal names
-    pub toward_told : LeadsTo said z.me z.parent (Some q) → seen.toward_by (seen.walk t.places tr r) z.me z.parent ≡ Some q
+    pub toward_told : LeadsToward said z.me z.parent (Some q) → seen.toward_by (seen.walk t.places tr r) z.me z.parent ≡ Some q
     unfolding seen.walk
     toward_told leads = elim leads [ inl off ↦ off_way off.0 off.1 | inr on ↦ on_way on.0 on.1 ]

@@ -18,7 +18,7 @@ use Rattle.run_rules.specs.Data.{Turn, Happening}
 use Rattle.run_rules.specs.Data.happenings
 use Rattle.run_rules.specs.Facts.{node_at}
 use Rattle.run_base_laws.specs.FreezeLaws.{was_asked}
-use Rattle.run_base_laws.specs.InTurnLaws.{said_in, GoesOn}
+use Rattle.run_base_laws.specs.InTurnLaws.{said_in, NeedsNoRollback}
 use Rattle.run_rules.specs.Lawful.{History, IsLawfulRun, facts_at}
 use Rattle.run_base_laws.proofs.CallTurnLemmas.{InTurn}
 use Rattle.run_base_laws.proofs.InTurnRunLemmas.{run_calls}
@@ -83,7 +83,7 @@ module _ (t : History) (whole : IsLawfulRun t) (r : BranchId) (found : WasFound 
   alone : x.live.parent ≡ None → x.work.came.reply ≡ None
   alone no_parent =
       let parts = branch_parts found.commit.kept x.live.me x found.commit.found in
-      let calls = subst (λ (o : Option NodeState). IfSome o (λ k. EachLive (λ l w. InTurn (GoesOn k l) (said_in (f_at t hs0)) l.me l.parent (children_of l) w) k.lives k.works)) up ((run_calls (so_far t hs0) (part_lawful t whole hs0 part0)).nodes x.live.me.node) in
+      let calls = subst (λ (o : Option NodeState). IfSome o (λ k. EachLive (λ l w. InTurn (NeedsNoRollback k l) (said_in (f_at t hs0)) l.me l.parent (children_of l) w) k.lives k.works)) up ((run_calls (so_far t hs0) (part_lawful t whole hs0 part0)).nodes x.live.me.node) in
       ap (λ w. w.came.reply) parts.1 ∙ (calls.each x.live.me x.live parts.0).alone no_parent
 
   pub top_stands : Stands t whole hs0 part0 r x

@@ -17,7 +17,7 @@ use Rattle.run_rules.specs.Branches.{is_among}
 use Rattle.run_rules.specs.Data.{Happening}
 use Rattle.run_rules.specs.Facts.{node_at}
 use Rattle.run_base_laws.specs.FreezeLaws.{was_asked}
-use Rattle.run_base_laws.specs.InTurnLaws.{said_in, call_at, GoesOn}
+use Rattle.run_base_laws.specs.InTurnLaws.{said_in, call_at, NeedsNoRollback}
 use Rattle.run_rules.specs.Lawful.{History, IsLawfulRun}
 use Rattle.run_base_laws.specs.RunEvents.{lives_at}
 use Rattle.run_rules.proofs.AtNodeLemmas.{range_of}
@@ -53,7 +53,7 @@ module _ (t : History) (whole : IsLawfulRun t) (hs0 : List Happening) (part0 : P
   pub record Stands (x : Branch) : Type 0 where
     pub here : Found t whole hs0 x
     pub working : x.live.phase ≡ phases.Working
-    pub goes : GoesOn here.kept x.live
+    pub goes : NeedsNoRollback here.kept x.live
     pub waits : x.work.going ≡ None
     pub root : x.live.root ≡ r
     pub tree : InTree f0 r x.live.me

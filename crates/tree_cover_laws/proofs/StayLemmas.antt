@@ -17,7 +17,7 @@ use Rattle.run_rules.specs.Data.{Happening}
 use Rattle.run_base_laws.specs.EventLaws.{EachEventFrom}
 use Rattle.run_rules.specs.Facts.{first_facts, place_at, node_at}
 use Rattle.run_base_laws.specs.FreezeLaws.{was_asked}
-use Rattle.run_base_laws.specs.InTurnLaws.{said_in, GoesOn}
+use Rattle.run_base_laws.specs.InTurnLaws.{said_in, NeedsNoRollback}
 use Rattle.run_rules.specs.Lawful.{History, IsLawfulRun, facts_at}
 use Rattle.run_rules.specs.Trail.{is_prepare}
 use Rattle.run_branch_laws.specs.WalkLaws.{is_below, is_above, was_sent}
@@ -55,7 +55,7 @@ module _ (t : History) (whole : IsLawfulRun t) (hs0 : List Happening) (part0 : P
     pub found : branch_at kept now.live.me ≡ Some now
     pub is_me : now.live.me ≡ x.live.me
     pub same : SameTree x now
-    pub calm : now.live.phase ≡ phases.Working → GoesOn kept now.live × (now.work.going ≡ None)
+    pub calm : now.live.phase ≡ phases.Working → NeedsNoRollback kept now.live × (now.work.going ≡ None)
 
   -- A branch of the tree that is so as long as it is live.
   pub record OnPath (c : BranchId) : Type 0 where
@@ -238,7 +238,7 @@ module _ (t : History) (whole : IsLawfulRun t) (hs0 : List Happening) (part0 : P
           | inr still ↦ above_rests (up.stays m part since still)
         ]
 
-        calm_so : GoesOn j y.live × (y.work.going ≡ None)
+        calm_so : NeedsNoRollback j y.live × (y.work.going ≡ None)
         calm_so = ((λ top. (let below = rests.is_parent in absurd (cc (top, below)))), rests.waits)
 
       abbrev StaysSo : List Happening → Type 0

@@ -19,7 +19,7 @@ use Rattle.run_rules.specs.Births.{Born, births_after}
 use Rattle.run_rules.specs.Data.{Packet, Turn, Happening, Command}
 use Rattle.run_rules.specs.Data.happenings
 use Rattle.run_rules.specs.Facts.{Facts, first_facts, place_at, node_at, kept_after, facts_after, facts_of}
-use Rattle.run_base_laws.specs.InTurnLaws.{post_of, packet_post, said_in, newest_reply, GoesOn}
+use Rattle.run_base_laws.specs.InTurnLaws.{post_of, packet_post, said_in, newest_reply, NeedsNoRollback}
 use Rattle.run_rules.specs.Lawful.{IsPlace, MayTurn, MayHappen, IsOwed, IsLawful, History, IsLawfulRun, facts_at}
 use Rattle.run_base_laws.specs.RunEvents.{events_after}
 use Rattle.run_base_laws.proofs.BirthRunLemmas.{StandBorn, stand_born_on, stand_born_first}
@@ -62,7 +62,7 @@ replies_told (x ∷ xs) = (told_first (map packet_post xs) x.msg.from x.msg.to x
 -- ---- what stands
 
 abbrev pub WellOf : List Post → NodeState → Live → Work → Type 0
-WellOf said k l w = HoldsWell said (GoesOn k l) l.me l.edges w
+WellOf said k l w = HoldsWell said (NeedsNoRollback k l) l.me l.edges w
 
 -- of a node's live branches
 abbrev pub NodeWell : List Post → NodeState → Type 0
@@ -143,7 +143,7 @@ module _ (places : List Place) (asked : List Command) (each : (n : ℕ) (p : Pla
       others : (m : ℕ) → m ≢ n → (j : NodeState) → node_at f m ≡ Some j → NodeWell said j → NodeWell more j
       others m other j up old =
           each_same (WellOf said j) (WellOf more j) j.lives j.works old
-          (λ y v live any is. silent_well said d.says (GoesOn j y) y v ((calls.left places asked each f t bs stand roots turns u k may).1.1 y.me (λ here. other (calls.elsewhere_is places asked each f t bs stand roots turns u k may m j up y.me y live here))).replies is)
+          (λ y v live any is. silent_well said d.says (NeedsNoRollback j y) y v ((calls.left places asked each f t bs stand roots turns u k may).1.1 y.me (λ here. other (calls.elsewhere_is places asked each f t bs stand roots turns u k may m j up y.me y live here))).replies is)
 
       -- who answers so in it is live after it
       turn_tells : (cut : Bool) → u.cut ≡ cut → IsOwed p k u.input u.wrote u.sent cut → (b : BranchId) (number : ℕ) (v : Option ℕ) → ToldWell (map post_of u.sent) b number v → exit (events_after places asked f (happenings.Turn u) t) b ≡ None

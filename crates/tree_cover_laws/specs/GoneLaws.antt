@@ -11,7 +11,7 @@ use Rattle.node_rules.specs.NodeState.{NodeState, Branch, branch_at}
 use Rattle.node_rules.specs.Calls.{is_gone}
 use Rattle.run_rules.specs.Facts.{node_at}
 use Rattle.run_rules.specs.Lawful.{History, IsLawfulRun, facts_at}
-use Rattle.run_base_laws.specs.InTurnLaws.{said_in, newest_exec, WaitsFor, call_at, GoesOn}
+use Rattle.run_base_laws.specs.InTurnLaws.{said_in, newest_exec, WaitsFor, call_at, NeedsNoRollback}
 
 -- a Reply to the call of this number, with this weight, that is no refusal of a gone branch
 abbrev pub TellsWell : ℕ → Option ℕ → Kind → Type 0
@@ -37,7 +37,7 @@ pub record HoldsWell (said : List Post) (goes_on : Type 0) (me : BranchId) (edge
 -- In every lawful run this is so of each live branch below a root, and of each root whose transaction needs no rollback.
 abbrev pub BranchesHoldWell : Type 0
 BranchesHoldWell = (t : History) → IsLawfulRun t → (n : ℕ) (k : NodeState) → node_at (facts_at t) n ≡ Some k → (x : Branch) → branch_at k x.live.me ≡ Some x
-    → HoldsWell (said_in (facts_at t)) (GoesOn k x.live) x.live.me x.live.edges x.work
+    → HoldsWell (said_in (facts_at t)) (NeedsNoRollback k x.live) x.live.me x.live.edges x.work
 
 -- each call but the first was made after an answer to the call before that is no such refusal
 abbrev pub CallsWell : List Post → Type 0

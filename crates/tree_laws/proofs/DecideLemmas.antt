@@ -20,7 +20,7 @@ use Rattle.run_rules.specs.Lawful.{MayHappen, History, IsLawfulRun, facts_at}
 use Rattle.run_rules.specs.Births.{Born, births_of}
 use Rattle.run_base_laws.specs.BirthLaws.{Began, LiveIs}
 use Rattle.run_base_laws.specs.FreezeLaws.{was_asked, LeavesStill}
-use Rattle.run_base_laws.specs.InTurnLaws.{said_in, GoesOn}
+use Rattle.run_base_laws.specs.InTurnLaws.{said_in, NeedsNoRollback}
 use Rattle.run_base_laws.specs.NodeLaws.{EachFactFrom}
 use Rattle.run_branch_laws.specs.PhaseLaws.{PhaseFits}
 use Rattle.run_base_laws.specs.RunEvents.{events_of}
@@ -214,7 +214,7 @@ module _ (t : History) (whole : IsLawfulRun t) (r : BranchId) (found : WasFound 
   -- what is known of it at a moment
   abbrev Moment : List Happening → Type 0
   Moment hs = State t whole x hs
-      × ((j : NodeState) (y : Branch) → node_at (f_at t hs) x.live.me.node ≡ Some j → branch_at j y.live.me ≡ Some y → y.live.me ≡ x.live.me → y.live.phase ≡ phases.Working → GoesOn j y.live × (y.work.going ≡ None))
+      × ((j : NodeState) (y : Branch) → node_at (f_at t hs) x.live.me.node ≡ Some j → branch_at j y.live.me ≡ Some y → y.live.me ≡ x.live.me → y.live.phase ≡ phases.Working → NeedsNoRollback j y.live × (y.work.going ≡ None))
 
   first_moment : Moment hs0
   first_moment = (
@@ -223,7 +223,7 @@ module _ (t : History) (whole : IsLawfulRun t) (r : BranchId) (found : WasFound 
         let it : j ≡ k = cc in
         let two : Some y ≡ Some x = sym (subst₂ (λ i c. branch_at i c ≡ Some y) it me is) ∙ at.found in
         let same : y ≡ x = cc in
-        subst₂ (λ (i : NodeState) (z : Branch). GoesOn i z.live × (z.work.going ≡ None)) (sym it) (sym same) (at.goes, at.waits))),
+        subst₂ (λ (i : NodeState) (z : Branch). NeedsNoRollback i z.live × (z.work.going ≡ None)) (sym it) (sym same) (at.goes, at.waits))),
   )
 
   later_moment : (mid : List Happening) → Part t whole (hs1 ++ mid) → Moment (hs1 ++ mid)

@@ -19,7 +19,7 @@ use Rattle.run_rules.specs.Facts.{Facts, first_facts, records_at, facts_after}
 use Rattle.run_base_laws.specs.IdLaws.{IsRecordOf}
 use Rattle.run_rules.specs.Lawful.{IsPlace, MayHappen, IsLawful, History, IsLawfulRun}
 use Rattle.run_base_laws.specs.RunEvents.{with_record, events_after}
-use Rattle.run_base_laws.specs.EventRows.{MayStand, HasRow, IsDone}
+use Rattle.run_base_laws.specs.EventRows.{MayStand, IsKeptIn, IsGoneForGood}
 use Rattle.run_base_laws.specs.EventLaws.{EachEventFrom, AtEachEvent}
 use Rattle.run_rules.proofs.AtNodeLemmas.{turn_elsewhere, turn_here, start_elsewhere, start_here}
 use Rattle.run_base_laws.proofs.EventsStandLemmas.{BranchStatus, node_so, owned_so, stand_on, stand_first}
@@ -40,9 +40,9 @@ IsAlone p t b = (x : BranchId) → Beyond p x b → exit t x ≡ Some Quiet
 
 -- a branch that decided has a row, is done, or is alone
 abbrev pub DecidedStays : Forest → Facts → List Event → Type 0
-DecidedStays p f t = (b : BranchId) (n : ℕ) → exit t b ≡ Some (Decided n) → HasRow b (stored_rows f b.node) ⊎ (IsDone t b ⊎ IsAlone p t b)
+DecidedStays p f t = (b : BranchId) (n : ℕ) → exit t b ≡ Some (Decided n) → IsKeptIn b (stored_rows f b.node) ⊎ (IsGoneForGood t b ⊎ IsAlone p t b)
 
-pub done_later : {Q : Event → Type 0} {t r : List Event} → Added Q t r → (b : BranchId) → IsDone t b → IsDone r b
+pub done_later : {Q : Event → Type 0} {t r : List Event} → Added Q t r → (b : BranchId) → IsGoneForGood t b → IsGoneForGood r b
 done_later more b (inl learns) = inl (learned_later b _ more learns)
 done_later more b (inr forgot) = inr (has_later (Forget b) more forgot)
 
@@ -61,14 +61,14 @@ module _ (p : Forest) where
   ]
 
   -- its row is there, or it is alone
-  decided_there : (t : List Event) (b : BranchId) (rs : List RedoRecord) (w : Option RedoRecord) → IfSome w (RecordHeard p t) → IsDecisionOf b w → HasRow b (stored_by nothing_stored (rs ++ option_to_list w)).durable.kept ⊎ IsAlone p t b
+  decided_there : (t : List Event) (b : BranchId) (rs : List RedoRecord) (w : Option RedoRecord) → IfSome w (RecordHeard p t) → IsDecisionOf b w → IsKeptIn b (stored_by nothing_stored (rs ++ option_to_list w)).durable.kept ⊎ IsAlone p t b
   unfolding applied durable_after kept_after
   decided_there t b rs (Some (records.Decided r)) heard at = by (has_neighbors (decided_as r)) refl
     where
-      by : (q : Bool) → has_neighbors (decided_as r) ≡ q → HasRow b (stored_by nothing_stored (rs ++ records.Decided r ∷ [])).durable.kept ⊎ IsAlone p t b
+      by : (q : Bool) → has_neighbors (decided_as r) ≡ q → IsKeptIn b (stored_by nothing_stored (rs ++ records.Decided r ∷ [])).durable.kept ⊎ IsAlone p t b
       by false none = inr (subst (IsAlone p t) at (alone_now t r heard none))
-      by true some = inl (subst (λ x. HasRow b x.durable.kept) (sym (stored_with rs (Some (records.Decided r))))
-          (subst (λ q. HasRow b (if q then add_kept (stored_by nothing_stored rs).durable.kept (decided_as r) else (stored_by nothing_stored rs).durable.kept)) (sym some)
+      by true some = inl (subst (λ x. IsKeptIn b x.durable.kept) (sym (stored_with rs (Some (records.Decided r))))
+          (subst (λ q. IsKeptIn b (if q then add_kept (stored_by nothing_stored rs).durable.kept (decided_as r) else (stored_by nothing_stored rs).durable.kept)) (sym some)
           (put_there b (stored_by nothing_stored rs).durable.kept (decided_as r) (same_from_equal r.me b at))))
   decided_there t b rs _ heard at = absurd at
 
@@ -92,24 +92,24 @@ module _ (p : Forest) where
       records_now : records_at g u.node ≡ records_at f u.node ++ option_to_list u.wrote
       records_now = (turn_here places asked f stand.0.even u may.0 may.1.up).1
 
-      row_after : (b : BranchId) → HasRow b (stored_rows f b.node) → HasRow b (stored_rows g b.node) ⊎ IsDone (with_record u t) b
+      row_after : (b : BranchId) → IsKeptIn b (stored_rows f b.node) → IsKeptIn b (stored_rows g b.node) ⊎ IsGoneForGood (with_record u t) b
       row_after b has = elim (cases_nat b.node u.node) [
-        | inl at ↦ subst (λ i. HasRow b (stored_rows g i) ⊎ IsDone (with_record u t) b) (sym at)
-            (subst (λ (xs : List RedoRecord). HasRow b (stored_by nothing_stored xs).durable.kept ⊎ IsDone (with_record u t) b) (sym records_now)
-            (wrote_stay b u.node t (records_at f u.node) u.wrote may_stand (subst (λ i. HasRow b (stored_rows f i)) at has)))
-        | inr other ↦ inl (subst (λ (xs : List RedoRecord). HasRow b (stored_by nothing_stored xs).durable.kept) (sym (turn_elsewhere places asked f stand.0.even u b.node (λ e. other (sym e))).1) has)
+        | inl at ↦ subst (λ i. IsKeptIn b (stored_rows g i) ⊎ IsGoneForGood (with_record u t) b) (sym at)
+            (subst (λ (xs : List RedoRecord). IsKeptIn b (stored_by nothing_stored xs).durable.kept ⊎ IsGoneForGood (with_record u t) b) (sym records_now)
+            (wrote_stay b u.node t (records_at f u.node) u.wrote may_stand (subst (λ i. IsKeptIn b (stored_rows f i)) at has)))
+        | inr other ↦ inl (subst (λ (xs : List RedoRecord). IsKeptIn b (stored_by nothing_stored xs).durable.kept) (sym (turn_elsewhere places asked f stand.0.even u b.node (λ e. other (sym e))).1) has)
       ]
 
       decided_here : (w : Option RedoRecord) (b : BranchId) → IfSome w (IsRecordOf (λ c. c.node ≡ u.node)) → IsDecisionOf b w → b.node ≡ u.node
       decided_here (Some (records.Decided x)) b own at = subst (λ c. c.node ≡ u.node) at own
       decided_here _ b own at = absurd at
 
-      new_row : (b : BranchId) → IsDecisionOf b u.wrote → HasRow b (stored_rows g b.node) ⊎ IsAlone p t b
+      new_row : (b : BranchId) → IsDecisionOf b u.wrote → IsKeptIn b (stored_rows g b.node) ⊎ IsAlone p t b
       new_row b at =
-          subst (λ i. HasRow b (stored_rows g i) ⊎ IsAlone p t b) (sym (decided_here u.wrote b own_record at))
-          (subst (λ (xs : List RedoRecord). HasRow b (stored_by nothing_stored xs).durable.kept ⊎ IsAlone p t b) (sym records_now) (decided_there t b (records_at f u.node) u.wrote heard at))
+          subst (λ i. IsKeptIn b (stored_rows g i) ⊎ IsAlone p t b) (sym (decided_here u.wrote b own_record at))
+          (subst (λ (xs : List RedoRecord). IsKeptIn b (stored_by nothing_stored xs).durable.kept ⊎ IsAlone p t b) (sym records_now) (decided_there t b (records_at f u.node) u.wrote heard at))
 
-      old_stays : (b : BranchId) → HasRow b (stored_rows f b.node) ⊎ (IsDone t b ⊎ IsAlone p t b) → HasRow b (stored_rows g b.node) ⊎ (IsDone r b ⊎ IsAlone p r b)
+      old_stays : (b : BranchId) → IsKeptIn b (stored_rows f b.node) ⊎ (IsGoneForGood t b ⊎ IsAlone p t b) → IsKeptIn b (stored_rows g b.node) ⊎ (IsGoneForGood r b ⊎ IsAlone p r b)
       old_stays b (inl row) = elim (row_after b row) [ inl still ↦ inl still | inr done ↦ inr (inl (done_later (turn_added f g u t) b done)) ]
       old_stays b (inr (inl done)) = inr (inl (done_later (added_on (wrote_added u t) (added_wider {R = Any} (λ e is. tt) (turn_added f g u t))) b done))
       old_stays b (inr (inr alone)) = inr (inr (alone_later (happenings.Turn u) b alone))
@@ -137,16 +137,16 @@ module _ (p : Forest) where
       abbrev h : Facts
       h = facts_after places asked f (happenings.Started n boot)
 
-      booted_row : (b : BranchId) (rs : List RedoRecord) → HasRow b (stored_by nothing_stored rs).durable.kept → HasRow b (stored_by nothing_stored (rs ++ records.Boot boot ∷ [])).durable.kept
+      booted_row : (b : BranchId) (rs : List RedoRecord) → IsKeptIn b (stored_by nothing_stored rs).durable.kept → IsKeptIn b (stored_by nothing_stored (rs ++ records.Boot boot ∷ [])).durable.kept
       unfolding applied durable_after
-      booted_row b rs has = subst (λ s. HasRow b s.durable.kept) (sym (stored_with rs (Some (records.Boot boot)))) has
+      booted_row b rs has = subst (λ s. IsKeptIn b s.durable.kept) (sym (stored_with rs (Some (records.Boot boot)))) has
 
-      started_row : (b : BranchId) → HasRow b (stored_rows f b.node) → HasRow b (stored_rows h b.node)
+      started_row : (b : BranchId) → IsKeptIn b (stored_rows f b.node) → IsKeptIn b (stored_rows h b.node)
       started_row b has = elim (cases_nat b.node n) [
-        | inl at ↦ subst (λ i. HasRow b (stored_rows h i)) (sym at)
-            (subst (λ (xs : List RedoRecord). HasRow b (stored_by nothing_stored xs).durable.kept) (sym (start_here places asked f stand.0.even n boot may.there.0 (omega (arith, may.there.1, stand.1.many))).1)
-            (booted_row b (records_at f n) (subst (λ i. HasRow b (stored_rows f i)) at has)))
-        | inr other ↦ subst (λ (xs : List RedoRecord). HasRow b (stored_by nothing_stored xs).durable.kept) (sym (start_elsewhere places asked f stand.0.even n boot b.node (λ e. other (sym e))).1) has
+        | inl at ↦ subst (λ i. IsKeptIn b (stored_rows h i)) (sym at)
+            (subst (λ (xs : List RedoRecord). IsKeptIn b (stored_by nothing_stored xs).durable.kept) (sym (start_here places asked f stand.0.even n boot may.there.0 (omega (arith, may.there.1, stand.1.many))).1)
+            (booted_row b (records_at f n) (subst (λ i. IsKeptIn b (stored_rows f i)) at has)))
+        | inr other ↦ subst (λ (xs : List RedoRecord). IsKeptIn b (stored_by nothing_stored xs).durable.kept) (sym (start_elsewhere places asked f stand.0.even n boot b.node (λ e. other (sym e))).1) has
       ]
 
       start_stays : DecidedStays p h (events_after places asked f (happenings.Started n boot) t)

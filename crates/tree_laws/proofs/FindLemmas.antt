@@ -21,7 +21,7 @@ use Rattle.run_rules.specs.Lawful.{MayHappen, MayTurn, IsOwed, History, IsLawful
 use Rattle.run_rules.specs.Births.{Born, births_of}
 use Rattle.run_base_laws.specs.BirthLaws.{Began, GoesSo}
 use Rattle.run_base_laws.specs.CallLaws.{ComesAtRest}
-use Rattle.run_base_laws.specs.InTurnLaws.{said_in, GoesOn}
+use Rattle.run_base_laws.specs.InTurnLaws.{said_in, NeedsNoRollback}
 use Rattle.run_base_laws.specs.NodeLaws.{EachFactFrom}
 use Rattle.run_base_laws.specs.RunEvents.{with_record, with_exits, lives_at, events_after, events_from, events_of}
 use Rattle.run_rules.specs.Trail.{is_quiet}
@@ -61,7 +61,7 @@ module _ (t : History) (whole : IsLawfulRun t) (r : BranchId) where
     pub found : branch_at kept branch.live.me ≡ Some branch
     pub is_me : branch.live.me ≡ r
     pub working : branch.live.phase ≡ phases.Working
-    pub goes : GoesOn kept branch.live
+    pub goes : NeedsNoRollback kept branch.live
     pub waits : branch.work.going ≡ None
     pub node : u.node ≡ r.node
     pub session : ℕ

@@ -32,7 +32,7 @@ use Rattle.run_base_laws.proofs.SaidPostLemmas.{posts_of, said_after}
 use Rattle.run_base_laws.proofs.InTurnRunLemmas.{CallsStand, calls_stand_on, first_calls}
 use Rattle.run_branch_laws.proofs.FreezeRunLemmas.{FreezeStand, freeze_on, first_freeze}
 use Rattle.tree_laws.specs.Forests.{comes_to, forest_by}
-use Rattle.tree_laws.specs.RecordLaws.{LeadsTo, RecordLeads}
+use Rattle.tree_laws.specs.RecordLaws.{LeadsToward, RecordLeads}
 use Rattle.tree_laws.specs.FitLaws.{FitsForest, WritesInForest, RecordsFitForest}
 use Rattle.tree_laws.proofs.AskLemmas.{sent_more, sent_split, below_asks}
 use Rattle.tree_laws.proofs.AskRunLemmas.{AskStand, ask_on, first_ask}
@@ -80,7 +80,7 @@ comes_more : (said says : List Post) (b : BranchId) (o : Option BranchId) → co
 comes_more said says b None is = refl
 comes_more said says b (Some q) is = sent_more is_below said says q b is
 
-leads_more : (said says : List Post) (b : BranchId) (o : Option BranchId) (q : BranchId) → LeadsTo said b o (Some q) → LeadsTo (said ++ says) b o (Some q)
+leads_more : (said says : List Post) (b : BranchId) (o : Option BranchId) (q : BranchId) → LeadsToward said b o (Some q) → LeadsToward (said ++ says) b o (Some q)
 leads_more said says b o q (inl up) = inl (up.0, sent_more is_above said says q b up.1)
 leads_more said says b o q (inr on) = inr (comes_more said says b o on.0, sent_more is_below said says b q on.1)
 
@@ -169,9 +169,9 @@ module _ (places : List Place) (asked : List Command) (each : (n : ℕ) (p : Pla
       pub leads_all : (w : Option RedoRecord) → u.wrote ≡ w → IfSome w (RecordLeads all)
       leads_all None is = tt
       leads_all (Some (records.Sealed r)) is =
-          let lead = leads_at (records.Sealed r) is in (lead.0, lead.1, subst (λ xs. LeadsTo xs r.me r.parent (Some lead.0)) (sym more.1) (leads_more (said_in f) more.0 r.me r.parent lead.0 lead.2))
+          let lead = leads_at (records.Sealed r) is in (lead.0, lead.1, subst (λ xs. LeadsToward xs r.me r.parent (Some lead.0)) (sym more.1) (leads_more (said_in f) more.0 r.me r.parent lead.0 lead.2))
       leads_all (Some (records.Decided r)) is =
-          let lead : LeadsTo (said_in f) r.me r.parent None = leads_at (records.Decided r) is in (subst (λ xs. comes_to xs r.me r.parent ≡ true) (sym more.1) (comes_more (said_in f) more.0 r.me r.parent lead.0), none_told r is lead.1)
+          let lead : LeadsToward (said_in f) r.me r.parent None = leads_at (records.Decided r) is in (subst (λ xs. comes_to xs r.me r.parent ≡ true) (sym more.1) (comes_more (said_in f) more.0 r.me r.parent lead.0), none_told r is lead.1)
       leads_all (Some _) is = tt
 
       module _ (known : trees.Known ends all) where
@@ -180,15 +180,15 @@ module _ (places : List Place) (asked : List Command) (each : (n : ℕ) (p : Pla
             let named : KeptIs (Began bs2) (sealed_as r) = names (records.Sealed r) is in
             let lead = leads_at (records.Sealed r) is in
             let x : Born = named.born in
-            let told : LeadsTo all r.me x.parent (Some lead.0)
-            = subst (λ o. LeadsTo all r.me o (Some lead.0)) (sym named.is_parent) (subst (λ xs. LeadsTo xs r.me r.parent (Some lead.0)) (sym more.1) (leads_more (said_in f) more.0 r.me r.parent lead.0 lead.2)) in
+            let told : LeadsToward all r.me x.parent (Some lead.0)
+            = subst (λ o. LeadsToward all r.me o (Some lead.0)) (sym named.is_parent) (subst (λ xs. LeadsToward xs r.me r.parent (Some lead.0)) (sym more.1) (leads_more (said_in f) more.0 r.me r.parent lead.0 lead.2)) in
             let fits = leads_so ends all known x r.me lead.0 (began x named.began) named.is_me told in
             (fits.member, fits.not_site, trees.root_is ends all known x r.me (began x named.began) named.is_me ∙ named.is_root, lead.1 ∙ ap Some (sym fits.toward))
 
         decide_fits : (r : Decided) → u.wrote ≡ Some (records.Decided r) → FitsForest (forest_by ends all) (records.Decided r)
         decide_fits r is =
             let named : KeptIs (Began bs2) (decided_as r) = names (records.Decided r) is in
-            let lead : LeadsTo (said_in f) r.me r.parent None = leads_at (records.Decided r) is in
+            let lead : LeadsToward (said_in f) r.me r.parent None = leads_at (records.Decided r) is in
             let x : Born = named.born in
             let comes : comes_to all r.me x.parent ≡ true
             = subst (λ o. comes_to all r.me o ≡ true) (sym named.is_parent) (subst (λ xs. comes_to xs r.me r.parent ≡ true) (sym more.1) (comes_more (said_in f) more.0 r.me r.parent lead.0)) in

@@ -14,7 +14,7 @@ use Rattle.node_rules.proofs.StandLemmas.{live_so}
 use Rattle.run_rules.specs.Data.{Happening}
 use Rattle.run_rules.specs.Facts.{place_at, node_at}
 use Rattle.run_rules.specs.Lawful.{History, IsLawfulRun, facts_at}
-use Rattle.run_base_laws.specs.InTurnLaws.{said_in, GoesOn}
+use Rattle.run_base_laws.specs.InTurnLaws.{said_in, NeedsNoRollback}
 use Rattle.run_base_laws.specs.FreezeLaws.{was_asked}
 use Rattle.run_base_laws.specs.RunEvents.{events_of}
 use Rattle.run_rules.specs.Trail.{is_prepare}
@@ -174,13 +174,13 @@ module _ (t : History) (whole : IsLawfulRun t) where
     pub record Member (r : BranchId) (x : Branch) : Type 0 where
       pub here : Found hs0 x
       pub working : x.live.phase ≡ phases.Working
-      pub goes : GoesOn here.kept x.live
+      pub goes : NeedsNoRollback here.kept x.live
       pub waits : x.work.going ≡ None
       pub root : x.live.root ≡ r
       pub asks : (i : ℕ) (c : BranchId) → numbered (children_of x.live) i ≡ Some c → was_asked (said_in (facts_at t)) x.live.me c ≡ true
       pub state : (hs : List Happening) → Since hs → Part t whole hs → State x hs
       pub calm : (hs : List Happening) → Since hs → Part t whole hs → (k : NodeState) (y : Branch) → node_at (f_at t hs) x.live.me.node ≡ Some k → branch_at k y.live.me ≡ Some y → y.live.me ≡ x.live.me → y.live.phase ≡ phases.Working
-          → GoesOn k y.live × (y.work.going ≡ None)
+          → NeedsNoRollback k y.live × (y.work.going ≡ None)
 
     module _ (r : BranchId) (x : Branch) (member : Member r x) (i : ℕ) (c : BranchId) (at : numbered (children_of x.live) i ≡ Some c) where
       -- a live child rests while it is working

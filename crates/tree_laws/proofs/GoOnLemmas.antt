@@ -11,7 +11,7 @@ use Rattle.agreement.specs.Events.{Event}
 use Rattle.run_rules.specs.Births.{Born}
 use Rattle.run_rules.specs.Data.{Turn, Command}
 use Rattle.run_rules.specs.Facts.{Facts, place_at}
-use Rattle.run_base_laws.specs.InTurnLaws.{GoesOn}
+use Rattle.run_base_laws.specs.InTurnLaws.{NeedsNoRollback}
 use Rattle.run_rules.specs.Lawful.{IsPlace, MayTurn}
 use Rattle.run_base_laws.proofs.BirthRunLemmas.{StandBorn}
 use Rattle.run_base_laws.proofs.CodeLemmas.{AllNeed, codes_on}
@@ -42,7 +42,7 @@ module _ (places : List Place) (asked : List Command) (each : (n : ℕ) (p : Pla
     codes = subst (λ ss. AllNeed ss d.after.sessions) (sessions_heard k u.input) (codes_on p u.input (calls.step places asked each f t bs stand roots turns u k may))
 
     -- a root that may go on after the turn needed no rollback before it
-    pub goes_before : (b : BranchId) (l : Live) → live_at k b ≡ Some l → (l.parent ≡ None → May l.me) → GoesOn k l
+    pub goes_before : (b : BranchId) (l : Live) → live_at k b ≡ Some l → (l.parent ≡ None → May l.me) → NeedsNoRollback k l
     goes_before b l live goes none =
         let may_go : May l.me = goes none in
         let before : (session_at k.sessions l.me.session).root ≡ Some l.me = (live_root k rests.1 b l live none).root in

@@ -7,7 +7,7 @@ use Rattle.run_base_laws.specs.BirthLaws.{Began}
 use Rattle.run_rules.specs.Trail.{is_prepare}
 use Rattle.run_branch_laws.specs.WalkLaws.{is_below, is_above, was_sent}
 use Rattle.tree_laws.specs.Forests.{depth_at, deepest, told_below, next_on, walk_from, comes_to, asked_by, toward_by, forest_by}
-use Rattle.tree_laws.specs.RecordLaws.{LeadsTo}
+use Rattle.tree_laws.specs.RecordLaws.{LeadsToward}
 use Rattle.tree_laws.proofs.AskLemmas.{sent_wider, tells_asks}
 use Rattle.tree_laws.proofs.ForestLemmas as trees
 use Rattle.tree_laws.proofs.ForestLemmas.{told_sent}
@@ -112,7 +112,7 @@ module _ (bs : List Born) (said : List Post) (known : trees.Known bs said) where
   asked_on b None comes = refl
   asked_on b (Some q) comes = sent_wider is_below is_prepare (tells_asks true) said q b comes
 
-  pub leads_so : (x : Born) (b q : BranchId) → Began bs x → x.me ≡ b → LeadsTo said b x.parent (Some q) → Leads b q
+  pub leads_so : (x : Born) (b q : BranchId) → Began bs x → x.me ≡ b → LeadsToward said b x.parent (Some q) → Leads b q
   leads_so x b q began me (inl up) =
       let off : was_sent is_below said q b ≡ false = above_off q b up.1 in
       record {
@@ -126,7 +126,7 @@ module _ (bs : List Born) (said : List Post) (known : trees.Known bs said) where
     member = trees.member_of bs said known x b began me (asked_on b x.parent on.0);
   }
 
-  pub ends_so : (x : Born) (b : BranchId) → Began bs x → x.me ≡ b → LeadsTo said b x.parent None → b ≡ site_of p b
+  pub ends_so : (x : Born) (b : BranchId) → Began bs x → x.me ≡ b → LeadsToward said b x.parent None → b ≡ site_of p b
   ends_so x b began me on = trees.end_is_site bs said known x b began me on.0 (by (told_below said b) refl)
     where
       by : (o : Option BranchId) → told_below said b ≡ o → o ≡ None

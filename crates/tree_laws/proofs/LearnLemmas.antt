@@ -29,7 +29,7 @@ use Rattle.run_base_laws.proofs.InTurnRunLemmas.{CallsStand, calls_stand_on, fir
 use Rattle.run_branch_laws.proofs.FreezeRunLemmas.{FreezeStand, freeze_on, first_freeze}
 use Rattle.run_branch_laws.proofs.TowardLemmas.{turns_go_by_rows}
 use Rattle.tree_laws.specs.Forests.{forest_by}
-use Rattle.tree_laws.specs.RecordLaws.{LeadsTo, RecordLeads}
+use Rattle.tree_laws.specs.RecordLaws.{LeadsToward, RecordLeads}
 use Rattle.tree_laws.specs.LearnLaws.{LearnsOfToward, LearnsInForest, LearnedOfToward}
 use Rattle.tree_laws.proofs.AskRunLemmas.{AskStand, ask_on, first_ask}
 use Rattle.tree_laws.proofs.ForestLemmas.{Known}
@@ -83,8 +83,8 @@ module _ (ends bs : List Born) (all : List Post) (known : Known ends all) (wider
       let me : row.me ≡ b = item_is kept_row_id ks b row like.stands in
       let named : KeptIs (Began bs) row = all_found (KeptIs (Began bs)) kept_row_id ks b row names like.stands in
       let toward : row.toward ≡ Some is.2.0 = sym (ap (λ (s : KeptRow). s.toward) like.like) ∙ is.2.1 in
-      let leads : LeadsTo all row.me row.parent row.toward = all_found (RowLeads all) kept_row_id ks b row lead like.stands in
-      let told : LeadsTo all row.me named.born.parent (Some is.2.0) = subst (λ o. LeadsTo all row.me o (Some is.2.0)) (sym named.is_parent) (subst (LeadsTo all row.me row.parent) toward leads) in
+      let leads : LeadsToward all row.me row.parent row.toward = all_found (RowLeads all) kept_row_id ks b row lead like.stands in
+      let told : LeadsToward all row.me named.born.parent (Some is.2.0) = subst (λ o. LeadsToward all row.me o (Some is.2.0)) (sym named.is_parent) (subst (LeadsToward all row.me row.parent) toward leads) in
       let fits = leads_so ends all known named.born row.me is.2.0 (wider named.born named.began) named.is_me told in
       let next : p.toward b ≡ is.2.0 = ap p.toward (sym me) ∙ fits.toward in
       subst (λ q. WasTold t q b d) (sym next) is.2.2

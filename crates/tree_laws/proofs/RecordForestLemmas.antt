@@ -28,7 +28,7 @@ use Rattle.tree_laws.specs.FitLaws.{FitsForest, WritesInForest}
 use Rattle.tree_laws.specs.Forests.{forest_of}
 use Rattle.tree_laws.specs.LearnLaws.{LearnsOfToward, LearnsInForest}
 use Rattle.tree_laws.specs.NameLaws.{RowNames, NodesName, WritesByForest, RecordsGoByForest}
-use Rattle.tree_laws.specs.RecordLaws.{LeadsTo}
+use Rattle.tree_laws.specs.RecordLaws.{LeadsToward}
 use Rattle.tree_laws.proofs.ClearLemmas.{row_cleared}
 use Rattle.tree_laws.proofs.FitLemmas.{records_fit_forest}
 use Rattle.tree_laws.proofs.ForestRunLemmas.{runs_have_forests}
@@ -78,8 +78,8 @@ module _ (t : History) (whole : IsLawfulRun t) where
       let me : row.me ≡ b = item_is kept_row_id ks b row is.stands in
       let named : KeptIs (Began bs) row = all_found (KeptIs (Began bs)) kept_row_id ks b row names is.stands in
       let toward : row.toward ≡ Some q = sym (ap (λ (y : KeptRow). y.toward) is.like) ∙ at in
-      let lead : LeadsTo (all t whole) row.me row.parent row.toward = all_found (RowLeads (all t whole)) kept_row_id ks b row leads is.stands in
-      let told : LeadsTo (all t whole) row.me named.born.parent (Some q) = subst (λ o. LeadsTo (all t whole) row.me o (Some q)) (sym named.is_parent) (subst (LeadsTo (all t whole) row.me row.parent) toward lead) in
+      let lead : LeadsToward (all t whole) row.me row.parent row.toward = all_found (RowLeads (all t whole)) kept_row_id ks b row leads is.stands in
+      let told : LeadsToward (all t whole) row.me named.born.parent (Some q) = subst (λ o. LeadsToward (all t whole) row.me o (Some q)) (sym named.is_parent) (subst (LeadsToward (all t whole) row.me row.parent) toward lead) in
       subst (λ c. Leads (ends t whole) (all t whole) (known t whole) c q) me (leads_so (ends t whole) (all t whole) (known t whole) named.born row.me q (wide named.born named.began) named.is_me told)
 
   abbrev p : Forest

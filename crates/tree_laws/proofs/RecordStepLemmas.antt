@@ -31,7 +31,7 @@ use Rattle.run_base_laws.proofs.InTurnStepLemmas as drafts
 use Rattle.run_branch_laws.proofs.FreezeStepLemmas as frost
 use Rattle.tree_laws.specs.AskLaws.{way_of, path_on, AsTold}
 use Rattle.tree_laws.specs.Forests.{comes_to}
-use Rattle.tree_laws.specs.RecordLaws.{LeadsTo, RecordLeads}
+use Rattle.tree_laws.specs.RecordLaws.{LeadsToward, RecordLeads}
 use Rattle.tree_laws.proofs.AskLemmas.{working_told, place_true}
 use Rattle.tree_laws.proofs.AskStepLemmas as asks
 
@@ -167,21 +167,21 @@ module _ (said : List Post) (l : Live) (told : AsTold said l) where
       by None above = refl
       by (Some q) above = told.way true on.comes q above
 
-  off_leads : l.phase ≡ phases.Collecting false → (q : BranchId) × (l.parent ≡ Some q) × LeadsTo said l.me l.parent (Some q)
+  off_leads : l.phase ≡ phases.Collecting false → (q : BranchId) × (l.parent ≡ Some q) × LeadsToward said l.me l.parent (Some q)
   off_leads at = by l.parent refl
     where
-      by : (o : Option BranchId) → l.parent ≡ o → (q : BranchId) × (l.parent ≡ Some q) × LeadsTo said l.me l.parent (Some q)
+      by : (o : Option BranchId) → l.parent ≡ o → (q : BranchId) × (l.parent ≡ Some q) × LeadsToward said l.me l.parent (Some q)
       by None above = absurd (told.root above (ap way_of at))
       by (Some q) above = (q, above, inl (above, told.way false (ap way_of at) q above))
 
   pass_leads : (i : ℕ) → OnWay l → step l ≡ walks.Down i
-      → (q : BranchId) × (option_map (λ (p : Peer). p.branch) (slice_get (named_children (Some i) 1 l.edges) (prepared_before i l.edges)) ≡ Some q) × LeadsTo said l.me l.parent (Some q)
+      → (q : BranchId) × (option_map (λ (p : Peer). p.branch) (slice_get (named_children (Some i) 1 l.edges) (prepared_before i l.edges)) ≡ Some q) × LeadsToward said l.me l.parent (Some q)
   pass_leads i on is =
       let there = down_there l i is in
       let path : path_on l.phase (step l) ≡ Some i = on.path ∙ ap (path_of true) is in
       (there.0, toward_there l.edges i there.0 there.1, inr (comes_so on, told.points on.other i there.0 path there.1))
 
-  decide_leads : OnWay l → step l ≡ walks.Here → LeadsTo said l.me l.parent None
+  decide_leads : OnWay l → step l ≡ walks.Here → LeadsToward said l.me l.parent None
   decide_leads on is = (comes_so on, λ c. by c (was_sent is_below said l.me c) refl)
     where
       by : (c : BranchId) (q : Bool) → was_sent is_below said l.me c ≡ q → q ≡ false

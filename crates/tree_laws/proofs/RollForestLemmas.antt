@@ -22,7 +22,7 @@ use Rattle.run_rules.specs.Data.happenings
 use Rattle.run_rules.specs.Facts.{Facts, first_facts, place_at, node_at}
 use Rattle.run_rules.specs.Lawful.{MayTurn, MayHappen, IsOwed, History, IsLawfulRun}
 use Rattle.run_base_laws.specs.RunEvents.{wrote_event, with_event, lives_at, with_record, with_exits}
-use Rattle.run_base_laws.specs.EventRows.{MayStand, HasRow, IsDone}
+use Rattle.run_base_laws.specs.EventRows.{MayStand, IsKeptIn, IsGoneForGood}
 use Rattle.run_base_laws.specs.EventLaws.{EachEventFrom}
 use Rattle.run_base_laws.specs.NodeLaws.{unacked_row}
 use Rattle.run_branch_laws.specs.RowSayLaws.{RollbackIs, SaysByRow}
@@ -77,7 +77,7 @@ pub live_not_gone : (k : NodeState) (b : BranchId) (l : Live) → live_at k b �
 unfolding status_of
 live_not_gone k b l live gone = (let at : live_or (with_work k (Some l)) (kept_row_at k b) ≡ Is_gone = subst (λ o. live_or (with_work k o) (kept_row_at k b) ≡ Is_gone) live gone in absurd cc)
 
-done_gone : (t : List Event) (b : BranchId) → IsDone t b → Gone t b
+done_gone : (t : List Event) (b : BranchId) → IsGoneForGood t b → Gone t b
 done_gone t b (inl learnt) = inr (inr (inl learnt))
 done_gone t b (inr forgot) = inr (inr (inr forgot))
 
@@ -156,7 +156,7 @@ module _ (t : History) (whole : IsLawfulRun t) where
     nothing_known b n here decided gone x edge = elim (law.1 b n decided) [
       | inl row ↦ absurd (kept_not_gone k b
           (sym (any_map b unacked_row (λ y. refl) ks)
-          ∙ subst (λ s. HasRow b s.durable.kept) (sym (node_so t.places t.commands t.of_a_script.each f e (run_stands (so_far t before) lawful) u.node k may.up).stored) (subst (λ i. HasRow b (stored_rows f i)) here row)) gone)
+          ∙ subst (λ s. IsKeptIn b s.durable.kept) (sym (node_so t.places t.commands t.of_a_script.each f e (run_stands (so_far t before) lawful) u.node k may.up).stored) (subst (λ i. IsKeptIn b (stored_rows f i)) here row)) gone)
       | inr over ↦ elim over [
         | inl done ↦ inl (gone_later added b (done_gone e b done))
         | inr alone ↦ inr (exit_later x Quiet added (alone x edge))

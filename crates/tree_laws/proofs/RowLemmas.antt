@@ -16,7 +16,7 @@ use Rattle.node_rules.specs.NodeState.{Stored, NodeState}
 use Rattle.node_rules.specs.Records.{nothing_stored, applied, stored_by}
 use Rattle.run_base_laws.specs.NodeLaws.{unacked_kid, unacked_row, unacked}
 use Rattle.run_rules.proofs.ListLemmas.{all_weaker, all_filter, all_map, all_put, map_after}
-use Rattle.tree_laws.specs.RecordLaws.{LeadsTo, RecordLeads}
+use Rattle.tree_laws.specs.RecordLaws.{LeadsToward, RecordLeads}
 
 -- the branch of a child
 abbrev pub kid_branch : Kid → BranchId
@@ -79,8 +79,8 @@ module _ (Q : BranchId → Option BranchId → List BranchId → Option BranchId
 module _ (said : List Post) where
   -- a row has as toward what Prepares told
   abbrev pub RowLeads : KeptRow → Type 0
-  RowLeads s = LeadsTo said s.me s.parent s.toward
+  RowLeads s = LeadsToward said s.me s.parent s.toward
 
   pub rows_lead : (k : NodeState) (rs : List RedoRecord) → unacked k.stored ≡ stored_by nothing_stored rs → AllByRecursion (RecordLeads said) rs → AllByRecursion RowLeads k.stored.durable.kept
   rows_lead k rs is all =
-      rows_so (λ me parent kids toward. LeadsTo said me parent toward) (RecordLeads said) (λ r lead. subst (LeadsTo said r.me r.parent) (sym lead.1) lead.2) (λ r lead. lead) k rs is all
+      rows_so (λ me parent kids toward. LeadsToward said me parent toward) (RecordLeads said) (λ r lead. subst (LeadsToward said r.me r.parent) (sym lead.1) lead.2) (λ r lead. lead) k rs is all

@@ -25,7 +25,7 @@ use Rattle.run_base_laws.proofs.InTurnRunLemmas.{branches_call_in_turn}
 use Rattle.run_base_laws.proofs.LawfulLemmas.{serves}
 use Rattle.tree_laws.specs.AskLaws.{HeardAbove, way_of}
 use Rattle.tree_laws.specs.Forests.{comes_to}
-use Rattle.tree_laws.specs.RecordLaws.{LeadsTo, RecordLeads, WritesAsTold}
+use Rattle.tree_laws.specs.RecordLaws.{LeadsToward, RecordLeads, WritesAsTold}
 use Rattle.tree_laws.specs.WeightLaws.{ToldWeight, TellsItsWeight}
 use Rattle.tree_laws.proofs.AskLemmas.{sent_wider, tells_asks, below_asks}
 use Rattle.tree_laws.proofs.AskRunLemmas.{collects_as_told}
@@ -94,7 +94,7 @@ module _ (t : History) (before : List Happening) (lawful : IsLawfulRun (so_far t
     pub found : live_at k live.me ≡ Some live
     pub is_me : live.me ≡ c
     pub weighs : (is_none (weight live) ≡ false) ⊎ ((is_none live.parent ≡ true) ⊎ (live.phase ≡ phases.Ready))
-    pub leads : (q : BranchId) × LeadsTo said live.me live.parent (Some q)
+    pub leads : (q : BranchId) × LeadsToward said live.me live.parent (Some q)
 
   seals_by : (c : BranchId) (w : Option RedoRecord) → IfSome w (WroteWhy (heard k u.input) u.input (draft_of (place_at t.places u.node) k u.input).says) → IfSome w (RecordLeads said) → IsSealOf c w → SealsNow c
   seals_by c (Some (records.Sealed r)) why leads at =
@@ -107,7 +107,7 @@ module _ (t : History) (before : List Happening) (lawful : IsLawfulRun (so_far t
         found = found;
         is_me = me ∙ at;
         weighs = subst (λ o. (is_none (weight so.live) ≡ false) ⊎ ((is_none o ≡ true) ⊎ (so.live.phase ≡ phases.Ready))) (sym so.is_parent) so.weighs;
-        leads = (leads.0, subst₂ (λ b o. LeadsTo said b o (Some leads.0)) (sym me) (sym parent) leads.2);
+        leads = (leads.0, subst₂ (λ b o. LeadsToward said b o (Some leads.0)) (sym me) (sym parent) leads.2);
       }
   seals_by c _ why leads at = absurd at
 
@@ -119,7 +119,7 @@ module _ (t : History) (before : List Happening) (lawful : IsLawfulRun (so_far t
   ]
 
   module _ (c : BranchId) (seals : SealsNow c) where
-    asked_by : (q : BranchId) (o : Option BranchId) → LeadsTo said seals.live.me o (Some q) → (p : BranchId) → o ≡ Some p → was_asked said p seals.live.me ≡ true
+    asked_by : (q : BranchId) (o : Option BranchId) → LeadsToward said seals.live.me o (Some q) → (p : BranchId) → o ≡ Some p → was_asked said p seals.live.me ≡ true
     asked_by q o (inl up) p above =
         let it : Some q ≡ Some p = sym up.0 ∙ above in
         let here : q ≡ p = cc in

@@ -9,7 +9,7 @@ use Rattle.run_rules.specs.Births.{births_of}
 use Rattle.run_base_laws.specs.BirthLaws.{Began, LiveIs}
 use Rattle.run_rules.specs.Facts.{node_at}
 use Rattle.run_rules.specs.Lawful.{History, IsLawfulRun, facts_at}
-use Rattle.run_base_laws.specs.InTurnLaws.{said_in, newest_exec, call_at, GoesOn}
+use Rattle.run_base_laws.specs.InTurnLaws.{said_in, newest_exec, call_at, NeedsNoRollback}
 use Rattle.run_base_laws.proofs.BirthRunLemmas.{nodes_name_the_born}
 use Rattle.run_base_laws.proofs.InTurnLemmas.{none_waits}
 use Rattle.run_base_laws.proofs.InTurnRunLemmas.{branches_call_in_turn, edges_fit}
@@ -32,7 +32,7 @@ module _ (t : History) (lawful : IsLawfulRun t) where
   child_parent n k up x found i c at m j there y live me =
       above_of (births_of t) y.live (placed_of m j there y live) x.live.me (ap (parent_of (births_of t)) me ∙ child_of (births_of t) x.live (placed_of n k up x found) i c at)
 
-  module _ (n : ℕ) (k : NodeState) (up : node_at (facts_at t) n ≡ Some k) (x : Branch) (found : branch_at k x.live.me ≡ Some x) (goes : GoesOn k x.live) (rests : x.work.going ≡ None) (i : ℕ) (e : Edge) (at : numbered x.live.edges i ≡ Some e)
+  module _ (n : ℕ) (k : NodeState) (up : node_at (facts_at t) n ≡ Some k) (x : Branch) (found : branch_at k x.live.me ≡ Some x) (goes : NeedsNoRollback k x.live) (rests : x.work.going ≡ None) (i : ℕ) (e : Edge) (at : numbered x.live.edges i ≡ Some e)
       (m : ℕ) (j : NodeState) (there : node_at (facts_at t) m ≡ Some j) (y : Branch) (live : branch_at j y.live.me ≡ Some y) (me : y.live.me ≡ e.peer) where
     abbrev said : List Post
     said = said_in (facts_at t)

@@ -16,7 +16,7 @@ use Rattle.run_rules.specs.Facts.{Facts, first_facts, place_at, node_at, facts_a
 use Rattle.run_rules.specs.Lawful.{IsPlace, MayTurn, MayHappen, IsLawful, History, IsLawfulRun, facts_at}
 use Rattle.run_base_laws.specs.RunEvents.{events_after}
 use Rattle.run_rules.specs.Births.{Born, births_after}
-use Rattle.run_base_laws.specs.InTurnLaws.{packet_post, said_in, newest_reply, GoesOn}
+use Rattle.run_base_laws.specs.InTurnLaws.{packet_post, said_in, newest_reply, NeedsNoRollback}
 use Rattle.run_base_laws.specs.FreezeLaws.{was_asked}
 use Rattle.run_rules.proofs.ListLemmas.{all_weaker}
 use Rattle.run_base_laws.proofs.BirthsStandLemmas.{came_so}
@@ -63,7 +63,7 @@ abbrev pub WeighsSo : List Post → Live → Work → Type 0
 WeighsSo said l w = TellsItsWeight said l.me l.parent (weight l) w
 
 abbrev pub HoldsOf : List Post → NodeState → Live → Work → Type 0
-HoldsOf said k l w = HoldsWeights said (GoesOn k l) l.me l.edges w
+HoldsOf said k l w = HoldsWeights said (NeedsNoRollback k l) l.me l.edges w
 
 -- of a node's live branches
 abbrev pub NodeWeighs : List Post → NodeState → Type 0
@@ -88,7 +88,7 @@ weights_stay : (said says : List Post) (k : NodeState) → ((b : BranchId) (l : 
     → NodeWeighs said k → NodeWeighs (said ++ says) k
 weights_stay said says k silent none now = (
   each_same (WeighsSo said) (WeighsSo (said ++ says)) k.lives k.works now.0 (λ y v live any is. quiet_weighs said says y v (silent y.me y live) is),
-  each_same (HoldsOf said k) (HoldsOf (said ++ says) k) k.lives k.works now.1 (λ y v live any is. holding_more said says (GoesOn k y) y.me y.edges v (λ c. none y.me y live c) is),
+  each_same (HoldsOf said k) (HoldsOf (said ++ says) k) k.lives k.works now.1 (λ y v live any is. holding_more said says (NeedsNoRollback k y) y.me y.edges v (λ c. none y.me y live c) is),
 )
 
 start_weighs : (ms : List Post) (zs : List RedoRecord) → NodeWeighs ms (start_of zs)

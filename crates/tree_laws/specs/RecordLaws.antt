@@ -14,14 +14,14 @@ use Rattle.tree_laws.specs.Forests.{comes_to}
 
 -- A neighbour is on the way to the site where it is the parent and told that the walk does not come here, or where the walk comes
 -- here and this child was told that it comes there. None is, where the walk comes here and no child was told so.
-abbrev pub LeadsTo : List Post → BranchId → Option BranchId → Option BranchId → Type 0
-LeadsTo said me parent None = (comes_to said me parent ≡ true) × ((c : BranchId) → was_sent is_below said me c ≡ false)
-LeadsTo said me parent (Some q) = ((parent ≡ Some q) × (was_sent is_above said q me ≡ true)) ⊎ ((comes_to said me parent ≡ true) × (was_sent is_below said me q ≡ true))
+abbrev pub LeadsToward : List Post → BranchId → Option BranchId → Option BranchId → Type 0
+LeadsToward said me parent None = (comes_to said me parent ≡ true) × ((c : BranchId) → was_sent is_below said me c ≡ false)
+LeadsToward said me parent (Some q) = ((parent ≡ Some q) × (was_sent is_above said q me ≡ true)) ⊎ ((comes_to said me parent ≡ true) × (was_sent is_below said me q ≡ true))
 
 -- a seal names such a neighbour, and a decision is of a branch that has none
 abbrev pub RecordLeads : List Post → RedoRecord → Type 0
-RecordLeads said (records.Sealed r) = (q : BranchId) × (toward_of r r.toward ≡ Some q) × LeadsTo said r.me r.parent (Some q)
-RecordLeads said (records.Decided r) = LeadsTo said r.me r.parent None
+RecordLeads said (records.Sealed r) = (q : BranchId) × (toward_of r r.toward ≡ Some q) × LeadsToward said r.me r.parent (Some q)
+RecordLeads said (records.Decided r) = LeadsToward said r.me r.parent None
 RecordLeads said _ = Unit {0}
 
 -- the record of a turn does so, by the messages before it

@@ -8,7 +8,7 @@ use Rattle.node_rules.specs.Words.{numbered}
 use Rattle.node_rules.specs.NodeState.{NodeState, Branch, branch_at}
 use Rattle.run_rules.specs.Facts.{place_at, node_at}
 use Rattle.run_rules.specs.Lawful.{History, IsLawfulRun, facts_at}
-use Rattle.run_base_laws.specs.InTurnLaws.{said_in, newest_exec, call_at, GoesOn}
+use Rattle.run_base_laws.specs.InTurnLaws.{said_in, newest_exec, call_at, NeedsNoRollback}
 
 -- In every lawful run a live branch has called each of its children.
 abbrev pub EdgesWereCalled : Type 0
@@ -23,7 +23,7 @@ pub record ChildRests (t : History) (x : Branch) (e : Edge) (y : Branch) : Type 
 
 -- In every lawful run each live child does so of a live branch that waits for nothing, unless that is a root that can only roll back.
 abbrev pub ChildrenWeigh : Type 0
-ChildrenWeigh = (t : History) → IsLawfulRun t → (n : ℕ) (k : NodeState) → node_at (facts_at t) n ≡ Some k → (x : Branch) → branch_at k x.live.me ≡ Some x → GoesOn k x.live → x.work.going ≡ None
+ChildrenWeigh = (t : History) → IsLawfulRun t → (n : ℕ) (k : NodeState) → node_at (facts_at t) n ≡ Some k → (x : Branch) → branch_at k x.live.me ≡ Some x → NeedsNoRollback k x.live → x.work.going ≡ None
     → (i : ℕ) (e : Edge) → numbered x.live.edges i ≡ Some e → (m : ℕ) (j : NodeState) → node_at (facts_at t) m ≡ Some j → (y : Branch) → branch_at j y.live.me ≡ Some y → y.live.me ≡ e.peer
     → ChildRests t x e y
 

@@ -14,7 +14,7 @@ use Rattle.run_rules.specs.Facts.{Facts, node_at}
 use Rattle.run_rules.specs.Lawful.{History, IsLawfulRun, facts_at}
 use Rattle.run_base_laws.specs.EventLaws.{AtEachEvent}
 use Rattle.run_base_laws.specs.FreezeLaws.{was_asked}
-use Rattle.run_base_laws.specs.InTurnLaws.{said_in, WaitsFor, call_at, GoesOn}
+use Rattle.run_base_laws.specs.InTurnLaws.{said_in, WaitsFor, call_at, NeedsNoRollback}
 use Rattle.run_branch_laws.specs.WalkLaws.{is_above, was_sent}
 
 -- a child that was asked off the walk, and voted, has a weight
@@ -68,7 +68,7 @@ pub record HoldsWeights (said : List Post) (goes_on : Type 0) (me : BranchId) (e
 -- In every lawful run each live branch does.
 abbrev pub EdgesHoldWeights : Type 0
 EdgesHoldWeights = (t : History) → IsLawfulRun t → (n : ℕ) (k : NodeState) → node_at (facts_at t) n ≡ Some k → (x : Branch) → branch_at k x.live.me ≡ Some x
-    → HoldsWeights (said_in (facts_at t)) (GoesOn k x.live) x.live.me x.live.edges x.work
+    → HoldsWeights (said_in (facts_at t)) (NeedsNoRollback k x.live) x.live.me x.live.edges x.work
 
 -- So in every lawful run each child that voted off the walk has a weight at its parent.
 abbrev pub VotersHaveWeights : Type 0

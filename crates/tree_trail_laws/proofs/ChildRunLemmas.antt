@@ -17,10 +17,10 @@ use Rattle.run_rules.specs.Trail.{trail_of, stopped_by, trail_after}
 use Rattle.run_rules.proofs.ListLemmas.{all_weaker, all_map}
 use Rattle.tree_laws.proofs.PrefixLemmas.{so_far, f_at, one_on}
 use Rattle.tree_laws.proofs.TimeLemmas.{Part, part_on, part_lawful, born_end, keep_on}
-use Rattle.tree_trail_laws.specs.ChildLaws.{IsToldOf, ChildrenAreTold}
+use Rattle.tree_trail_laws.specs.ChildLaws.{IsTracedOf, ChildrenAreTraced}
 use Rattle.tree_trail_laws.proofs.MomentLemmas.{tr_at, trail_one_on}
 use Rattle.tree_trail_laws.proofs.SeenLemmas.{item_mapped}
-use Rattle.tree_trail_laws.proofs.ChildTurnLemmas.{IsKnown, TellsLower, Tells, turn_tells}
+use Rattle.tree_trail_laws.proofs.ChildTurnLemmas.{IsKnown, TracesLower, Tells, turn_tells}
 use Rattle.tree_trail_laws.proofs.StartLemmas.{started_none, none_made}
 
 module _ (t : History) (whole : IsLawfulRun t) where
@@ -33,11 +33,11 @@ module _ (t : History) (whole : IsLawfulRun t) where
         inr (born.0, born_end (so_far t (hs ++ h ∷ [])) (part_lawful t whole (hs ++ h ∷ []) (part_on t whole hs h rest is)) hs (record { rest = h ∷ []; is = refl }) born.0 born.1, born.2)
 
     -- the branches that are told stay so, and those that are live were
-    pub same_reports : (g : Facts) (tr : Trail) → facts_after t.places t.commands (f_at t hs) h ≡ g → trail_after t.places (f_at t hs) (tr_at t hs) h ≡ tr → ((l : Live) → IsToldOf (tr_at t hs) l → IsToldOf tr l)
+    pub same_reports : (g : Facts) (tr : Trail) → facts_after t.places t.commands (f_at t hs) h ≡ g → trail_after t.places (f_at t hs) (tr_at t hs) h ≡ tr → ((l : Live) → IsTracedOf (tr_at t hs) l → IsTracedOf tr l)
         → ((n : ℕ) (j : NodeState) → node_at g n ≡ Some j → (l : Live) → live_at j l.me ≡ Some l → node_at (f_at t hs) n ≡ Some j) → AllByRecursion (IsKnown t whole (hs ++ h ∷ [])) tr.seen → Tells t whole (hs ++ h ∷ [])
     same_reports g tr facts trail told still known = record {
-      lower = subst (λ f. TellsLower t whole f (tr_at t (hs ++ h ∷ []))) (sym (one_on t hs h ∙ facts))
-          (subst (TellsLower t whole g) (sym (trail_one_on t hs h ∙ trail)) (λ n j up l live below. told l (now.lower n j (still n j up l live) l live below)));
+      lower = subst (λ f. TracesLower t whole f (tr_at t (hs ++ h ∷ []))) (sym (one_on t hs h ∙ facts))
+          (subst (TracesLower t whole g) (sym (trail_one_on t hs h ∙ trail)) (λ n j up l live below. told l (now.lower n j (still n j up l live) l live below)));
       known = subst (λ x. AllByRecursion (IsKnown t whole (hs ++ h ∷ [])) x.seen) (sym (trail_one_on t hs h ∙ trail)) known;
     }
 
@@ -85,5 +85,5 @@ module _ (t : History) (whole : IsLawfulRun t) where
   pub tells_at : (hs : List Happening) → Part t whole hs → Tells t whole hs
   tells_at hs part = keep_on t whole (Tells t whole) tells_on [] hs part first_tells
 
-pub children_are_told : ChildrenAreTold
-children_are_told t lawful n k up l live below = (tells_at t lawful t.trace (record { rest = []; is = append-nil t.trace })).lower n k up l live below
+pub children_are_traced : ChildrenAreTraced
+children_are_traced t lawful n k up l live below = (tells_at t lawful t.trace (record { rest = []; is = append-nil t.trace })).lower n k up l live below

@@ -39,7 +39,7 @@ use Rattle.run_base_laws.proofs.SaidPostLemmas.{said_after}
 use Rattle.run_base_laws.proofs.TurnEventLemmas.{number_is}
 use Rattle.tree_laws.proofs.PrefixLemmas.{so_far, f_at, one_on}
 use Rattle.tree_laws.proofs.TimeLemmas.{part_on, may_of, born_end}
-use Rattle.tree_trail_laws.specs.ChildLaws.{IsToldOf}
+use Rattle.tree_trail_laws.specs.ChildLaws.{IsTracedOf}
 use Rattle.tree_trail_laws.proofs.CallLemmas.{call_free}
 use Rattle.tree_trail_laws.proofs.ChildStepLemmas.{called_by, stamped_calls, still_calls, NotThere, Same, Grows, IsOpened, Grown, NewChild, grows_on}
 use Rattle.tree_trail_laws.proofs.MomentLemmas.{tr_at, trail_one_on}
@@ -79,12 +79,12 @@ module _ (t : History) (whole : IsLawfulRun t) where
   IsKnown hs s = (s.me.session ≤ 64) ⊎ ((x : Born) × Began (births_of (so_far t hs)) x × (x.me ≡ s.me))
 
   -- the live branches below roots are told
-  abbrev pub TellsLower : Facts → Trail → Type 0
-  TellsLower f tr = (n : ℕ) (k : NodeState) → node_at f n ≡ Some k → (l : Live) → live_at k l.me ≡ Some l → l.parent ≢ None → IsToldOf tr l
+  abbrev pub TracesLower : Facts → Trail → Type 0
+  TracesLower f tr = (n : ℕ) (k : NodeState) → node_at f n ≡ Some k → (l : Live) → live_at k l.me ≡ Some l → l.parent ≢ None → IsTracedOf tr l
 
   -- what each happening keeps
   pub record Tells (hs : List Happening) : Type 0 where
-    pub lower : TellsLower (f_at t hs) (tr_at t hs)
+    pub lower : TracesLower (f_at t hs) (tr_at t hs)
     pub known : AllByRecursion (IsKnown hs) (tr_at t hs).seen
 
   module _ (hs : List Happening) (u : Turn) (rest : List Happening) (is : hs ++ happenings.Turn u ∷ rest ≡ t.trace) (now : Tells hs) where
@@ -160,7 +160,7 @@ module _ (t : History) (whole : IsLawfulRun t) where
 
     -- ---- the trail
 
-    turned_so : (b : BranchId) (s : Seen) → seen_at (begun t.places f0 tr0 u) b ≡ Some s → (l : Live) → l.me ≡ b → s.parent ≡ l.parent → children_after s.me s.children u.sent ≡ children_of l → IsToldOf tr1 l
+    turned_so : (b : BranchId) (s : Seen) → seen_at (begun t.places f0 tr0 u) b ≡ Some s → (l : Live) → l.me ≡ b → s.parent ≡ l.parent → children_after s.me s.children u.sent ≡ children_of l → IsTracedOf tr1 l
     turned_so b s at l me parent kids =
         (turned t.places f0 tr0 u s, subst (λ c. seen_at tr1 c ≡ Some (turned t.places f0 tr0 u s)) (sym me) (seen_begun t.places f0 tr0 u b s at), parent, kids)
 
@@ -168,7 +168,7 @@ module _ (t : History) (whole : IsLawfulRun t) where
     old_begun b s at = find_more (is_item_of seen_id b) tr0.seen _ s at
 
     -- a branch that stays as it was
-    stays_told : (l : Live) → IsToldOf tr0 l → children_after l.me (children_of l) u.sent ≡ children_of l → IsToldOf tr1 l
+    stays_told : (l : Live) → IsTracedOf tr0 l → children_after l.me (children_of l) u.sent ≡ children_of l → IsTracedOf tr1 l
     stays_told l told silent =
         let me : told.0.me ≡ l.me = item_is seen_id tr0.seen l.me told.0 told.1 in
         turned_so l.me told.0 (old_begun l.me told.0 told.1) l refl told.2 (ap (λ b. children_after b told.0.children u.sent) me ∙ (ap (λ cs. children_after l.me cs u.sent) told.3 ∙ silent))
@@ -203,7 +203,7 @@ module _ (t : History) (whole : IsLawfulRun t) where
         by true is = ap (children_after b cs) (sent_by is)
         by false is = ap (children_after b cs) (unfolding_sent is) ∙ (stamped_calls b d.after.clock cs d.says ∙ grown.1 b cs (own_after is b other (item_at live_id d.after.lives b) refl))
 
-    told_elsewhere : (n : ℕ) (j : NodeState) → u.node ≢ n → node_at f1 n ≡ Some j → (l : Live) → live_at j l.me ≡ Some l → l.parent ≢ None → IsToldOf tr1 l
+    told_elsewhere : (n : ℕ) (j : NodeState) → u.node ≢ n → node_at f1 n ≡ Some j → (l : Live) → live_at j l.me ≡ Some l → l.parent ≢ None → IsTracedOf tr1 l
     told_elsewhere n j other up l live below =
         let before : node_at f0 n ≡ Some j = sym (turn_elsewhere t.places t.commands f0 stand.0.0.even u n other).0 ∙ up in
         let own : l.me.node ≡ n = all_found (λ l. l.me.node ≡ n) live_id j.lives l.me l (ids_name_their_node s0 lawful0 n j before).lives live in
@@ -233,23 +233,23 @@ module _ (t : History) (whole : IsLawfulRun t) where
           ∙ (ap (λ ms. children_begun tr0 (inputs.Message m) ms) sent ∙ ap (λ (o : Option Seen). if is_none o then s ∷ [] else []) none)) in
           ap (λ xs. item_at seen_id (tr0.seen ++ xs) l.me) begins ∙ find_last (is_item_of seen_id l.me) tr0.seen s none (same_from_equal l.me l.me refl)
 
-      told_opened : (l : Live) → IsOpened k p u.input Unborn d.says l → IsToldOf tr1 l
+      told_opened : (l : Live) → IsOpened k p u.input Unborn d.says l → IsTracedOf tr1 l
       told_opened l opened =
           turned_so l.me (newly_seen l.me opened.root (Some opened.parent)) (opened_begun l opened) l refl (sym opened.is_parent)
           (ap (children_after l.me []) (unfolding_sent whole_turn) ∙ (stamped_calls l.me d.after.clock [] d.says ∙ (ap (called_by l.me []) opened.told ∙ (still_calls l.me [] (post l.me opened.parent (kinds.Opened opened.edge opened.strength)) (refl, tt) ∙ sym opened.none))))
 
-      told_here : (l : Live) → live_at d.after l.me ≡ Some l → l.parent ≢ None → IsToldOf tr1 l
+      told_here : (l : Live) → live_at d.after l.me ≡ Some l → l.parent ≢ None → IsTracedOf tr1 l
       told_here l live below = by (item_at live_id k.lives l.me) refl
         where
           its : Grows k p u.input Unborn d.says l
           its = grown.0.each l.me l live
 
-          by : (o : Option Live) → item_at live_id k.lives l.me ≡ o → IsToldOf tr1 l
+          by : (o : Option Live) → item_at live_id k.lives l.me ≡ o → IsTracedOf tr1 l
           by None none = elim (its.new none) [ inl root ↦ absurd (below root) | inr opened ↦ told_opened l opened ]
           by (Some z) found =
               let was = its.old z found in
               let me : z.me ≡ l.me = item_is live_id k.lives l.me z found in
-              let told : IsToldOf tr0 z = now.lower u.node k may.1.up z (subst (λ c. live_at k c ≡ Some z) (sym me) found) (λ none. below (was.1 ∙ none)) in
+              let told : IsTracedOf tr0 z = now.lower u.node k may.1.up z (subst (λ c. live_at k c ≡ Some z) (sym me) found) (λ none. below (was.1 ∙ none)) in
               let at : seen_at tr0 l.me ≡ Some told.0 = subst (λ c. seen_at tr0 c ≡ Some told.0) me told.1 in
               let mine : told.0.me ≡ l.me = item_is seen_id tr0.seen l.me told.0 at in
               turned_so l.me told.0 (old_begun l.me told.0 at) l refl (told.2 ∙ sym was.1)
@@ -257,13 +257,13 @@ module _ (t : History) (whole : IsLawfulRun t) where
               ∙ (ap (λ cs. children_after l.me cs u.sent) told.3
               ∙ (ap (children_after l.me (children_of z)) (unfolding_sent whole_turn) ∙ (stamped_calls l.me d.after.clock (children_of z) d.says ∙ sym was.0))))
 
-    pub told_at : (n : ℕ) (j : NodeState) → node_at f1 n ≡ Some j → (l : Live) → live_at j l.me ≡ Some l → l.parent ≢ None → IsToldOf tr1 l
+    pub told_at : (n : ℕ) (j : NodeState) → node_at f1 n ≡ Some j → (l : Live) → live_at j l.me ≡ Some l → l.parent ≢ None → IsTracedOf tr1 l
     told_at n j up l live below = elim (cases_eq u.node n) [
       | inl here ↦ own u.cut refl (subst (λ m. node_at f1 m ≡ Some j) (sym here) up)
       | inr other ↦ told_elsewhere n j other up l live below
     ]
       where
-        own : (cut : Bool) → u.cut ≡ cut → node_at f1 u.node ≡ Some j → IsToldOf tr1 l
+        own : (cut : Bool) → u.cut ≡ cut → node_at f1 u.node ≡ Some j → IsTracedOf tr1 l
         own true is there =
             let none : node_at f1 u.node ≡ None = here_after ∙ ap (λ c. kept_after c (Some (turn_of p k u.input))) is in absurd (cc (none, there))
         own false is there =
@@ -327,6 +327,6 @@ module _ (t : History) (whole : IsLawfulRun t) where
 
     pub turn_tells : Tells hs1
     turn_tells = record {
-      lower = subst (λ f. TellsLower f (tr_at t hs1)) (sym (one_on t hs (happenings.Turn u))) (subst (TellsLower f1) (sym (trail_one_on t hs (happenings.Turn u))) told_at);
+      lower = subst (λ f. TracesLower f (tr_at t hs1)) (sym (one_on t hs (happenings.Turn u))) (subst (TracesLower f1) (sym (trail_one_on t hs (happenings.Turn u))) told_at);
       known = subst (λ tr. AllByRecursion (IsKnown hs1) tr.seen) (sym (trail_one_on t hs (happenings.Turn u))) all_known;
     }

@@ -10,7 +10,7 @@ use Rattle.run_rules.specs.Each.{AtEach}
 use Rattle.run_rules.specs.Facts.{Facts, node_at}
 use Rattle.run_rules.specs.Lawful.{History, IsLawfulRun}
 use Rattle.tree_laws.proofs.PrefixLemmas.{f_at}
-use Rattle.tree_trail_laws.specs.LowerLaws.{IsToldLive}
+use Rattle.tree_trail_laws.specs.LowerLaws.{IsTracedLive}
 use Rattle.tree_trail_laws.specs.SeenLaws as left
 use Rattle.tree_trail_laws.specs.SeenLaws.{SeesRoots}
 use Rattle.tree_trail_laws.proofs.LowerRunLemmas.{lower_at}
@@ -18,7 +18,7 @@ use Rattle.tree_trail_laws.proofs.MomentLemmas.{tr_at, at_moment, by_moment}
 
 -- What is told of a live branch, with its changes; no COMMIT was accepted of a root that is working.
 pub record IsSeenSo (tr : Trail) (k : NodeState) (l : Live) (s : Seen) : Type 0 where
-  pub told : IsToldLive l s
+  pub told : IsTracedLive l s
   pub own : s.own ≡ own_changes k l.me
   pub unplanned : l.parent ≡ None → l.phase ≡ phases.Working → plan_at tr l.me ≡ None
 

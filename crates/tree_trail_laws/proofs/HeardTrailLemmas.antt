@@ -20,7 +20,7 @@ use Rattle.run_rules.specs.Branches.{Seen, is_among, is_live}
 use Rattle.run_branch_laws.specs.PhaseLaws.{PhaseFits}
 use Rattle.run_rules.specs.Trail.{is_vote, is_abort, is_first_vote, voted_after, is_prepare, kind_drops, message_drops}
 use Rattle.run_branch_laws.proofs.FreezeLemmas.{working_or}
-use Rattle.tree_trail_laws.specs.LowerLaws.{AreVoted, IsToldLive}
+use Rattle.tree_trail_laws.specs.LowerLaws.{AreVoted, IsTracedLive}
 use Rattle.tree_trail_laws.proofs.HearLemmas.{first_among, Alike, same_alike, IsBusy, kept_alike, gone, execs, openeds, hears_replies, points, asks, asks_gone, prepares_working, prepares_busy, answers_first_so, answers_not}
 use Rattle.tree_trail_laws.proofs.PlanLemmas.{find_more}
 
@@ -49,7 +49,7 @@ pub record Heard (s : Seen) (m : Msg) (l : Live) : Type 0 where
   pub collects : l.phase ≢ phases.Working → ((s.collects || begins_by s m) ≡ true) × AreVoted (voted_after s (inputs.Message m)) l.edges
 
 -- no child's first answer comes
-module _ (s : Seen) (m : Msg) (z l : Live) (told : IsToldLive z s) (no_vote : is_first_vote s m ≡ false) where
+module _ (s : Seen) (m : Msg) (z l : Live) (told : IsTracedLive z s) (no_vote : is_first_vote s m ≡ false) where
   votes_stay : voted_after s (inputs.Message m) ≡ s.voted
   votes_stay = ap (λ q. if q then s.voted ++ m.from ∷ [] else s.voted) no_vote
 
@@ -73,7 +73,7 @@ module _ (s : Seen) (m : Msg) (z l : Live) (told : IsToldLive z s) (no_vote : is
   }
 
 module _ (p : Place) (k : NodeState) (x : Branch) (found : branch_at k x.live.me ≡ Some x) (rests : x.live.phase ≢ phases.Working → x.work.going ≡ None) (fits : PhaseFits x.live.parent x.live.edges x.live.phase)
-    (s : Seen) (me : s.me ≡ x.live.me) (told : IsToldLive x.live s) (l : Live) where
+    (s : Seen) (me : s.me ≡ x.live.me) (told : IsTracedLive x.live s) (l : Live) where
   abbrev z : Live
   z = x.live
 

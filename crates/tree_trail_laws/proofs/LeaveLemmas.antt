@@ -35,7 +35,7 @@ use Rattle.book_laws.specs.LeaveLaws.{IsLastAnswer, IsPointed, IsCommit, SealsOn
 use Rattle.book_laws.proofs.LeaveLemmas.{branches_leave_duly}
 use Rattle.tree_laws.proofs.CommitLemmas.{Ends_record, Commits_root, commit_writes}
 use Rattle.tree_laws.proofs.TimeLemmas.{part_lawful, may_of, fact_at}
-use Rattle.tree_trail_laws.specs.LowerLaws.{AreVoted, IsToldLive}
+use Rattle.tree_trail_laws.specs.LowerLaws.{AreVoted, IsTracedLive}
 use Rattle.tree_trail_laws.specs.SeenLaws.{LeavesOnWhatCame, LeavesKnowing, SeenIsEnoughToLeave}
 use Rattle.tree_trail_laws.proofs.FullLemmas.{Sees, SeesAll, full}
 use Rattle.tree_trail_laws.proofs.CallLemmas.{call_free, seen_root}
@@ -90,7 +90,7 @@ all_with_last votes from v (e ∷ es) all none =
 
 -- ---- on what a branch leaves
 
-module _ (tr : Trail) (l : Live) (s : Seen) (seen : seen_at tr l.me ≡ Some s) (fits : IsToldLive l s) (phase : PhaseFits l.parent l.edges l.phase) (input : Input) where
+module _ (tr : Trail) (l : Live) (s : Seen) (seen : seen_at tr l.me ≡ Some s) (fits : IsTracedLive l s) (phase : PhaseFits l.parent l.edges l.phase) (input : Input) where
   not_working : (from : BranchId) → list_any (answers_first from) l.edges ≡ true → l.phase ≢ phases.Working
   not_working from first working = none_awaited from l.edges (subst (PhaseFits l.parent l.edges) working phase) first
 

@@ -20,8 +20,8 @@ use Rattle.tree_laws.proofs.PrefixLemmas.{so_far, f_at}
 use Rattle.book_laws.specs.LeaveLaws.{SealsOn, DecidesOn, LeavesOn, LeavesDuly}
 use Rattle.book_laws.proofs.LeaveLemmas.{branches_leave_duly}
 use Rattle.tree_laws.proofs.TimeLemmas.{part_lawful, fact_at}
-use Rattle.tree_trail_laws.specs.LeaveLaws.{LeavesBelow, LeavesAsTold, LowerLeaveAsTold}
-use Rattle.tree_trail_laws.specs.LowerLaws.{IsToldLive}
+use Rattle.tree_trail_laws.specs.LeaveLaws.{LeavesBelow, LeavesAsTraced, LowerLeaveAsTraced}
+use Rattle.tree_trail_laws.specs.LowerLaws.{IsTracedLive}
 use Rattle.tree_trail_laws.proofs.LeaveLemmas.{pointed, seals}
 use Rattle.tree_trail_laws.proofs.LowerRunLemmas.{lower_at}
 use Rattle.tree_trail_laws.proofs.MomentLemmas.{tr_at, by_moment}
@@ -50,7 +50,7 @@ module _ (t : History) (whole : IsLawfulRun t) where
       me : l.me ≡ b
       me = item_is live_id k.lives b l live
 
-      told : (s : Seen) × (seen_at tr0 l.me ≡ Some s) × IsToldLive l s
+      told : (s : Seen) × (seen_at tr0 l.me ≡ Some s) × IsTracedLive l s
       told = lower_at t whole hs part0 u.node k up l (subst (λ c. live_at k c ≡ Some l) (sym me) live) below
 
       pub seals_below : SealsOn l u.input → IsLastVote tr0 b u.input ⊎ (IsPrepareToLeaf tr0 b u.input ⊎ IsCommitPoint tr0 b u.input)
@@ -68,9 +68,9 @@ module _ (t : History) (whole : IsLawfulRun t) where
     pub record_leaves : (r : RedoRecord) → u.wrote ≡ Some r → LeavesBelow tr0 k u.input r
     record_leaves r wrote = by_record r (subst (λ w. IfSome w (LeavesOn k.lives u.input)) wrote leaves)
 
-  leaves_at : (hs : List Happening) (h : Happening) (rest : List Happening) → hs ++ h ∷ rest ≡ t.trace → LeavesAsTold t.places (f_at t hs) (tr_at t hs) h
+  leaves_at : (hs : List Happening) (h : Happening) (rest : List Happening) → hs ++ h ∷ rest ≡ t.trace → LeavesAsTraced t.places (f_at t hs) (tr_at t hs) h
   leaves_at hs (happenings.Turn u) rest is = λ k up r wrote. record_leaves hs u rest is k up r wrote
   leaves_at hs _ rest is = tt
 
-pub lower_leave_as_told : LowerLeaveAsTold
-lower_leave_as_told t lawful = by_moment t LeavesAsTold (leaves_at t lawful)
+pub lower_leave_as_traced : LowerLeaveAsTraced
+lower_leave_as_traced t lawful = by_moment t LeavesAsTraced (leaves_at t lawful)

@@ -39,8 +39,8 @@ use Rattle.run_base_laws.proofs.RootLemmas.{SessionsFit, root_alone, sessions_ke
 use Rattle.run_base_laws.proofs.SaidPostLemmas.{said_after}
 use Rattle.tree_laws.proofs.PrefixLemmas.{f_at, e_at, one_on, more_on}
 use Rattle.tree_laws.proofs.TimeLemmas.{may_of}
-use Rattle.tree_trail_laws.specs.ChildLaws.{IsToldOf}
-use Rattle.tree_trail_laws.specs.LowerLaws.{AreVoted, IsToldLive}
+use Rattle.tree_trail_laws.specs.ChildLaws.{IsTracedOf}
+use Rattle.tree_trail_laws.specs.LowerLaws.{AreVoted, IsTracedLive}
 use Rattle.tree_trail_laws.proofs.ChildTurnLemmas as kids
 use Rattle.tree_trail_laws.proofs.ChildStepLemmas.{Grows, IsOpened}
 use Rattle.tree_trail_laws.proofs.HeardTrailLemmas.{Heard, heard_so}
@@ -69,7 +69,7 @@ to_it b inputs.Reco = inr (λ m is. absurd cc)
 module _ (t : History) (whole : IsLawfulRun t) where
   -- the live branches below roots are told
   abbrev pub TellsLives : Facts → Trail → Type 0
-  TellsLives f tr = (n : ℕ) (k : NodeState) → node_at f n ≡ Some k → (l : Live) → live_at k l.me ≡ Some l → l.parent ≢ None → (s : Seen) × (seen_at tr l.me ≡ Some s) × IsToldLive l s
+  TellsLives f tr = (n : ℕ) (k : NodeState) → node_at f n ≡ Some k → (l : Live) → live_at k l.me ≡ Some l → l.parent ≢ None → (s : Seen) × (seen_at tr l.me ≡ Some s) × IsTracedLive l s
 
   abbrev pub Lower : List Happening → Type 0
   Lower hs = TellsLives (f_at t hs) (tr_at t hs)
@@ -113,12 +113,12 @@ module _ (t : History) (whole : IsLawfulRun t) where
           by true quiet = (let gone : exit (events_of s1) l.me ≡ Some Quiet = quiet_gone (events_of s1) l.me u.sent said_true quiet in let none = no_exit in absurd (cc (gone, none)))
           by false loud = refl
 
-      told : IsToldOf tr1 l
+      told : IsTracedOf tr1 l
       told = kids.told_at t whole hs u rest is tells n j up l live below
 
       -- what is told of it after the turn
       told_so : (s : Seen) → seen_at tr1 l.me ≡ Some s → s.exit ≡ None → (l.phase ≡ phases.Working → (s.collects ≡ false) × (s.voted ≡ [])) → (l.phase ≢ phases.Working → (s.collects ≡ true) × AreVoted s.voted l.edges)
-          → (s : Seen) × (seen_at tr1 l.me ≡ Some s) × IsToldLive l s
+          → (s : Seen) × (seen_at tr1 l.me ≡ Some s) × IsTracedLive l s
       told_so s at alive working collects =
           let both : Some told.0 ≡ Some s = sym told.1 ∙ at in
           let one : s ≡ told.0 = cc in
@@ -126,7 +126,7 @@ module _ (t : History) (whole : IsLawfulRun t) where
 
       -- ---- one that was live before
 
-      module _ (z : Live) (s : Seen) (me : s.me ≡ l.me) (at : seen_at tr0 l.me ≡ Some s) (was : IsToldLive z s) (z_below : z.parent ≢ None) where
+      module _ (z : Live) (s : Seen) (me : s.me ≡ l.me) (at : seen_at tr0 l.me ≡ Some s) (was : IsTracedLive z s) (z_below : z.parent ≢ None) where
         abbrev t1 : Seen
         t1 = turned t.places f0 tr0 u s
 
@@ -138,7 +138,7 @@ module _ (t : History) (whole : IsLawfulRun t) where
             turned_live t.places f0 tr0 u s s_below was.live (subst (λ b. recorded_exit b u.wrote ≡ None) (sym me) unwritten) (subst (λ b. list_any (is_quiet b) u.sent ≡ false) (sym me) unquiet) drops
 
         -- nothing comes to it
-        untouched : ((m : Msg) → u.input ≡ inputs.Message m → same m.to s.me ≡ false) → l ≡ z → (s : Seen) × (seen_at tr1 l.me ≡ Some s) × IsToldLive l s
+        untouched : ((m : Msg) → u.input ≡ inputs.Message m → same m.to s.me ≡ false) → l ≡ z → (s : Seen) × (seen_at tr1 l.me ≡ Some s) × IsTracedLive l s
         untouched other same_one =
             let begins : t1.collects ≡ s.collects = ap (λ q. s.collects || q) (untold_begins t.places f0 tr0 u s s_below u.node (brings t.places f0 tr0 u).answer u.input other) ∙ or_not s.collects in
             let votes : t1.voted ≡ s.voted = untold_voted t.places f0 tr0 u s s_below u.input other in
@@ -151,7 +151,7 @@ module _ (t : History) (whole : IsLawfulRun t) where
             or_not false = refl
 
         -- a message comes to it
-        touched : (m : Msg) → u.input ≡ inputs.Message m → Heard s m l → (s : Seen) × (seen_at tr1 l.me ≡ Some s) × IsToldLive l s
+        touched : (m : Msg) → u.input ≡ inputs.Message m → Heard s m l → (s : Seen) × (seen_at tr1 l.me ≡ Some s) × IsTracedLive l s
         touched m came heard_it =
             let drops : input_drops u.node s u.input ≡ false = ap (input_drops u.node s) came ∙ heard_it.drops in
             let begins : t1.collects ≡ (s.collects || begins_collect u.node (brings t.places f0 tr0 u).answer s (inputs.Message m)) = ap (λ i. s.collects || begins_collect u.node (brings t.places f0 tr0 u).answer s i) came in
@@ -162,7 +162,7 @@ module _ (t : History) (whole : IsLawfulRun t) where
 
     -- ---- another node
 
-    elsewhere : (n : ℕ) (j : NodeState) → u.node ≢ n → node_at f1 n ≡ Some j → (l : Live) → live_at j l.me ≡ Some l → l.parent ≢ None → (s : Seen) × (seen_at tr1 l.me ≡ Some s) × IsToldLive l s
+    elsewhere : (n : ℕ) (j : NodeState) → u.node ≢ n → node_at f1 n ≡ Some j → (l : Live) → live_at j l.me ≡ Some l → l.parent ≢ None → (s : Seen) × (seen_at tr1 l.me ≡ Some s) × IsTracedLive l s
     elsewhere n j other up l live below =
         let before : node_at f0 n ≡ Some j = sym (turn_elsewhere t.places t.commands f0 (run_stands s0 lawful0).0.even u n other).0 ∙ up in
         let own : l.me.node ≡ n = all_found (λ l. l.me.node ≡ n) live_id j.lives l.me l (ids_name_their_node s0 lawful0 n j before).lives live in
@@ -185,7 +185,7 @@ module _ (t : History) (whole : IsLawfulRun t) where
 
     -- ---- its own node
 
-    own_node : u.cut ≡ false → (l : Live) → live_at d.after l.me ≡ Some l → l.parent ≢ None → (s : Seen) × (seen_at tr1 l.me ≡ Some s) × IsToldLive l s
+    own_node : u.cut ≡ false → (l : Live) → live_at d.after l.me ≡ Some l → l.parent ≢ None → (s : Seen) × (seen_at tr1 l.me ≡ Some s) × IsTracedLive l s
     own_node cut l live below = by (item_at live_id k.lives l.me) refl
       where
         up : node_at f1 u.node ≡ Some d.after
@@ -194,10 +194,10 @@ module _ (t : History) (whole : IsLawfulRun t) where
         its : Grows k p u.input (λ b. born_at (births_of s0) b ≡ None) d.says l
         its = (kids.grown t whole hs u rest is tells).0.each l.me l live
 
-        by : (o : Option Live) → item_at live_id k.lives l.me ≡ o → (s : Seen) × (seen_at tr1 l.me ≡ Some s) × IsToldLive l s
+        by : (o : Option Live) → item_at live_id k.lives l.me ≡ o → (s : Seen) × (seen_at tr1 l.me ≡ Some s) × IsTracedLive l s
         by None none = elim (its.new none) [ inl root ↦ absurd (below root) | inr opened ↦ begins opened ]
           where
-            begins : IsOpened k p u.input (λ b. born_at (births_of s0) b ≡ None) d.says l → (s : Seen) × (seen_at tr1 l.me ≡ Some s) × IsToldLive l s
+            begins : IsOpened k p u.input (λ b. born_at (births_of s0) b ≡ None) d.says l → (s : Seen) × (seen_at tr1 l.me ≡ Some s) × IsTracedLive l s
             begins opened =
                 let m : Msg = record { from = opened.parent; to = opened.to; scn = opened.came.scn; kind = kinds.Open opened.edge opened.root opened.depth } in
                 let s : Seen = newly_seen l.me opened.root (Some opened.parent) in
@@ -257,7 +257,7 @@ module _ (t : History) (whole : IsLawfulRun t) where
                 it
 
             -- a message comes to it
-            hears : (z : Live) → live_at k z.me ≡ Some z → z.me ≡ l.me → (s : Seen) → s.me ≡ l.me → IsToldLive z s → (m : Msg) → u.input ≡ inputs.Message m → m.to ≡ l.me → Heard s m l
+            hears : (z : Live) → live_at k z.me ≡ Some z → z.me ≡ l.me → (s : Seen) → s.me ≡ l.me → IsTracedLive z s → (m : Msg) → u.input ≡ inputs.Message m → m.to ≡ l.me → Heard s m l
             hears z z_live me s me_s was m came to =
                 let k1 : NodeState = heard k (inputs.Message m) in
                 let x : Branch = record { live = z; work = work_at k1 z.me } in
@@ -276,7 +276,7 @@ module _ (t : History) (whole : IsLawfulRun t) where
       | inr other ↦ elsewhere n j other up l live below
     ]
       where
-        own : (cut : Bool) → u.cut ≡ cut → node_at f1 u.node ≡ Some j → (s : Seen) × (seen_at tr1 l.me ≡ Some s) × IsToldLive l s
+        own : (cut : Bool) → u.cut ≡ cut → node_at f1 u.node ≡ Some j → (s : Seen) × (seen_at tr1 l.me ≡ Some s) × IsTracedLive l s
         own true cut there =
             let none : node_at f1 u.node ≡ None = kids.here_after t whole hs u rest is tells ∙ ap (λ c. kept_after c (Some (turn_of p k u.input))) cut in absurd (cc (none, there))
         own false cut there =

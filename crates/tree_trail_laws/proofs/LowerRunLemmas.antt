@@ -18,7 +18,7 @@ use Rattle.run_base_laws.proofs.EventsStandLemmas.{ids_name_their_node}
 use Rattle.run_base_laws.proofs.OwnLemmas.{all_found}
 use Rattle.tree_laws.proofs.PrefixLemmas.{so_far, f_at, one_on}
 use Rattle.tree_laws.proofs.TimeLemmas.{Part, part_lawful, keep_on}
-use Rattle.tree_trail_laws.specs.LowerLaws.{IsToldLive, LowerAreTold}
+use Rattle.tree_trail_laws.specs.LowerLaws.{IsTracedLive, LowerAreTraced}
 use Rattle.tree_trail_laws.proofs.MomentLemmas.{tr_at, trail_one_on}
 use Rattle.tree_trail_laws.proofs.SeenLemmas.{item_mapped}
 use Rattle.tree_trail_laws.proofs.LowerLivesLemmas.{TellsLives, Lower, turn_lower}
@@ -31,7 +31,7 @@ module _ (t : History) (whole : IsLawfulRun t) where
     -- the nodes that are up were so, and what is told of their branches is so
     pub same_lower : (g : Facts) (tr : Trail) → facts_after t.places t.commands (f_at t hs) h ≡ g → trail_after t.places (f_at t hs) (tr_at t hs) h ≡ tr
         → ((n : ℕ) (j : NodeState) → node_at g n ≡ Some j → (l : Live) → live_at j l.me ≡ Some l → node_at (f_at t hs) n ≡ Some j)
-        → ((n : ℕ) (j : NodeState) → node_at g n ≡ Some j → (l : Live) → live_at j l.me ≡ Some l → (s : Seen) → seen_at (tr_at t hs) l.me ≡ Some s → IsToldLive l s → (s : Seen) × (seen_at tr l.me ≡ Some s) × IsToldLive l s)
+        → ((n : ℕ) (j : NodeState) → node_at g n ≡ Some j → (l : Live) → live_at j l.me ≡ Some l → (s : Seen) → seen_at (tr_at t hs) l.me ≡ Some s → IsTracedLive l s → (s : Seen) × (seen_at tr l.me ≡ Some s) × IsTracedLive l s)
         → Lower t whole (hs ++ h ∷ [])
     same_lower g tr facts trail still told =
         subst (λ f. TellsLives t whole f (tr_at t (hs ++ h ∷ []))) (sym (one_on t hs h ∙ facts))
@@ -92,5 +92,5 @@ module _ (t : History) (whole : IsLawfulRun t) where
   pub lower_at : (hs : List Happening) → Part t whole hs → Lower t whole hs
   lower_at hs part = keep_on t whole (Lower t whole) lower_on [] hs part first_lower
 
-pub lower_are_told : LowerAreTold
-lower_are_told t lawful n k up l live below = lower_at t lawful t.trace (record { rest = []; is = append-nil t.trace }) n k up l live below
+pub lower_are_traced : LowerAreTraced
+lower_are_traced t lawful n k up l live below = lower_at t lawful t.trace (record { rest = []; is = append-nil t.trace }) n k up l live below

@@ -29,7 +29,7 @@ use Rattle.run_base_laws.proofs.OwnLemmas.{all_found}
 use Rattle.run_key_laws.proofs.RanLemmas.{runs_at_table}
 use Rattle.run_base_laws.proofs.StoredLemmas.{StoresOf, records_are_kept}
 use Rattle.tree_laws.proofs.PrefixLemmas.{f_at, one_on}
-use Rattle.tree_trail_laws.specs.OwnLaws.{TellsRoots}
+use Rattle.tree_trail_laws.specs.OwnLaws.{TracesRoots}
 use Rattle.tree_trail_laws.proofs.ChildTurnLemmas as kids
 use Rattle.tree_trail_laws.proofs.MomentLemmas.{tr_at}
 use Rattle.tree_trail_laws.proofs.OwnAskLemmas.{asking, none_asked, again_asked, asked_so, table_so, none_runs, one_runs, run_answered}
@@ -52,7 +52,7 @@ refused (answers.Refused why) is = (why, refl)
 refused _ is = absurd cc
 
 module _ (t : History) (whole : IsLawfulRun t) where
-  module _ (hs : List Happening) (u : Turn) (more : List Happening) (is : hs ++ happenings.Turn u ∷ more ≡ t.trace) (roots : TellsRoots t.places (f_at t hs) (tr_at t hs)) (now : Owns (f_at t hs) (tr_at t hs)) (uncut : u.cut ≡ false) where
+  module _ (hs : List Happening) (u : Turn) (more : List Happening) (is : hs ++ happenings.Turn u ∷ more ≡ t.trace) (roots : TracesRoots t.places (f_at t hs) (tr_at t hs)) (now : Owns (f_at t hs) (tr_at t hs)) (uncut : u.cut ≡ false) where
     open at_turn t whole hs u more is use {s as s0, s_after as s1, lawful_after as lawful1, f as f0, p}
     open at_trail t hs u use {tr as tr0, begun_tr as trb}
 

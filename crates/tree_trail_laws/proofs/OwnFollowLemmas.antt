@@ -22,8 +22,8 @@ use Rattle.run_base_laws.proofs.EventsStandLemmas.{run_stands, ids_name_their_no
 use Rattle.run_base_laws.proofs.OwnLemmas.{all_found}
 use Rattle.tree_laws.proofs.PrefixLemmas.{so_far, f_at, one_on}
 use Rattle.tree_laws.proofs.TimeLemmas.{Part, keep_on}
-use Rattle.tree_trail_laws.specs.OwnLaws.{TellsRoots}
-use Rattle.tree_trail_laws.specs.SeenLaws.{TellsOwns, Sees, SeesAll}
+use Rattle.tree_trail_laws.specs.OwnLaws.{TracesRoots}
+use Rattle.tree_trail_laws.specs.SeenLaws.{TracesOwns, Sees, SeesAll}
 use Rattle.tree_trail_laws.proofs.ChildTurnLemmas as kids
 use Rattle.tree_trail_laws.proofs.LowerRunLemmas.{stop_still}
 use Rattle.tree_trail_laws.proofs.MomentLemmas.{tr_at, trail_one_on, at_moment, by_moment}
@@ -73,9 +73,9 @@ stopped_keeps n (Some s) = by (is_live_at n s)
 stop_told : (n : ℕ) (xs : List Seen) (b : BranchId) → (own_of (item_at seen_id (map (stopped_by n) xs) b) ≡ own_of (item_at seen_id xs b)) × (taken_of (item_at seen_id (map (stopped_by n) xs) b) ≡ taken_of (item_at seen_id xs b))
 stop_told n xs b = (ap own_of (stopped_at n xs b) ∙ (stopped_keeps n (item_at seen_id xs b)).0, ap taken_of (stopped_at n xs b) ∙ (stopped_keeps n (item_at seen_id xs b)).1)
 
-module _ (t : History) (whole : IsLawfulRun t) (roots : AtEach (λ places f tr h. TellsRoots places f tr) t) where
-  roots_at : (hs : List Happening) (h : Happening) (more : List Happening) → hs ++ h ∷ more ≡ t.trace → TellsRoots t.places (f_at t hs) (tr_at t hs)
-  roots_at hs h more is = at_moment t (λ places f tr h. TellsRoots places f tr) roots hs h more is
+module _ (t : History) (whole : IsLawfulRun t) (roots : AtEach (λ places f tr h. TracesRoots places f tr) t) where
+  roots_at : (hs : List Happening) (h : Happening) (more : List Happening) → hs ++ h ∷ more ≡ t.trace → TracesRoots t.places (f_at t hs) (tr_at t hs)
+  roots_at hs h more is = at_moment t (λ places f tr h. TracesRoots places f tr) roots hs h more is
 
   -- ---- a turn
 
@@ -83,7 +83,7 @@ module _ (t : History) (whole : IsLawfulRun t) (roots : AtEach (λ places f tr h
     open at_turn t whole hs u more is use {f as f0, g as f1}
     open at_trail t hs u use {tr as tr0, tr_on as tr1}
 
-    abbrev r0 : TellsRoots t.places f0 tr0
+    abbrev r0 : TracesRoots t.places f0 tr0
     r0 = roots_at hs (happenings.Turn u) more is
 
     abbrev may : MayHappen t.places t.commands f0 (happenings.Turn u)
@@ -203,13 +203,13 @@ module _ (t : History) (whole : IsLawfulRun t) (roots : AtEach (λ places f tr h
   }
 
 -- So are the changes at the end of a run,
-pub owns_follow : (t : History) → IsLawfulRun t → AtEach (λ places f tr h. TellsRoots places f tr) t → TellsOwns (f_at t t.trace) (tr_at t t.trace)
+pub owns_follow : (t : History) → IsLawfulRun t → AtEach (λ places f tr h. TracesRoots places f tr) t → TracesOwns (f_at t t.trace) (tr_at t t.trace)
 owns_follow t whole roots = (owns_end t whole roots).owns
 
 -- all that is told of live branches before each happening,
-pub sees_follow : (t : History) → IsLawfulRun t → AtEach (λ places f tr h. TellsRoots places f tr) t → SeesAll t
+pub sees_follow : (t : History) → IsLawfulRun t → AtEach (λ places f tr h. TracesRoots places f tr) t → SeesAll t
 sees_follow t whole roots = by_moment t (λ places f tr h. Sees f tr) (sees_at t whole roots)
 
 -- and each answer of a run is meant.
-pub meanings_follow : (t : History) → IsLawfulRun t → AtEach (λ places f tr h. TellsRoots places f tr) t → RunsAreMeant t
+pub meanings_follow : (t : History) → IsLawfulRun t → AtEach (λ places f tr h. TracesRoots places f tr) t → RunsAreMeant t
 meanings_follow t whole roots = by_moment t RunIsMeant (meant_at t whole roots)

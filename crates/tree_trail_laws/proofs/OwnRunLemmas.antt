@@ -25,7 +25,7 @@ use Rattle.node_rules.specs.Names.{table_of}
 use Rattle.node_rules.specs.NodeState.{NodeState}
 use Rattle.node_rules.specs.Prepare.{own_changes}
 use Rattle.node_rules.specs.Statement.{StmtOutcome, Refuses, Reads, Writes, ground_of, ran}
-use Rattle.run_rules.specs.Book.{commits_at, rows_of, committed_at, rows_told}
+use Rattle.run_rules.specs.Book.{commits_at, rows_of, committed_at, rows_by_book}
 use Rattle.run_rules.specs.Data.{Entry}
 use Rattle.run_rules.specs.Facts.{node_at}
 use Rattle.run_key_laws.specs.KeyLaws.{is_doubted_by, passes, is_held, AreHeld, KeysHeld}
@@ -144,8 +144,8 @@ pub record IsOfBook (book : List Entry) (n : ℕ) (k : NodeState) : Type 0 where
   pub fits : Fits k
   pub keys : KeysHeld k.locks k.owns k.stored.doubts
 
-told_in_order : (book : List Entry) (n : ℕ) (table : List ℕ) → AreInKeyOrder (rows_told book n table)
-unfolding rows_told IsStrictlySortedBy
+told_in_order : (book : List Entry) (n : ℕ) (table : List ℕ) → AreInKeyOrder (rows_by_book book n table)
+unfolding rows_by_book IsStrictlySortedBy
 told_in_order book n table = changes_keep_order table (committed_at [] n book) [] tt
 
 book_in_order : (book : List Entry) (n : ℕ) (table : List ℕ) → AreInKeyOrder (rows_of book n table)

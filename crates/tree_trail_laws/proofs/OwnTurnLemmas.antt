@@ -32,8 +32,8 @@ use Rattle.run_base_laws.proofs.RootLemmas.{SessionsFit, sessions_keep}
 use Rattle.run_base_laws.proofs.TurnEventLemmas.{number_is}
 use Rattle.tree_laws.proofs.PrefixLemmas.{f_at}
 use Rattle.tree_laws.proofs.TimeLemmas.{Part, part_lawful, may_of}
-use Rattle.tree_trail_laws.specs.OwnLaws.{TellsRoots}
-use Rattle.tree_trail_laws.specs.SeenLaws.{TellsOwns, IsSeenRoot}
+use Rattle.tree_trail_laws.specs.OwnLaws.{TracesRoots}
+use Rattle.tree_trail_laws.specs.SeenLaws.{TracesOwns, IsSeenRoot}
 use Rattle.tree_trail_laws.proofs.CallLemmas.{call_free, seen_root}
 use Rattle.tree_trail_laws.proofs.ChildRunLemmas.{tells_at}
 use Rattle.tree_trail_laws.proofs.ChildStepLemmas.{Grows, IsOpened}
@@ -107,11 +107,11 @@ stands_live k x found = ap (λ o. live_or o (kept_row_at k x.live.me)) found
 
 -- What happenings keep.
 pub record Owns (f : Facts) (tr : Trail) : Type 0 where
-  pub owns : TellsOwns f tr
+  pub owns : TracesOwns f tr
   pub calls : TellsCalls f tr
 
 module _ (t : History) (whole : IsLawfulRun t) where
-  module _ (hs : List Happening) (u : Turn) (more : List Happening) (is : hs ++ happenings.Turn u ∷ more ≡ t.trace) (roots : TellsRoots t.places (f_at t hs) (tr_at t hs)) (now : Owns (f_at t hs) (tr_at t hs)) where
+  module _ (hs : List Happening) (u : Turn) (more : List Happening) (is : hs ++ happenings.Turn u ∷ more ≡ t.trace) (roots : TracesRoots t.places (f_at t hs) (tr_at t hs)) (now : Owns (f_at t hs) (tr_at t hs)) where
     pub part0 : Part t whole hs
     part0 = record { rest = happenings.Turn u ∷ more; is = is }
 

@@ -11,8 +11,8 @@ use Rattle.run_rules.specs.Lawful.{History, IsLawfulRun}
 use Rattle.run_rules.specs.Trail.{trail_after}
 use Rattle.tree_laws.proofs.PrefixLemmas.{so_far, f_at}
 use Rattle.tree_laws.proofs.TimeLemmas.{Part, part_lawful, part_of, keep_on}
-use Rattle.tree_trail_laws.specs.OwnLaws.{TellsRoots, AllIsSeen, DecisionsCover, LeavesAreDue}
-use Rattle.tree_trail_laws.specs.SeenLaws.{TellsOwns}
+use Rattle.tree_trail_laws.specs.OwnLaws.{TracesRoots, AllIsSeen, DecisionsCover, LeavesAreDue}
+use Rattle.tree_trail_laws.specs.SeenLaws.{TracesOwns}
 use Rattle.tree_trail_laws.proofs.EnoughLemmas.{seen_is_enough}
 use Rattle.tree_trail_laws.proofs.LeaveLemmas.{seen_is_enough_to_leave}
 use Rattle.tree_trail_laws.proofs.MomentLemmas.{tr_at}
@@ -27,18 +27,18 @@ each_weaker places asked A B weaker f tr (h ∷ hs) each = (weaker f tr h each.0
 
 -- Roots, and changes of live branches, are told as their nodes keep them.
 pub record TellsBoth (places : List Place) (f : Facts) (tr : Trail) : Type 0 where
-  pub roots : TellsRoots places f tr
-  pub owns : TellsOwns f tr
+  pub roots : TracesRoots places f tr
+  pub owns : TracesOwns f tr
 
 abbrev pub EachTells : History → Type 0
 EachTells t = AtEach (λ places f tr h. TellsBoth places f tr) t
 
 module _ (s : History) (each : EachTells s) where
-  roots_before : AtEach (λ places f tr h. TellsRoots places f tr) s
-  roots_before = each_weaker s.places s.commands (λ f tr h. TellsBoth s.places f tr) (λ f tr h. TellsRoots s.places f tr) (λ f tr h both. both.roots) (first_facts s.places) no_trail s.trace each
+  roots_before : AtEach (λ places f tr h. TracesRoots places f tr) s
+  roots_before = each_weaker s.places s.commands (λ f tr h. TellsBoth s.places f tr) (λ f tr h. TracesRoots s.places f tr) (λ f tr h both. both.roots) (first_facts s.places) no_trail s.trace each
 
-  owns_before : AtEach (λ places f tr h. TellsOwns f tr) s
-  owns_before = each_weaker s.places s.commands (λ f tr h. TellsBoth s.places f tr) (λ f tr h. TellsOwns f tr) (λ f tr h both. both.owns) (first_facts s.places) no_trail s.trace each
+  owns_before : AtEach (λ places f tr h. TracesOwns f tr) s
+  owns_before = each_weaker s.places s.commands (λ f tr h. TellsBoth s.places f tr) (λ f tr h. TracesOwns f tr) (λ f tr h both. both.owns) (first_facts s.places) no_trail s.trace each
 
 module _ (t : History) (whole : IsLawfulRun t) where
   both_at : (hs : List Happening) → Part t whole hs → EachTells (so_far t hs) → TellsBoth t.places (f_at t hs) (tr_at t hs)
@@ -55,7 +55,7 @@ module _ (t : History) (whole : IsLawfulRun t) where
   each_tells : EachTells t
   each_tells = keep_on t whole (λ hs. EachTells (so_far t hs)) both_on [] t.trace (record { rest = []; is = append-nil t.trace }) tt
 
-  all_told : AtEach (λ places f tr h. TellsRoots places f tr) t
+  all_told : AtEach (λ places f tr h. TracesRoots places f tr) t
   all_told = roots_before t each_tells
 
 pub all_is_seen : AllIsSeen

@@ -43,8 +43,8 @@ use Rattle.tree_laws.proofs.AskRunLemmas.{live_told}
 use Rattle.tree_laws.proofs.AskStepLemmas.{voted_peers}
 use Rattle.tree_laws.proofs.PrefixLemmas.{f_at}
 use Rattle.tree_laws.proofs.TimeLemmas.{may_of}
-use Rattle.tree_trail_laws.specs.LowerLaws.{AreVoted, IsToldLive}
-use Rattle.tree_trail_laws.specs.SeenLaws.{TellsTops, SeesRoots}
+use Rattle.tree_trail_laws.specs.LowerLaws.{AreVoted, IsTracedLive}
+use Rattle.tree_trail_laws.specs.SeenLaws.{TracesTops, SeesRoots}
 use Rattle.tree_trail_laws.proofs.ChildRunLemmas.{tells_at}
 use Rattle.tree_trail_laws.proofs.ChildStepLemmas.{stamped_calls}
 use Rattle.tree_trail_laws.proofs.ChildTurnLemmas as kids
@@ -89,7 +89,7 @@ abort_is : (kind : Kind) → vote_kind votes.Abort ≡ Some kind → is_abort ki
 abort_is kind is = (let it : Some kinds.Abort ≡ Some kind = is in let here : kinds.Abort ≡ kind = cc in ap is_abort (sym here))
 
 module _ (t : History) (whole : IsLawfulRun t) (hs : List Happening) (u : Turn) (rest : List Happening) (is : hs ++ happenings.Turn u ∷ rest ≡ t.trace)
-    (tops : TellsTops (f_at t hs) (tr_at t hs)) (sees : SeesRoots (f_at t hs) (tr_at t hs)) (counts : Counts t whole (f_at t hs) (tr_at t hs)) (born : AllByRecursion (λ s. IsBorn t whole hs s.me) (tr_at t hs).seen)
+    (tops : TracesTops (f_at t hs) (tr_at t hs)) (sees : SeesRoots (f_at t hs) (tr_at t hs)) (counts : Counts t whole (f_at t hs) (tr_at t hs)) (born : AllByRecursion (λ s. IsBorn t whole hs s.me) (tr_at t hs).seen)
     (alone : Alone (tr_at t hs).seen) (goes : (n : ℕ) (k : NodeState) → node_at (f_at t hs) n ≡ Some k → RootGoes k.sessions k.lives) where
   open at_turn t whole hs u rest is use {part as part0, s as s0, lawful as lawful0, f as f0, g as f1, k, p, d}
   open at_trail t hs u use {tr as tr0, tr_on as tr1}
@@ -165,12 +165,12 @@ module _ (t : History) (whole : IsLawfulRun t) (hs : List Happening) (u : Turn) 
             let up : s.parent ≡ Some q = ap (λ (y : Seen). y.parent) (sym one) ∙ (it.2.parent ∙ above) in
             absurd (cc (up, s_top))
 
-    was : IsToldLive z s
+    was : IsTracedLive z s
     was =
         let it = tops u.node k may.1.up z z_live z_top in
         let both : Some it.0 ≡ Some s = sym it.1 ∙ (ap (seen_at tr0) me ∙ at) in
         let one : it.0 ≡ s = cc in
-        subst (IsToldLive z) one it.2
+        subst (IsTracedLive z) one it.2
 
     -- it is told to leave where something drops it
     dropped : (input_drops u.node s u.input || ends_siteless pl new) ≡ true → (turned t.places f0 tr0 u s).exit ≡ None → ⊥

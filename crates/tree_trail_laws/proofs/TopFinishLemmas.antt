@@ -57,7 +57,7 @@ use Rattle.tree_laws.proofs.SeenLemmas.{Low, step_seen}
 use Rattle.tree_laws.proofs.StrengthLemmas.{lives_have_strength}
 use Rattle.tree_laws.proofs.TimeLemmas.{Part, part_lawful, may_of, born_end}
 use Rattle.tree_laws.proofs.WeighLemmas.{placed_of}
-use Rattle.tree_trail_laws.specs.SeenLaws.{TellsTops, TellsOwns, SeesRoots}
+use Rattle.tree_trail_laws.specs.SeenLaws.{TracesTops, TracesOwns, SeesRoots}
 use Rattle.tree_trail_laws.proofs.CallLemmas.{call_free, seen_root}
 use Rattle.tree_trail_laws.proofs.LowerRunLemmas.{lower_at}
 use Rattle.tree_trail_laws.proofs.MomentLemmas.{tr_at, trail_join, trail_keeps, at_moment}
@@ -85,12 +85,12 @@ siteless_stays o p is none = ap has_no_site is ∙ ap is_none none
 
 -- what is told of roots, before each happening
 abbrev pub Earlier : History → Type 0
-Earlier t = AtEach (λ places f tr h. TellsTops f tr × SeesRoots f tr) t
+Earlier t = AtEach (λ places f tr h. TracesTops f tr × SeesRoots f tr) t
 
-module _ (t : History) (whole : IsLawfulRun t) (owns : AtEach (λ places f tr h. TellsOwns f tr) t) where
+module _ (t : History) (whole : IsLawfulRun t) (owns : AtEach (λ places f tr h. TracesOwns f tr) t) where
   -- ---- a moment, where roots are told
 
-  module _ (hs : List Happening) (h : Happening) (rest : List Happening) (is : hs ++ h ∷ rest ≡ t.trace) (tops : TellsTops (f_at t hs) (tr_at t hs)) where
+  module _ (hs : List Happening) (h : Happening) (rest : List Happening) (is : hs ++ h ∷ rest ≡ t.trace) (tops : TracesTops (f_at t hs) (tr_at t hs)) where
     open at_happening t whole hs h rest is use {part, lawful}
 
     -- each live branch is told with its children
@@ -104,7 +104,7 @@ module _ (t : History) (whole : IsLawfulRun t) (owns : AtEach (λ places f tr h.
     -- and whether it has changes
     told_changes : (n : ℕ) (k : NodeState) → node_at (f_at t hs) n ≡ Some k → (l : Live) → live_at k l.me ≡ Some l → has_changes (tr_at t hs) l.me ≡ l.changed
     told_changes n k up l live =
-        let own : own_at (tr_at t hs) l.me ≡ changes_at k.owns l.me = at_moment t (λ places f tr h. TellsOwns f tr) owns hs h rest is n k up l live in
+        let own : own_at (tr_at t hs) l.me ≡ changes_at k.owns l.me = at_moment t (λ places f tr h. TracesOwns f tr) owns hs h rest is n k up l live in
         let marked : l.changed ≡ are_some (changes_at k.owns l.me) = (changes_are_of_live (so_far t hs) lawful n k up).marked l.me l live in
         ap (λ cs. is_some (slice_get cs 0)) own ∙ (some_first (changes_at k.owns l.me) ∙ sym marked)
 
@@ -159,7 +159,7 @@ module _ (t : History) (whole : IsLawfulRun t) (owns : AtEach (λ places f tr h.
 
   -- ---- a root that ends
 
-  module _ (hs : List Happening) (u : Turn) (rest : List Happening) (is : hs ++ happenings.Turn u ∷ rest ≡ t.trace) (tops : TellsTops (f_at t hs) (tr_at t hs)) (sees : SeesRoots (f_at t hs) (tr_at t hs)) (earlier : Earlier (so_far t hs)) where
+  module _ (hs : List Happening) (u : Turn) (rest : List Happening) (is : hs ++ happenings.Turn u ∷ rest ≡ t.trace) (tops : TracesTops (f_at t hs) (tr_at t hs)) (sees : SeesRoots (f_at t hs) (tr_at t hs)) (earlier : Earlier (so_far t hs)) where
     open at_turn t whole hs u rest is use {s as s0, lawful as lawful0, may as may0, k}
 
     abbrev pl : Trail
@@ -256,11 +256,11 @@ module _ (t : History) (whole : IsLawfulRun t) (owns : AtEach (λ places f tr h.
         covered : (q c : BranchId) → was_asked (said_in (facts_at s0)) q c ≡ true → IsIn (births_of s0) z.me c → (x : Exit) × (exit (events_of s0) c ≡ Some x) × (x ≢ Dropped)
         covered = asked_left s0 lawful0 u k may0.1 z z_live from v sb answers other all at_end born_top
 
-        tops0 : TellsTops (f_at t hs0) (tr_at t hs0)
-        tops0 = (at_moment s0 (λ places f tr h. TellsTops f tr × SeesRoots f tr) earlier hs0 (happenings.Turn u0) found.later found.is).0
+        tops0 : TracesTops (f_at t hs0) (tr_at t hs0)
+        tops0 = (at_moment s0 (λ places f tr h. TracesTops f tr × SeesRoots f tr) earlier hs0 (happenings.Turn u0) found.later found.is).0
 
         sees0 : SeesRoots (f_at t hs0) (tr_at t hs0)
-        sees0 = (at_moment s0 (λ places f tr h. TellsTops f tr × SeesRoots f tr) earlier hs0 (happenings.Turn u0) found.later found.is).1
+        sees0 = (at_moment s0 (λ places f tr h. TracesTops f tr × SeesRoots f tr) earlier hs0 (happenings.Turn u0) found.later found.is).1
 
         first_depth : x0.live.depth ≡ 1
         first_depth =

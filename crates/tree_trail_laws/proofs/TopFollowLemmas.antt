@@ -12,7 +12,7 @@ use Rattle.run_rules.specs.Branches.{no_trail}
 use Rattle.run_rules.specs.Trail.{trail_after, trail_of}
 use Rattle.tree_laws.proofs.PrefixLemmas.{so_far}
 use Rattle.tree_laws.proofs.TimeLemmas.{Part, part_of, keep_on}
-use Rattle.tree_trail_laws.specs.SeenLaws.{TellsTops, TellsOwns, SeesRoots}
+use Rattle.tree_trail_laws.specs.SeenLaws.{TracesTops, TracesOwns, SeesRoots}
 use Rattle.tree_trail_laws.specs.TopLaws.{TopsFollow}
 use Rattle.tree_trail_laws.proofs.TopFinishLemmas.{Earlier, ends_siteless_planned}
 use Rattle.tree_trail_laws.proofs.TopTurnLemmas.{Tops, seen_roots}
@@ -26,7 +26,7 @@ module _ (places : List Place) (asked : List Command) (So : Facts → Trail → 
   each_last f tr [] h each so = (so, tt)
   each_last f tr (x ∷ hs) h each so = (each.0, each_last (facts_after places asked f x) (trail_after places f tr x) hs h each.1 so)
 
-module _ (t : History) (whole : IsLawfulRun t) (owns : AtEach (λ places f tr h. TellsOwns f tr) t) where
+module _ (t : History) (whole : IsLawfulRun t) (owns : AtEach (λ places f tr h. TracesOwns f tr) t) where
   -- what is told of roots before each happening, and now
   abbrev Follows : List Happening → Type 0
   Follows hs = Earlier (so_far t hs) × Tops t whole hs
@@ -36,7 +36,7 @@ module _ (t : History) (whole : IsLawfulRun t) (owns : AtEach (λ places f tr h.
 
   follows_on : (hs : List Happening) (h : Happening) (rest : List Happening) → hs ++ h ∷ rest ≡ t.trace → Follows hs → Follows (hs ++ h ∷ [])
   follows_on hs h rest is now = (
-    each_last t.places t.commands (λ f tr h. TellsTops f tr × SeesRoots f tr) (first_facts t.places) no_trail hs h now.0 (now.1.tops, seen_roots t whole hs (part_of t whole hs h rest is) now.1),
+    each_last t.places t.commands (λ f tr h. TracesTops f tr × SeesRoots f tr) (first_facts t.places) no_trail hs h now.0 (now.1.tops, seen_roots t whole hs (part_of t whole hs h rest is) now.1),
     tops_go_on t whole hs h rest is (siteless hs now.0) now.1,
   )
 

@@ -43,8 +43,8 @@ use Rattle.run_base_laws.proofs.RootLemmas.{SessionsFit}
 use Rattle.tree_laws.proofs.FateLemmas.{among_found}
 use Rattle.tree_laws.proofs.PrefixLemmas.{f_at, e_at}
 use Rattle.tree_laws.proofs.TimeLemmas.{exit_end}
-use Rattle.tree_trail_laws.specs.LowerLaws.{AreVoted, IsToldLive}
-use Rattle.tree_trail_laws.specs.SeenLaws.{TellsTops, SeesRoots}
+use Rattle.tree_trail_laws.specs.LowerLaws.{AreVoted, IsTracedLive}
+use Rattle.tree_trail_laws.specs.SeenLaws.{TracesTops, SeesRoots}
 use Rattle.tree_trail_laws.proofs.CallLemmas.{call_free}
 use Rattle.tree_trail_laws.proofs.ChildStepLemmas.{Grows, called_by, stamped_calls}
 use Rattle.tree_trail_laws.proofs.ChildTurnLemmas as kids
@@ -63,7 +63,7 @@ use Rattle.tree_laws.proofs.AtTurn.{at_turn}
 use Rattle.tree_trail_laws.proofs.AtTrail.{at_trail}
 
 module _ (t : History) (whole : IsLawfulRun t) (hs : List Happening) (u : Turn) (rest : List Happening) (is : hs ++ happenings.Turn u ∷ rest ≡ t.trace)
-    (tops : TellsTops (f_at t hs) (tr_at t hs)) (sees : SeesRoots (f_at t hs) (tr_at t hs)) (counts : Counts t whole (f_at t hs) (tr_at t hs)) (born : AllByRecursion (λ s. IsBorn t whole hs s.me) (tr_at t hs).seen)
+    (tops : TracesTops (f_at t hs) (tr_at t hs)) (sees : SeesRoots (f_at t hs) (tr_at t hs)) (counts : Counts t whole (f_at t hs) (tr_at t hs)) (born : AllByRecursion (λ s. IsBorn t whole hs s.me) (tr_at t hs).seen)
     (plans : AllByRecursion (λ x. IsBorn t whole hs x.root) (tr_at t hs).plans) where
   open at_turn t whole hs u rest is use {after as hs1, part as part0, s as s0, s_after as s1, lawful as lawful0, lawful_after as lawful1, f as f0, g as f1, p}
   open at_trail t hs u use {tr as tr0, tr_on as tr1}
@@ -91,7 +91,7 @@ module _ (t : History) (whole : IsLawfulRun t) (hs : List Happening) (u : Turn) 
 
     -- ---- one that was live
 
-    module _ (z : Live) (me_z : z.me ≡ l.me) (z_live : live_at k z.me ≡ Some z) (z_top : z.parent ≡ None) (s : Seen) (me : s.me ≡ l.me) (at : seen_at tr0 l.me ≡ Some s) (was : IsToldLive z s)
+    module _ (z : Live) (me_z : z.me ≡ l.me) (z_live : live_at k z.me ≡ Some z) (z_top : z.parent ≡ None) (s : Seen) (me : s.me ≡ l.me) (at : seen_at tr0 l.me ≡ Some s) (was : IsTracedLive z s)
         (none : z.phase ≡ phases.Working → plan_at tr0 l.me ≡ None) (silent : children_after s.me s.children u.sent ≡ children_of l) where
       abbrev x : Branch
       x = record { live = z; work = work_at k z.me }
@@ -123,7 +123,7 @@ module _ (t : History) (whole : IsLawfulRun t) (hs : List Happening) (u : Turn) 
       after input came = subst (λ i. live_at (draft_of p k i).after z.me ≡ Some l) came (subst (λ c. live_at d.after c ≡ Some l) (sym me_z) live)
 
       told : input_drops u.node s u.input ≡ false → (l.phase ≡ phases.Working → (t1.collects ≡ false) × (t1.voted ≡ [])) → (l.phase ≢ phases.Working → (t1.collects ≡ true) × AreVoted t1.voted l.edges)
-          → (s : Seen) × (seen_at tr1 l.me ≡ Some s) × IsToldLive l s
+          → (s : Seen) × (seen_at tr1 l.me ≡ Some s) × IsTracedLive l s
       told drops working collects =
           told_so t.places f0 tr0 u l top (turns.fits t whole hs u rest is tops sees counts born plans u.node d.after up l live) (turns.unwritten t whole hs u rest is tops sees counts born plans u.node d.after up l live) (turns.unquiet t whole hs u rest is tops sees counts born plans u.node d.after up l live) s me (turns.old_begun t whole hs u rest is tops sees counts born plans u.node d.after up l live top s at) was.live (was.parent ∙ z_top) silent drops working collects
 
@@ -145,7 +145,7 @@ module _ (t : History) (whole : IsLawfulRun t) (hs : List Happening) (u : Turn) 
           (λ commits. (let free : (session_at k.sessions z.me.session).call ≡ pending.NoCall = subst (λ i. (session_at k.sessions i).call ≡ pending.NoCall) (sym session) (call_free f0 k u.node u.input u.took m o call may.1.comes).1 in absurd (cc (free, commits))))
 
       -- nothing of a collect
-      same_told : z.phase ≡ phases.Working → l.phase ≡ phases.Working → input_drops u.node s u.input ≡ false → t1.collects ≡ s.collects → t1.voted ≡ s.voted → (s : Seen) × (seen_at tr1 l.me ≡ Some s) × IsToldLive l s
+      same_told : z.phase ≡ phases.Working → l.phase ≡ phases.Working → input_drops u.node s u.input ≡ false → t1.collects ≡ s.collects → t1.voted ≡ s.voted → (s : Seen) × (seen_at tr1 l.me ≡ Some s) × IsTracedLive l s
       same_told z_works l_works drops begins votes =
           told drops (λ working. (begins ∙ (was.working z_works).0, votes ∙ (was.working z_works).1)) (λ busy. absurd (busy l_works))
 
@@ -200,7 +200,7 @@ module _ (t : History) (whole : IsLawfulRun t) (hs : List Happening) (u : Turn) 
           (λ j fits_j at_j n its root. not_root n its (sym (fits_j.roots.each n z.me root) ∙ session)) (serves t.places f0 u k may.1).step (heard_fits u.input) (heard_live u.input z.me ∙ z_live) in
           let both : Some z ≡ Some l = sym stayed ∙ subst (λ c. live_at d.after c ≡ Some l) (sym me_z) live in
           let same_one : l ≡ z = cc in
-          turns.untouched t whole hs u rest is tops sees counts born plans u.node d.after up l live top s me at (subst (λ (y : Live). IsToldLive y s) (sym same_one) was) (λ working. none (ap (λ (y : Live). y.phase) (sym same_one) ∙ working)) silent
+          turns.untouched t whole hs u rest is tops sees counts born plans u.node d.after up l live top s me at (subst (λ (y : Live). IsTracedLive y s) (sym same_one) was) (λ working. none (ap (λ (y : Live). y.phase) (sym same_one) ∙ working)) silent
           (λ y came. subst (λ b. same y.to b ≡ false) (sym me) (not_to y came))
           (λ n its. and_right (is_live_at u.node s) (is_none s.parent && (s.me.session == n)) (and_right (is_none s.parent) (s.me.session == n) (ne_eqb s.me.session n (λ same_session. not_root n its (sym same_session ∙ ap (λ (b : BranchId). b.session) me)))))
           (λ n given call here same_session. absurd (not_root n (Is_commit given call) (sym same_session)))
@@ -355,13 +355,13 @@ module _ (t : History) (whole : IsLawfulRun t) (hs : List Happening) (u : Turn) 
   after_cut : u.cut ≡ true → node_at f1 u.node ≡ None
   after_cut cut = (turn_here t.places t.commands f0 (run_stands s0 lawful0).0.even u k may.1.up).0 ∙ ap (λ c. kept_after c (Some (turn_of p k u.input))) cut
 
-  pub tops_on : TellsTops f1 tr1
+  pub tops_on : TracesTops f1 tr1
   tops_on n j up l live top = elim (cases_eq u.node n) [
     | inr other ↦ turns.elsewhere t whole hs u rest is tops sees counts born plans n j other up l live top
     | inl here ↦ here_told u.cut refl (subst (λ m. node_at f1 m ≡ Some j) (sym here) up)
   ]
     where
-      here_told : (cut : Bool) → u.cut ≡ cut → node_at f1 u.node ≡ Some j → (s : Seen) × (seen_at tr1 l.me ≡ Some s) × IsToldLive l s × (l.phase ≡ phases.Working → plan_at tr1 l.me ≡ None)
+      here_told : (cut : Bool) → u.cut ≡ cut → node_at f1 u.node ≡ Some j → (s : Seen) × (seen_at tr1 l.me ≡ Some s) × IsTracedLive l s × (l.phase ≡ phases.Working → plan_at tr1 l.me ≡ None)
       here_told true cut there = (let none : node_at f1 u.node ≡ None = after_cut cut in absurd (cc (none, there)))
       here_told false cut there =
           let both : Some d.after ≡ Some j = sym (after_is cut) ∙ there in

@@ -23,7 +23,7 @@ use Rattle.run_base_laws.proofs.RestRunLemmas.{roots_wait}
 use Rattle.run_base_laws.proofs.RootLemmas.{roots_are_of_sessions}
 use Rattle.run_base_laws.proofs.TurnEventLemmas.{all_both, number_is}
 use Rattle.tree_laws.proofs.TimeLemmas.{Part, part_lawful}
-use Rattle.tree_trail_laws.specs.SeenLaws.{IsSeenRoot, TellsTops, SeesRoots}
+use Rattle.tree_trail_laws.specs.SeenLaws.{IsSeenRoot, TracesTops, SeesRoots}
 use Rattle.tree_trail_laws.specs.TopLaws.{NamesNext}
 use Rattle.tree_trail_laws.proofs.LowerRunLemmas.{lower_at}
 use Rattle.tree_trail_laws.proofs.MomentLemmas.{tr_at}
@@ -54,7 +54,7 @@ module _ (t : History) (whole : IsLawfulRun t) (hs : List Happening) (part : Par
   abbrev tr : Trail
   tr = tr_at t hs
 
-  module _ (tops : TellsTops f tr) (alone : Alone tr.seen) (back : AllByRecursion (Back f) tr.seen) (goes : (n : ℕ) (k : NodeState) → node_at f n ≡ Some k → RootGoes k.sessions k.lives)
+  module _ (tops : TracesTops f tr) (alone : Alone tr.seen) (back : AllByRecursion (Back f) tr.seen) (goes : (n : ℕ) (k : NodeState) → node_at f n ≡ Some k → RootGoes k.sessions k.lives)
       (n : ℕ) (k : NodeState) (up : node_at f n ≡ Some k) (session : ℕ) where
     -- a root that is told to be live is its session's transaction
     told_live : (s : Seen) → root_at tr n session ≡ Some s → ((session_at k.sessions session).root ≡ Some s.me) × (seen_at tr s.me ≡ Some s) × ((l : Live) × (live_at k s.me ≡ Some l))
@@ -126,7 +126,7 @@ module _ (t : History) (whole : IsLawfulRun t) (hs : List Happening) (part : Par
         let me : s.me ≡ b = cc in
         (subst (λ c. seen_at tr c ≡ Some s) me its.1, (its.2.0, subst (λ c. live_at k c ≡ Some its.2.0) me its.2.1))
 
-  pub sees_roots : TellsTops f tr → Alone tr.seen → AllByRecursion (Back f) tr.seen → ((n : ℕ) (k : NodeState) → node_at f n ≡ Some k → RootGoes k.sessions k.lives) → SeesRoots f tr
+  pub sees_roots : TracesTops f tr → Alone tr.seen → AllByRecursion (Back f) tr.seen → ((n : ℕ) (k : NodeState) → node_at f n ≡ Some k → RootGoes k.sessions k.lives) → SeesRoots f tr
   sees_roots tops alone back goes n k up session range free = sees_one tops alone back goes n k up session free (root_at tr n session) (session_at k.sessions session).root refl refl
 
   -- ---- the next root

@@ -18,7 +18,7 @@ use Rattle.run_base_laws.proofs.EventsStandLemmas.{run_stands}
 use Rattle.run_rules.proofs.ListLemmas.{all_weaker}
 use Rattle.tree_laws.proofs.PrefixLemmas.{so_far, f_at, one_on}
 use Rattle.tree_laws.proofs.TimeLemmas.{part_of, part_lawful, may_of}
-use Rattle.tree_trail_laws.specs.SeenLaws.{TellsTops}
+use Rattle.tree_trail_laws.specs.SeenLaws.{TracesTops}
 use Rattle.tree_trail_laws.proofs.MomentLemmas.{tr_at, trail_one_on}
 use Rattle.tree_trail_laws.proofs.TopBackLemmas.{IsBack, Back}
 use Rattle.tree_trail_laws.proofs.TopBirthLemmas.{IsBorn, Counts, Booted, born_more}
@@ -120,7 +120,7 @@ module _ (t : History) (whole : IsLawfulRun t) where
           (count_none (is_of n (boots (records_at f1 n)) session) tr0.seen (none_yet session range.1) ∙ sym (ap (λ (i : NodeState). (session_at i.sessions session).seq) new.1 ∙ ap (λ s. s.seq) (started_session (with_boot f0 n boot) session)))
     ]
 
-    start_told : TellsTops f1 tr1
+    start_told : TracesTops f1 tr1
     unfolding trail_after
     start_told m j up l live top = elim (either_up m j up) [
       | inl was ↦ (let it = now.tops m j was.1 l live top in (it.0, it.1, it.2, it.3))

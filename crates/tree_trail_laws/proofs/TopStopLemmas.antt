@@ -17,7 +17,7 @@ use Rattle.run_rules.proofs.ListLemmas.{all_weaker, all_map}
 use Rattle.run_base_laws.proofs.OwnLemmas.{all_found}
 use Rattle.tree_laws.proofs.PrefixLemmas.{so_far, f_at, one_on}
 use Rattle.tree_laws.proofs.TimeLemmas.{Part, part_of, part_lawful, may_of}
-use Rattle.tree_trail_laws.specs.SeenLaws.{TellsTops}
+use Rattle.tree_trail_laws.specs.SeenLaws.{TracesTops}
 use Rattle.tree_trail_laws.proofs.LowerRunLemmas.{stopped_other, not_stopped, stop_still}
 use Rattle.tree_trail_laws.proofs.MomentLemmas.{tr_at, trail_one_on}
 use Rattle.tree_trail_laws.proofs.SeenLemmas.{item_mapped}
@@ -101,7 +101,7 @@ module _ (t : History) (whole : IsLawfulRun t) where
             may_stop None none ok = absurd (let some = it.0 in cc (none, some))
             may_stop (Some m) some ok = (let both : Some m ≡ Some s.me.node = sym some ∙ it.0 in let here : m ≡ s.me.node = cc in other (sym here ∙ ok.1))
 
-    told : TellsTops f1 tr1
+    told : TracesTops f1 tr1
     unfolding trail_after
     told m j up l live top =
         let it = now.tops m j (up_before m j up) l live top in

@@ -38,8 +38,8 @@ use Rattle.run_base_laws.proofs.RootLemmas.{SessionsFit, sessions_keep}
 use Rattle.run_base_laws.proofs.SaidPostLemmas.{said_after}
 use Rattle.tree_laws.proofs.PrefixLemmas.{f_at, e_at, one_on, more_on}
 use Rattle.tree_laws.proofs.TimeLemmas.{may_of}
-use Rattle.tree_trail_laws.specs.LowerLaws.{AreVoted, IsToldLive}
-use Rattle.tree_trail_laws.specs.SeenLaws.{TellsTops, SeesRoots}
+use Rattle.tree_trail_laws.specs.LowerLaws.{AreVoted, IsTracedLive}
+use Rattle.tree_trail_laws.specs.SeenLaws.{TracesTops, SeesRoots}
 use Rattle.tree_trail_laws.proofs.ChildRunLemmas.{tells_at}
 use Rattle.tree_trail_laws.proofs.ChildTurnLemmas as kids
 use Rattle.tree_trail_laws.proofs.ChildTurnLemmas.{all_behind, Tells}
@@ -56,7 +56,7 @@ use Rattle.tree_trail_laws.proofs.AtTrail.{at_trail}
 -- ---- a turn
 
 module _ (t : History) (whole : IsLawfulRun t) (hs : List Happening) (u : Turn) (rest : List Happening) (is : hs ++ happenings.Turn u ∷ rest ≡ t.trace)
-    (tops : TellsTops (f_at t hs) (tr_at t hs)) (sees : SeesRoots (f_at t hs) (tr_at t hs)) (counts : Counts t whole (f_at t hs) (tr_at t hs)) (born : AllByRecursion (λ s. IsBorn t whole hs s.me) (tr_at t hs).seen)
+    (tops : TracesTops (f_at t hs) (tr_at t hs)) (sees : SeesRoots (f_at t hs) (tr_at t hs)) (counts : Counts t whole (f_at t hs) (tr_at t hs)) (born : AllByRecursion (λ s. IsBorn t whole hs s.me) (tr_at t hs).seen)
     (plans : AllByRecursion (λ x. IsBorn t whole hs x.root) (tr_at t hs).plans) where
   open at_turn t whole hs u rest is use {after as hs1, part as part0, s as s0, s_after as s1, lawful as lawful0, lawful_after as lawful1, f as f0, g as f1, k, p, d}
   open at_trail t hs u use {tr as tr0, tr_on as tr1}
@@ -117,9 +117,9 @@ module _ (t : History) (whole : IsLawfulRun t) (hs : List Happening) (u : Turn) 
     module _ (top : l.parent ≡ None) where
       -- what is told of it, and of its plan
       abbrev pub Told : Type 0
-      Told = (s : Seen) × (seen_at tr1 l.me ≡ Some s) × IsToldLive l s × (l.phase ≡ phases.Working → plan_at tr1 l.me ≡ None)
+      Told = (s : Seen) × (seen_at tr1 l.me ≡ Some s) × IsTracedLive l s × (l.phase ≡ phases.Working → plan_at tr1 l.me ≡ None)
 
-      pub with_plan : (s : Seen) × (seen_at tr1 l.me ≡ Some s) × IsToldLive l s → (l.phase ≡ phases.Working → plan_at tr1 l.me ≡ None) → Told
+      pub with_plan : (s : Seen) × (seen_at tr1 l.me ≡ Some s) × IsTracedLive l s → (l.phase ≡ phases.Working → plan_at tr1 l.me ≡ None) → Told
       with_plan it none = (it.0, it.1, it.2, none)
 
       pub old_begun : (s : Seen) → seen_at tr0 l.me ≡ Some s → seen_at (begun t.places f0 tr0 u) l.me ≡ Some s
@@ -127,7 +127,7 @@ module _ (t : History) (whole : IsLawfulRun t) (hs : List Happening) (u : Turn) 
 
       -- ---- one to which nothing comes
 
-      pub untouched : (s : Seen) → s.me ≡ l.me → seen_at tr0 l.me ≡ Some s → IsToldLive l s → (l.phase ≡ phases.Working → plan_at tr0 l.me ≡ None) → children_after s.me s.children u.sent ≡ children_of l
+      pub untouched : (s : Seen) → s.me ≡ l.me → seen_at tr0 l.me ≡ Some s → IsTracedLive l s → (l.phase ≡ phases.Working → plan_at tr0 l.me ≡ None) → children_after s.me s.children u.sent ≡ children_of l
           → ((m : Msg) → u.input ≡ inputs.Message m → same m.to s.me ≡ false) → ((session : ℕ) → Concerns_root u.input session → is_root_of u.node session s ≡ false)
           → ((session : ℕ) (given : Option (List ℕ)) → IsCall u.input session (stmts.Commit given) → l.me.node ≡ u.node → l.me.session ≡ session → is_refused (answered_by (outcome_at t.places f0 u)) ≡ true) → Told
       untouched s me at was none silent not_to not_root refused =

@@ -21,7 +21,7 @@ use Rattle.run_branch_laws.specs.PhaseLaws.{PhaseFits}
 use Rattle.run_rules.specs.Runs.{answered_by}
 use Rattle.run_rules.specs.Tree.{plan}
 use Rattle.run_rules.specs.Trail.{is_vote, is_abort, is_first_vote, voted_after, is_refused, commits, begins_collect, recorded_exit, is_quiet, kind_drops, input_drops, has_no_site, ends_siteless, whole_exit, exit_by, exit_after, with_turn, planned_by, called_root, trail_after}
-use Rattle.tree_trail_laws.specs.LowerLaws.{AreVoted, IsToldLive}
+use Rattle.tree_trail_laws.specs.LowerLaws.{AreVoted, IsTracedLive}
 use Rattle.tree_trail_laws.proofs.SeenLemmas.{begun, planned, brings, turned, seen_begun}
 use Rattle.tree_trail_laws.proofs.UntouchedLemmas.{Concerns_root, Is_commit, Is_rollback, Gives_up}
 
@@ -88,7 +88,7 @@ module _ (places : List Place) (f : Facts) (tr : Trail) (u : Turn) where
           by true w is = refl
           by false w is = is
 
-      pub told_so : (s : Seen) × (seen_at tr1 l.me ≡ Some s) × IsToldLive l s
+      pub told_so : (s : Seen) × (seen_at tr1 l.me ≡ Some s) × IsTracedLive l s
       told_so = (t1, seen_begun places f tr u l.me s at, record { live = lives; parent = parent ∙ sym top; children = kids; working = working; collects = collects })
 
   -- ---- one to which nothing comes

@@ -25,7 +25,7 @@ use Rattle.node_rules.specs.Data.kinds
 use Rattle.node_rules.specs.Turn.{turn_of}
 use Rattle.tree_laws.proofs.PrefixLemmas.{f_at, one_on}
 use Rattle.tree_laws.proofs.TimeLemmas.{Part}
-use Rattle.tree_trail_laws.specs.SeenLaws.{TellsTops, SeesRoots}
+use Rattle.tree_trail_laws.specs.SeenLaws.{TracesTops, SeesRoots}
 use Rattle.tree_trail_laws.proofs.MomentLemmas.{tr_at, trail_one_on}
 use Rattle.tree_trail_laws.proofs.TopBackLemmas.{Back, Siteless, back_on}
 use Rattle.tree_trail_laws.proofs.TopBirthLemmas.{IsBorn, Counts, Booted, born_on, alone_on}
@@ -41,7 +41,7 @@ use Rattle.tree_laws.proofs.AtTurn.{at_turn}
 module _ (t : History) (whole : IsLawfulRun t) where
   -- what each happening keeps
   pub record Tops (hs : List Happening) : Type 0 where
-    pub tops : TellsTops (f_at t hs) (tr_at t hs)
+    pub tops : TracesTops (f_at t hs) (tr_at t hs)
     pub goes : (n : ℕ) (k : NodeState) → node_at (f_at t hs) n ≡ Some k → RootGoes k.sessions k.lives
     pub counts : Counts t whole (f_at t hs) (tr_at t hs)
     pub booted : AllByRecursion (Booted t whole (f_at t hs)) (tr_at t hs).seen
@@ -53,7 +53,7 @@ module _ (t : History) (whole : IsLawfulRun t) where
 
   -- the same of facts and a trail
   pub record TopsSo (hs : List Happening) (f : Facts) (tr : Trail) : Type 0 where
-    pub tops : TellsTops f tr
+    pub tops : TracesTops f tr
     pub goes : (n : ℕ) (k : NodeState) → node_at f n ≡ Some k → RootGoes k.sessions k.lives
     pub counts : Counts t whole f tr
     pub booted : AllByRecursion (Booted t whole f) tr.seen

@@ -13,10 +13,10 @@ use Rattle.run_rules.specs.Trail.{trail_of}
 abbrev pub trail_at : History → Trail
 trail_at t = trail_of t.places t.commands (first_facts t.places) no_trail t.trace
 
--- A branch is told to have begun, with the parent and the children that its node keeps of it.
-abbrev pub IsToldOf : Trail → Live → Type 0
-IsToldOf tr l = (s : Seen) × (seen_at tr l.me ≡ Some s) × (s.parent ≡ l.parent) × (s.children ≡ children_of l)
+-- By the branch history a branch began, with the parent and the children that its node keeps of it.
+abbrev pub IsTracedOf : Trail → Live → Type 0
+IsTracedOf tr l = (s : Seen) × (seen_at tr l.me ≡ Some s) × (s.parent ≡ l.parent) × (s.children ≡ children_of l)
 
--- In every lawful run each live branch below a root is told so.
-abbrev pub ChildrenAreTold : Type 0
-ChildrenAreTold = (t : History) → IsLawfulRun t → (n : ℕ) (k : NodeState) → node_at (facts_at t) n ≡ Some k → (l : Live) → live_at k l.me ≡ Some l → l.parent ≢ None → IsToldOf (trail_at t) l
+-- In every lawful run it is so of each live branch below a root.
+abbrev pub ChildrenAreTraced : Type 0
+ChildrenAreTraced = (t : History) → IsLawfulRun t → (n : ℕ) (k : NodeState) → node_at (facts_at t) n ≡ Some k → (l : Live) → live_at k l.me ≡ Some l → l.parent ≢ None → IsTracedOf (trail_at t) l

@@ -20,10 +20,10 @@ LeavesBelow tr k input (records.Decided r) = (l : Live) → live_at k r.me ≡ S
 LeavesBelow tr k input _ = Unit {0}
 
 -- the branch of the record of a turn does so
-abbrev pub LeavesAsTold : List Place → Facts → Trail → Happening → Type 0
-LeavesAsTold places f tr (happenings.Turn u) = (k : NodeState) → node_at f u.node ≡ Some k → (r : RedoRecord) → u.wrote ≡ Some r → LeavesBelow tr k u.input r
-LeavesAsTold places f tr _ = Unit {0}
+abbrev pub LeavesAsTraced : List Place → Facts → Trail → Happening → Type 0
+LeavesAsTraced places f tr (happenings.Turn u) = (k : NodeState) → node_at f u.node ≡ Some k → (r : RedoRecord) → u.wrote ≡ Some r → LeavesBelow tr k u.input r
+LeavesAsTraced places f tr _ = Unit {0}
 
 -- In every lawful run live branches below roots do so.
-abbrev pub LowerLeaveAsTold : Type 0
-LowerLeaveAsTold = (t : History) → IsLawfulRun t → AtEach LeavesAsTold t
+abbrev pub LowerLeaveAsTraced : Type 0
+LowerLeaveAsTraced = (t : History) → IsLawfulRun t → AtEach LeavesAsTraced t

@@ -17,15 +17,16 @@ use Rattle.tree_trail_laws.specs.ChildLaws.{trail_at}
 abbrev pub AreVoted : List BranchId → List Edge → Type 0
 AreVoted votes es = AllByRecursion (λ e. is_among e.peer votes ≡ not (is_awaited e.vote)) es
 
--- What is told of a live branch is what its node keeps of it. Before its COMMIT or Prepare comes no child has answered.
-pub record IsToldLive (l : Live) (s : Seen) : Type 0 where
+-- The branch history of a live branch agrees with what its node keeps of it. Before its COMMIT or Prepare comes no child has
+-- answered.
+pub record IsTracedLive (l : Live) (s : Seen) : Type 0 where
   pub live : s.exit ≡ None
   pub parent : s.parent ≡ l.parent
   pub children : s.children ≡ children_of l
   pub working : l.phase ≡ phases.Working → (s.collects ≡ false) × (s.voted ≡ [])
   pub collects : l.phase ≢ phases.Working → (s.collects ≡ true) × AreVoted s.voted l.edges
 
--- In every lawful run each live branch below a root is told so.
-abbrev pub LowerAreTold : Type 0
-LowerAreTold = (t : History) → IsLawfulRun t → (n : ℕ) (k : NodeState) → node_at (facts_at t) n ≡ Some k → (l : Live) → live_at k l.me ≡ Some l → l.parent ≢ None
-    → (s : Seen) × (seen_at (trail_at t) l.me ≡ Some s) × IsToldLive l s
+-- In every lawful run it is so of each live branch below a root.
+abbrev pub LowerAreTraced : Type 0
+LowerAreTraced = (t : History) → IsLawfulRun t → (n : ℕ) (k : NodeState) → node_at (facts_at t) n ≡ Some k → (l : Live) → live_at k l.me ≡ Some l → l.parent ≢ None
+    → (s : Seen) × (seen_at (trail_at t) l.me ≡ Some s) × IsTracedLive l s

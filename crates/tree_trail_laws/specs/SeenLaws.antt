@@ -19,18 +19,18 @@ use Rattle.run_claims.specs.Knowledge.{MayWrite}
 use Rattle.run_rules.specs.Lawful.{History, IsLawfulRun}
 use Rattle.run_claims.specs.Site.{SiteDecides, RecordIsSo, DecisionCovers, HasOwn}
 use Rattle.run_rules.specs.Trail.{trail_after}
-use Rattle.tree_trail_laws.specs.LowerLaws.{IsToldLive}
+use Rattle.tree_trail_laws.specs.LowerLaws.{IsTracedLive}
 
--- each live root is told as its node keeps it, and no COMMIT was accepted of one that is working
-abbrev pub TellsTops : Facts → Trail → Type 0
-TellsTops f tr = (n : ℕ) (k : NodeState) → node_at f n ≡ Some k → (l : Live) → live_at k l.me ≡ Some l → l.parent ≡ None
-    → (s : Seen) × (seen_at tr l.me ≡ Some s) × IsToldLive l s × (l.phase ≡ phases.Working → plan_at tr l.me ≡ None)
+-- each live root is in the branch history as its node keeps it, and no COMMIT was accepted of one that is working
+abbrev pub TracesTops : Facts → Trail → Type 0
+TracesTops f tr = (n : ℕ) (k : NodeState) → node_at f n ≡ Some k → (l : Live) → live_at k l.me ≡ Some l → l.parent ≡ None
+    → (s : Seen) × (seen_at tr l.me ≡ Some s) × IsTracedLive l s × (l.phase ≡ phases.Working → plan_at tr l.me ≡ None)
 
--- the changes that are told of each live branch are those that its node keeps
-abbrev pub TellsOwns : Facts → Trail → Type 0
-TellsOwns f tr = (n : ℕ) (k : NodeState) → node_at f n ≡ Some k → (l : Live) → live_at k l.me ≡ Some l → own_at tr l.me ≡ own_changes k l.me
+-- the changes of each live branch by the branch history are those that its node keeps
+abbrev pub TracesOwns : Facts → Trail → Type 0
+TracesOwns f tr = (n : ℕ) (k : NodeState) → node_at f n ≡ Some k → (l : Live) → live_at k l.me ≡ Some l → own_at tr l.me ≡ own_changes k l.me
 
--- the transaction of a session is told to be the one that its node keeps, and is live
+-- the transaction of a session by the branch history is the one that its node keeps, and is live
 abbrev pub IsSeenRoot : Trail → NodeState → Option Seen → Option BranchId → Type 0
 IsSeenRoot tr k None None = Unit {0}
 IsSeenRoot tr k (Some s) (Some b) = (seen_at tr b ≡ Some s) × ((l : Live) × (live_at k b ≡ Some l))
@@ -41,11 +41,11 @@ abbrev pub SeesRoots : Facts → Trail → Type 0
 SeesRoots f tr = (n : ℕ) (k : NodeState) → node_at f n ≡ Some k → (session : ℕ) → IsSession session → (session_at k.sessions session).call ≡ pending.NoCall
     → IsSeenRoot tr k (root_at tr n session) (session_at k.sessions session).root
 
--- What the happenings tell of roots, and of the changes of live branches, is what their nodes keep. Of branches below roots
--- all else is told so in every lawful run.
+-- The branch history of roots, and of the changes of live branches, agrees with what their nodes keep. All else that it has of
+-- branches below roots agrees in every lawful run.
 pub record Sees (f : Facts) (tr : Trail) : Type 0 where
-  pub tops : TellsTops f tr
-  pub owns : TellsOwns f tr
+  pub tops : TracesTops f tr
+  pub owns : TracesOwns f tr
   pub roots : SeesRoots f tr
 
 -- before each happening of a run

@@ -1,4 +1,4 @@
--- What the happenings tell of changes, tried on the run of two nodes: before the COMMIT each branch is told to have changed
+-- The changes of branches, tried on the run of two nodes: before the COMMIT each branch has changed, by the branch history,
 -- the row that its node keeps as changed, and the INSERT at A is a run that means its answer.
 use Rattle.std.specs.Prelude.{◌≡◌, ℕ, List, [], take, slice_get, option_map, Option, Some, None}
 use Rattle.node_rules.specs.Data.{Change, Answer, BranchId}
@@ -42,11 +42,11 @@ answer_of f _ = None
 abbrev pub ninth : Option Happening
 ninth = slice_get tried.trace 8
 
--- What is told of changes, and what the run of the INSERT at A means.
+-- The changes of the branches, and what the run of the INSERT at A means.
 pub record TheTriedOwns : Type 0 where
-  pub told_at_a : own_at (trail_after_so_many 9) tried.a ≡ tried.changes
+  pub traced_at_a : own_at (trail_after_so_many 9) tried.a ≡ tried.changes
   pub kept_at_a : kept_in (node_at (facts_after_so_many 9) 1) tried.a ≡ tried.changes
-  pub told_at_b : own_at (trail_after_so_many 9) tried.b ≡ tried.changes
+  pub traced_at_b : own_at (trail_after_so_many 9) tried.b ≡ tried.changes
   pub kept_at_b : kept_in (node_at (facts_after_so_many 9) 2) tried.b ≡ tried.changes
   pub runs : option_map (λ r. r.branch) (run_of (facts_after_so_many 8) (trail_after_so_many 8) ninth) ≡ Some tried.a
   pub means : option_map (λ r. meaning (facts_after_so_many 8).book (own_at (trail_after_so_many 8) r.branch) r) (run_of (facts_after_so_many 8) (trail_after_so_many 8) ninth) ≡ Some (Changes dones.Created 1 tried.changes)

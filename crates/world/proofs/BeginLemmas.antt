@@ -26,7 +26,7 @@ use Rattle.run_rules.specs.Data.{Happening}
 use Rattle.run_rules.specs.Data.commands
 use Rattle.run_rules.specs.Facts.{Facts, facts_of, first_facts, place_at, records_at}
 use Rattle.run_rules.specs.Reported.{StandsFor}
-use Rattle.run_rules.specs.Lawful.{IsNode, IsProper}
+use Rattle.run_rules.specs.Lawful.{IsNode, IsCommandOver}
 use Rattle.run_rules.specs.Shown.{shown_disk}
 use Rattle.run_rules.proofs.AtNodeLemmas.{item_there, there_too}
 use Rattle.run_rules.proofs.FactLemmas.{facts_are}
@@ -35,7 +35,7 @@ use Rattle.world.specs.declared.slot.NodeSlot.{NodeSlot}
 use Rattle.world.specs.declared.world.World.{World}
 use Rattle.world.specs.Needs.{due_in}
 use Rattle.world.specs.Linked.{IsLinked, IsOrdered, OrdersStand}
-use Rattle.world_parts.specs.Shown.{HasBegun, ShowDisks, Shown, ShowsDiskAt, shown_at}
+use Rattle.world_parts.specs.Shown.{CommandHasBegun, ShowDisks, Shown, ShowsDiskAt, shown_at}
 use Rattle.world.specs.NodeSlot.{SiteIs, SitesAre, site_disk, bytes_of}
 use Rattle.world.specs.Slots.{AreMade, IsMade, MayShow, ShowsAfter, bytes_in_site, disk_at, shows_of}
 use Rattle.world.specs.Steps.{StepsOn}
@@ -116,13 +116,13 @@ only_show_disk commands.ShowBook n is = absurd cc
 only_show_disk commands.ShowNet n is = absurd cc
 
 -- what holds of all commands holds of one
-proper_at : (count : ℕ) (asked : List Command) (i : ℕ) (command : Command) → AllByRecursion (IsProper count) asked → slice_get asked i ≡ Some command → IsProper count command
+proper_at : (count : ℕ) (asked : List Command) (i : ℕ) (command : Command) → AllByRecursion (IsCommandOver count) asked → slice_get asked i ≡ Some command → IsCommandOver count command
 proper_at count [] i command all is = absurd cc
-proper_at count (x ∷ xs) zero command all is = subst (λ (y : Command). IsProper count y) (cc) all.0
+proper_at count (x ∷ xs) zero command all is = subst (λ (y : Command). IsCommandOver count y) (cc) all.0
 proper_at count (x ∷ xs) (suc i) command all is = proper_at count xs i command all.1 is
 
 -- the node whose disk is shown is there
-shown_there : (count : ℕ) (asked : List Command) (c n : ℕ) → AllByRecursion (IsProper count) asked → command_at asked c ≡ commands.ShowDisk n → IsNode count n
+shown_there : (count : ℕ) (asked : List Command) (c n : ℕ) → AllByRecursion (IsCommandOver count) asked → command_at asked c ≡ commands.ShowDisk n → IsNode count n
 shown_there count asked zero n all is = absurd cc
 shown_there count asked (suc i) n all is = by (slice_get asked i) refl is
   where
@@ -173,7 +173,7 @@ module _ (w v : World) (n : ℕ) (linked : IsLinked w) (due : due_in w.trace ≡
   abbrev r : RunSoFar
   r = record w.trace { happenings = w.trace.happenings ++ happenings.Begun n ∷ [] }
 
-  fresh : HasBegun w.trace n → ⊥
+  fresh : CommandHasBegun w.trace n → ⊥
   fresh = begins_fresh w.trace n linked.held.script.run due
 
   -- the sites
@@ -193,7 +193,7 @@ module _ (w v : World) (n : ℕ) (linked : IsLinked w) (due : due_in w.trace ≡
 
   -- what is shown
   shown_still : (c : ℕ) (lines : List (List ℕ)) → shown_at w.shown c ≡ Some lines → ShowsDiskAt r c lines
-  shown_still c lines at = shows_on w.trace (happenings.Begun n) (λ c same begun_c. fresh (subst (λ (k : ℕ). HasBegun w.trace k) (cc) begun_c)) c lines (linked.held.shown.each c lines at)
+  shown_still c lines at = shows_on w.trace (happenings.Begun n) (λ c same begun_c. fresh (subst (λ (k : ℕ). CommandHasBegun w.trace k) (cc) begun_c)) c lines (linked.held.shown.each c lines at)
 
   held_at : (m : ℕ) → command ≡ commands.ShowDisk m → StandsFor (disk_at w.slots.items m) (records_at p.facts m)
   held_at m is =
@@ -216,7 +216,7 @@ module _ (w v : World) (n : ℕ) (linked : IsLinked w) (due : due_in w.trace ≡
   }
 
   -- a SHOW DISK that has begun by now is this command, or had begun before
-  begun_by : (c m : ℕ) → HasBegun r c → command_at r.asked c ≡ commands.ShowDisk m → ((n ≡ c) × (command ≡ commands.ShowDisk m)) ⊎ (is_some (shown_at w.shown c) ≡ true)
+  begun_by : (c m : ℕ) → CommandHasBegun r c → command_at r.asked c ≡ commands.ShowDisk m → ((n ≡ c) × (command ≡ commands.ShowDisk m)) ⊎ (is_some (shown_at w.shown c) ≡ true)
   begun_by c m begun_c is = elim (begun_before w.trace (happenings.Begun n) c begun_c) [
     | inl same ↦ let e : n ≡ c = cc in inl (e, ap (command_at w.trace.asked) e ∙ is)
     | inr before ↦ inr (linked.held.shown.all c m before is)

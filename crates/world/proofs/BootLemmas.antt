@@ -24,7 +24,7 @@ use Rattle.world.specs.declared.world.World.{World}
 use Rattle.world_parts.specs.Orders.{HasOrders}
 use Rattle.world.specs.Orders.{OrdersAre}
 use Rattle.world.specs.NodeSlot.{SiteIs, SitesAre, has_to_fall, site_disk, bytes_of}
-use Rattle.world.specs.Starts.{HasBegun, HasBoot, HasBooted, boot_at}
+use Rattle.world.specs.Starts.{IsStarting, HasBoot, HasBooted, boot_at}
 use Rattle.world.proofs.SlotLemmas.{SameAt, others_stay, own_and_others, same_or}
 use Rattle.world_parts.proofs.StartLemmas.{next_started}
 use Rattle.world.proofs.StepLemmas.{IsPushed, Leaves, Stands, shown_on, steps_to}
@@ -106,7 +106,7 @@ pub record Boots (n : ℕ) (w v : World) : Type 0 where
   pub boots : v.boots.items ≡ set_numbered w.boots.items n (boot_at w n)
   pub run_report : v.run_report ≡ acts (report_started w.trace.places w.run_report n (struck 3 (orders_at w.run_report n)))
 
-module _ (w v : World) (n : ℕ) (begun : HasBegun n w) (pushed : IsPushed w.trace v.trace (happenings.Started n (boot_at w n))) (leaves : Boots n w v) where
+module _ (w v : World) (n : ℕ) (begun : IsStarting n w) (pushed : IsPushed w.trace v.trace (happenings.Started n (boot_at w n))) (leaves : Boots n w v) where
   abbrev p : Past
   p = past_of w.trace
 
@@ -202,7 +202,7 @@ module _ (w v : World) (n : ℕ) (begun : HasBegun n w) (pushed : IsPushed w.tra
   }
 
 -- the number of the next start, by what is counted
-pub boot_is : (w : World) (n result : ℕ) → HasBegun n w → ((k : ℕ) → numbered w.boots.items n ≡ Some k → result ≡ k + 1) → result ≡ boot_at w n
+pub boot_is : (w : World) (n result : ℕ) → IsStarting n w → ((k : ℕ) → numbered w.boots.items n ≡ Some k → result ≡ k + 1) → result ≡ boot_at w n
 boot_is w n result begun tells =
     let inside : n ≤ length w.boots.items = subst (λ (m : ℕ). n ≤ m) (sym (ap (λ (bs : List ℕ). length bs) begun.parts.boots ∙ (length_boots (past_of w.trace).facts.records ∙ begun.counted.records))) begun.there.1 in
     let k = item_there w.boots.items n begun.there.0 inside in

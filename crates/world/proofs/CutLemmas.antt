@@ -24,7 +24,7 @@ use Rattle.run_rules.specs.Lawful.{boots}
 use Rattle.run_rules.specs.Past.{report_turned}
 use Rattle.run_rules.specs.RunReport.{Past, RunReport, orders_at}
 use Rattle.run_rules.proofs.AtNodeLemmas.{there_too}
-use Rattle.run_trace.specs.Recorded.{IsNext, past_of}
+use Rattle.run_trace.specs.Recorded.{IsDueNext, past_of}
 use Rattle.tran_ids.proofs.NumberedLemmas.{set_found, set_leaves, set_length}
 use Rattle.run_report.specs.declared.turn.TurnFacts.{TurnFacts}
 use Rattle.run_report.specs.Facts.{Cuts, KnownOfTurn}
@@ -36,7 +36,7 @@ use Rattle.world.specs.Orders.{OrdersAre}
 use Rattle.world.specs.NodeSlot.{bytes_of, site_disk}
 use Rattle.world.specs.Steps.{StepsOn}
 use Rattle.world.specs.Stops.{HasStopped, IsPowered, StopsAt}
-use Rattle.world.specs.Turns.{IsCutDuringAt, IsReported, stands_by, stood}
+use Rattle.world.specs.Turns.{IsCutDuringAt, TurnIsReported, stands_by, stood}
 use Rattle.world_parts.proofs.MailLemmas.{sent_none}
 use Rattle.world.proofs.SlotLemmas.{down_runs, same_of}
 use Rattle.world.proofs.StepLemmas.{IsPushed}
@@ -98,7 +98,7 @@ module _ (w : World) (begun : Begun) (c : CutTurn) (k : NodeState) (by : Cut_by)
         ∙ ap (λ (r : Option RedoRecord). happenings.Turn (record { node = begun.node; input = c.input; took = begun.took; wrote = r; sent = []; cut = true })) (sym wrote_is)
 
     -- it is the happening that comes next
-    pub cut_next : IsNext w.trace (happenings.Turn u)
+    pub cut_next : IsDueNext w.trace (happenings.Turn u)
     cut_next =
         turn_comes_next w.trace.places p w.trace.asked begun.node c.input begun.took k by during.under_way.due during.under_way.took during.under_way.up during.under_way.cut
         ∙ ap (λ (h : Happening). Some h) turn_is
@@ -176,9 +176,9 @@ module _ (w : World) (begun : Begun) (c : CutTurn) (k : NodeState) (by : Cut_by)
       pub stops : StopsAt begun.node w.slots.items before.slots.items
 
     module _ (x : Turn) (is : x ≡ u) (facts : TurnFacts) (known : KnownOfTurn k u o facts) (before v : World) (ready : IsCutReady before) (same : v ≡ record before { trace = v.trace; run_report = v.run_report }) where
-      told_so : IsReported x facts before v → StepsOn w v × OrdersAre v
+      told_so : TurnIsReported x facts before v → StepsOn w v × OrdersAre v
       told_so told =
-          let t : IsReported u facts before v = subst (λ (y : Turn). IsReported y facts before v) is told in
+          let t : TurnIsReported u facts before v = subst (λ (y : Turn). TurnIsReported y facts before v) is told in
           let pushed = pushed_in w.trace before.trace v.trace (happenings.Turn u) ready.trace (record { is = t.trace; past = t.past; few = t.few }) in
           let left : CutLeaves begun k u o w v = record {
             running = ap (λ (y : World). y.running) same ∙ ready.running;
@@ -194,9 +194,9 @@ module _ (w : World) (begun : Begun) (c : CutTurn) (k : NodeState) (by : Cut_by)
           (cut_moves v pushed left, cut_orders_are v pushed left)
 
       -- the world is that of the longer run
-      pub cut_steps : {T E : Type 0} (r : Result T E) → OnOk r (IsReported x facts before v) → OnOk r (StepsOn w v)
-      cut_steps r told = on_ok_weaker r (λ (t : IsReported x facts before v). (told_so t).0) told
+      pub cut_steps : {T E : Type 0} (r : Result T E) → OnOk r (TurnIsReported x facts before v) → OnOk r (StepsOn w v)
+      cut_steps r told = on_ok_weaker r (λ (t : TurnIsReported x facts before v). (told_so t).0) told
 
       -- and so are the orders on the disks
-      pub cut_keeps_orders : {T E : Type 0} (r : Result T E) → OnOk r (IsReported x facts before v) → OnOk r (OrdersAre v)
-      cut_keeps_orders r told = on_ok_weaker r (λ (t : IsReported x facts before v). (told_so t).1) told
+      pub cut_keeps_orders : {T E : Type 0} (r : Result T E) → OnOk r (TurnIsReported x facts before v) → OnOk r (OrdersAre v)
+      cut_keeps_orders r told = on_ok_weaker r (λ (t : TurnIsReported x facts before v). (told_so t).1) told

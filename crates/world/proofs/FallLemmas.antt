@@ -21,7 +21,7 @@ use Rattle.run_rules.specs.Lawful.{IsNode}
 use Rattle.run_rules.specs.Past.{acts, failed_start, falls_if, start_refused, report_started}
 use Rattle.run_rules.specs.RunReport.{Past, RunReport, orders_at}
 use Rattle.run_rules.proofs.AtNodeLemmas.{item_there}
-use Rattle.run_trace.specs.Recorded.{RunSoFar, IsNext, past_of}
+use Rattle.run_trace.specs.Recorded.{RunSoFar, IsDueNext, past_of}
 use Rattle.world.specs.declared.slot.NodeSlot.{NodeSlot}
 use Rattle.world.specs.declared.world.World.{World}
 use Rattle.world.specs.Halts.{HasHalted}
@@ -30,7 +30,7 @@ use Rattle.world.specs.Needs.{DueNodesAreThere, EachStartsSeldom, due_in}
 use Rattle.world_parts.specs.Orders.{HasOrders, OrdersLeft}
 use Rattle.world.specs.Orders.{OrdersAre, OtherOrdersAre}
 use Rattle.world.specs.NodeSlot.{has_to_fall, site_disk}
-use Rattle.world.specs.Starts.{HasBegun, HasBooted, IsTriedAt, boot_at}
+use Rattle.world.specs.Starts.{IsStarting, HasBooted, IsTriedAt, boot_at}
 use Rattle.world.specs.Steps.{StepsOn, StepsTo}
 use Rattle.world_parts.proofs.BegunLemmas.{falls_owed, starts_down, starts_settled, stops_command}
 use Rattle.world.proofs.BootLemmas.{counted_elsewhere, counted_here, other_falls}
@@ -94,7 +94,7 @@ never : (b c : Bool) → (b && (false && c)) ≡ false
 never true c = refl
 never false c = refl
 
-module _ (w v : World) (n : ℕ) (begun : HasBegun n w) (due : due_in w.trace ≡ Starts n) (booted : HasBooted n w v) where
+module _ (w v : World) (n : ℕ) (begun : IsStarting n w) (due : due_in w.trace ≡ Starts n) (booted : HasBooted n w v) where
   abbrev p1 : Past
   p1 = past_of w.trace
 
@@ -124,7 +124,7 @@ module _ (w v : World) (n : ℕ) (begun : HasBegun n w) (due : due_in w.trace �
   pub booted_only : OnlyFalls (past_of v.trace) n
   booted_only m other = ap (λ (x : Past). has_to_fall x.run_report.start_to_stop m) past_is ∙ other_falls strike n m other
 
-  pub booted_next : (strike ≡ None → ⊥) → IsNext v.trace (happenings.Stopped n)
+  pub booted_next : (strike ≡ None → ⊥) → IsDueNext v.trace (happenings.Stopped n)
   booted_next struck_so =
       let settled = starts_settled w.trace.asked p1 n due in
       let falls : due_of v.trace.asked (past_of v.trace) ≡ Falls n = ap (λ (x : Past). due_of v.trace.asked x) past_is ∙ due_falls v.trace.asked q n (struck_falls strike n struck_so) settled.1 settled.0 in
@@ -168,7 +168,7 @@ steps_from w v u same steps = record {
 }
 
 -- a start that no order struck
-pub booted_on : (w v u : World) (n : ℕ) → v.trace ≡ w.trace → HasBegun n v → due_in v.trace ≡ Starts n → HasBooted n v u → struck 3 (orders_at (past_of v.trace).run_report n) ≡ None → StepsOn w u
+pub booted_on : (w v u : World) (n : ℕ) → v.trace ≡ w.trace → IsStarting n v → due_in v.trace ≡ Starts n → HasBooted n v u → struck 3 (orders_at (past_of v.trace).run_report n) ≡ None → StepsOn w u
 booted_on w v u n same begun due booted none =
     steps_from w v u same (record { linked = record { held = booted.steps.held; upright = booted_upright v u n begun due booted none }; longer = booted.steps.longer; few = booted.steps.few })
 

@@ -1,4 +1,4 @@
--- What is left of a world where memory ran out can be told, also in the midst of the begin of a command.
+-- What is left of a world where memory ran out can be all_lines, also in the midst of the begin of a command.
 use Rattle.std.proofs.Common.{◌≡◌, inl, inr, ◌==◌, ◌+◌, ◌≤◌, ℕ, Bool, true, false, if◌then◌else◌, List, [], ◌∷◌, ◌++◌, map, Option, Some, None, Result, Ok, Err, OnErr, refl, ap, sym, subst, ◌∙◌, arith}
 use Rattle.std.specs.List.{AllByRecursion}
 use Rattle.std.proofs.lemmas.Bool.{eqb-true}
@@ -6,8 +6,8 @@ use Rattle.run_rules.specs.Data.{AnswerLine, Command, Happening}
 use Rattle.run_rules.specs.Data.happenings
 use Rattle.run_rules.specs.Commands.{begins}
 use Rattle.run_rules.specs.Due.{Begins, Due}
-use Rattle.run_rules.specs.Reported.{IsBetween}
-use Rattle.run_rules.specs.Lines.{told}
+use Rattle.run_rules.specs.Reported.{IsBetweenCommands}
+use Rattle.run_rules.specs.Lines.{all_lines}
 use Rattle.run_rules.specs.Past.{next}
 use Rattle.run_rules.specs.Shown.{shown_disk}
 use Rattle.run_rules.specs.RunReport.{Past, RunReport}
@@ -16,7 +16,7 @@ use Rattle.run_trace.specs.Recorded.{RunSoFar, IsRunOfScript, past_of}
 use Rattle.world.specs.declared.world.World.{World}
 use Rattle.world.specs.Needs.{due_in}
 use Rattle.world.specs.Left.{IsLeft, LinesStay, StillReports}
-use Rattle.world.specs.Linked.{IsHeld, IsLinked}
+use Rattle.world.specs.Linked.{HoldsRun, IsLinked}
 use Rattle.world_parts.specs.Shown.{ShowDisks, Shown, disk_reported, is_place, shown_at, showing}
 use Rattle.world.specs.Slots.{MayShow, ShowsAfter, shows_of}
 use Rattle.world_parts.proofs.BegunLemmas.{begins_next_command}
@@ -26,7 +26,7 @@ use Rattle.world.proofs.StepLemmas.{all_on}
 
 -- ---- the lines of the commands before
 
-pub held_still : (w : World) → IsHeld w → StillReports w
+pub held_still : (w : World) → HoldsRun w → StillReports w
 held_still w held = record { lines = ap (λ (t : RunReport). t.lines) held.parts.run_report; shown = held.shown }
 
 pub linked_still : (w : World) → IsLinked w → StillReports w
@@ -57,7 +57,7 @@ still_left w still = inl still
 
 -- ---- in the midst of the begin of a command
 
--- the lines of other commands are told alike
+-- the lines of other commands are all_lines alike
 alike_but : (n : ℕ) (before now : Shown) → ((c : ℕ) → n == c ≡ false → shown_at now c ≡ shown_at before c)
     → (lines : List AnswerLine) → AllByRecursion (λ (l : AnswerLine). n == l.command ≡ false) lines → map (disk_reported now) lines ≡ map (disk_reported before) lines
 alike_but n before now others [] all = refl
@@ -84,16 +84,16 @@ pub begin_left : (w v : World) (n : ℕ) (x : Command) → IsLinked w → due_in
     → v.run_report ≡ begins w.trace.places (past_of w.trace).facts (past_of w.trace).run_report n x → ((c : ℕ) → n == c ≡ false → shown_at v.shown c ≡ shown_at w.shown c) → IsLeft v
 begin_left w v n x linked due trace run_report others =
     let p : Past = past_of w.trace in
-    let lines : v.run_report.lines ≡ told p.facts p.run_report = ap (λ (t : RunReport). t.lines) run_report in
+    let lines : v.run_report.lines ≡ all_lines p.facts p.run_report = ap (λ (t : RunReport). t.lines) run_report in
     let below = reported_of (λ c. c ≤ p.facts.command) p (run_numbered w.trace linked.held.script.run).is in
     let next_is : n ≡ p.facts.command + 1 = begins_next_command w.trace.asked p n due in
-    let apart = all_weaker (λ (l : AnswerLine). l.command ≤ p.facts.command) (λ (l : AnswerLine). n == l.command ≡ false) (λ l less. differs n l.command p.facts.command less next_is) (told p.facts p.run_report) below in
+    let apart = all_weaker (λ (l : AnswerLine). l.command ≤ p.facts.command) (λ (l : AnswerLine). n == l.command ≡ false) (λ l less. differs n l.command p.facts.command less next_is) (all_lines p.facts p.run_report) below in
     inr (record {
-      between = subst (λ (r : RunSoFar). IsBetween (due_in r)) (sym trace) (subst (λ (d : Due). IsBetween d) (sym due) tt);
-      lines = lines ∙ ap (λ (r : RunSoFar). told (past_of r).facts (past_of r).run_report) (sym trace);
+      between = subst (λ (r : RunSoFar). IsBetweenCommands (due_in r)) (sym trace) (subst (λ (d : Due). IsBetweenCommands d) (sym due) tt);
+      lines = lines ∙ ap (λ (r : RunSoFar). all_lines (past_of r).facts (past_of r).run_report) (sym trace);
       before = w.shown;
       shown = subst (λ (r : RunSoFar). ShowDisks r w.shown) (sym trace) linked.held.shown;
-      alike = subst (λ (ls : List AnswerLine). map (disk_reported v.shown) ls ≡ map (disk_reported w.shown) ls) (sym lines) (alike_but n w.shown v.shown others (told p.facts p.run_report) apart);
+      alike = subst (λ (ls : List AnswerLine). map (disk_reported v.shown) ls ≡ map (disk_reported w.shown) ls) (sym lines) (alike_but n w.shown v.shown others (all_lines p.facts p.run_report) apart);
     })
 
 -- what holds in any case holds of an error

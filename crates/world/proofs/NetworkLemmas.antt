@@ -8,7 +8,7 @@ use Rattle.run_rules.specs.Facts.{others}
 use Rattle.run_rules.specs.RunReport.{Past}
 use Rattle.run_rules.specs.Past.{next, acts}
 use Rattle.run_rules.specs.Facts.{facts_after}
-use Rattle.run_trace.specs.Recorded.{IsNext, past_of}
+use Rattle.run_trace.specs.Recorded.{IsDueNext, past_of}
 use Rattle.world.specs.declared.slot.NodeSlot.{NodeSlot}
 use Rattle.world.specs.declared.world.World.{World}
 use Rattle.world.specs.Needs.{due_in}
@@ -70,7 +70,7 @@ module _ (w v : World) (linked : IsLinked w) (keeps : Keeps w v) (acted : v.run_
   p = past_of w.trace
 
   -- facts that differ in the network and in the losses to tell
-  module _ (h : Happening) (due : IsNext w.trace h) (pushed : IsPushed w.trace v.trace h) (net : Net) (losses : List ℕ)
+  module _ (h : Happening) (due : IsDueNext w.trace h) (pushed : IsPushed w.trace v.trace h) (net : Net) (losses : List ℕ)
       (is : next w.trace.places w.trace.asked p h ≡ record { facts = record p.facts { net = net; losses_to_report = losses }; run_report = acts p.run_report })
       (other : (c : ℕ) → h ≡ happenings.Begun c → ⊥) (net_is : v.net ≡ net) (losses_are : v.losses.items ≡ losses) where
     abbrev q : Past

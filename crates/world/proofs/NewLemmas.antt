@@ -15,7 +15,7 @@ use Rattle.world.specs.declared.world.World.{World}
 use Rattle.world.specs.Linked.{IsLinked, PartsAre}
 use Rattle.run_spell_laws.specs.ByteRuns.{AsksSpelled}
 use Rattle.world.specs.Needs.{IsOfScript}
-use Rattle.world_parts.specs.Shown.{HasBegun, ShowDisks, Shown}
+use Rattle.world_parts.specs.Shown.{CommandHasBegun, ShowDisks, Shown}
 use Rattle.world.specs.NodeSlot.{SitesAre}
 use Rattle.world.specs.Slots.{AreMade}
 use Rattle.node_rules.specs.Words.{numbered}
@@ -39,7 +39,7 @@ module _ (places : List Place) (commands : List Command) where
   is_run = tt
 
   -- no command has begun
-  none_begun : (c : ℕ) → HasBegun r c → ⊥
+  none_begun : (c : ℕ) → CommandHasBegun r c → ⊥
   none_begun c ([], later, is) = absurd cc
   none_begun c (x ∷ before, later, is) = absurd cc
 

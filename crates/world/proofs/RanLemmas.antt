@@ -1,12 +1,12 @@
--- What a world that is left tells is what is to be told of its run.
+-- What a world that is left tells is what is to be all_lines of its run.
 use Rattle.std.proofs.Common.{◌≡◌, inl, inr, List, map, ap, sym, subst, ◌∙◌}
 use Rattle.node_rules.specs.Data.{Place}
 use Rattle.run_rules.specs.Data.{AnswerLine, Command, Happening}
 use Rattle.run_rules.specs.Due.{Due, Ends}
 use Rattle.run_rules.specs.Entries.{book_of}
-use Rattle.run_rules.specs.Reported.{IsBetween, IsReported, LinesAre}
+use Rattle.run_rules.specs.Reported.{IsBetweenCommands, IsReported, LinesAre}
 use Rattle.run_rules.specs.Lawful.{AreOfAScript}
-use Rattle.run_rules.specs.Lines.{told}
+use Rattle.run_rules.specs.Lines.{all_lines}
 use Rattle.run_trace.specs.Recorded.{RunSoFar, IsRunOfScript, past_of}
 use Rattle.world.specs.declared.ran.Ended.{Ended}
 use Rattle.world.specs.declared.ran.Ended.TheVariants.{AllRun, OutOfMemory}
@@ -34,7 +34,7 @@ once_of AllRun w run left = between_once w run left.1
 once_of OutOfMemory w run (inl still) = still_once w run still
 once_of OutOfMemory w run (inr between) = between_once w run between
 
--- ---- what is told
+-- ---- what is all_lines
 
 module _ (w : World) (script : AreOfAScript w.trace.places w.trace.asked) where
   still_told : StillReports w → LinesAre (history_of w.trace script) (past_of w.trace).run_report.lines (map (disk_reported w.shown) w.run_report.lines)
@@ -42,10 +42,10 @@ module _ (w : World) (script : AreOfAScript w.trace.places w.trace.asked) where
       subst (λ (ls : List AnswerLine). LinesAre (history_of w.trace script) (past_of w.trace).run_report.lines (map (disk_reported w.shown) ls)) (sym still.lines)
       (before_are w.trace script w.shown still.shown)
 
-  between_told : ReportsBetween w → LinesAre (history_of w.trace script) (told (past_of w.trace).facts (past_of w.trace).run_report) (map (disk_reported w.shown) w.run_report.lines)
+  between_told : ReportsBetween w → LinesAre (history_of w.trace script) (all_lines (past_of w.trace).facts (past_of w.trace).run_report) (map (disk_reported w.shown) w.run_report.lines)
   between_told between =
-      subst (λ (ls : List AnswerLine). LinesAre (history_of w.trace script) (told (past_of w.trace).facts (past_of w.trace).run_report) ls) (sym between.alike)
-      (subst (λ (ls : List AnswerLine). LinesAre (history_of w.trace script) (told (past_of w.trace).facts (past_of w.trace).run_report) (map (disk_reported between.before) ls)) (sym between.lines)
+      subst (λ (ls : List AnswerLine). LinesAre (history_of w.trace script) (all_lines (past_of w.trace).facts (past_of w.trace).run_report) ls) (sym between.alike)
+      (subst (λ (ls : List AnswerLine). LinesAre (history_of w.trace script) (all_lines (past_of w.trace).facts (past_of w.trace).run_report) (map (disk_reported between.before) ls)) (sym between.lines)
       (told_are w.trace script between.before between.shown))
 
   left_told : (ended : Ended) → IsLeftBy ended w → IsReported (history_of w.trace script) (map (disk_reported w.shown) w.run_report.lines) (as_ending ended)
@@ -69,19 +69,19 @@ is_ran w ran places asked happenings book run answers left pending =
     record {
       due = subst (λ (r : RunSoFar). IsRunOfScript r) same run;
       booked = book ∙ ap book_of (sym happenings);
-      told = subst (λ (r : RunSoFar). (script : AreOfAScript r.places r.asked) → IsReported (history_of r script) ran.answers (as_ending ran.ended)) same
+      all_lines = subst (λ (r : RunSoFar). (script : AreOfAScript r.places r.asked) → IsReported (history_of r script) ran.answers (as_ending ran.ended)) same
           (λ script. subst (λ (ls : List AnswerLine). IsReported (history_of w.trace script) ls (as_ending ran.ended)) (sym answers) (left_told w script ran.ended left));
       pending = subst (λ (r : RunSoFar). ran.ended ≡ AllRun → ran.pending ≡ pending_in (past_of r).facts) same pending;
     }
 
 -- ---- the end of a script
 
-pub ends_between : (w v : World) → IsLinked w → due_in w.trace ≡ Ends → v.trace ≡ w.trace → v.shown ≡ w.shown → v.run_report.lines ≡ told (past_of w.trace).facts w.run_report → IsLeftBy AllRun v
+pub ends_between : (w v : World) → IsLinked w → due_in w.trace ≡ Ends → v.trace ≡ w.trace → v.shown ≡ w.shown → v.run_report.lines ≡ all_lines (past_of w.trace).facts w.run_report → IsLeftBy AllRun v
 ends_between w v linked ends trace shown lines = (
   ap due_in trace ∙ ends,
   record {
-    between = subst (λ (d : Due). IsBetween d) (sym (ap due_in trace ∙ ends)) tt;
-    lines = lines ∙ (ap (λ t. told (past_of w.trace).facts t) linked.held.parts.run_report ∙ ap (λ (r : RunSoFar). told (past_of r).facts (past_of r).run_report) (sym trace));
+    between = subst (λ (d : Due). IsBetweenCommands d) (sym (ap due_in trace ∙ ends)) tt;
+    lines = lines ∙ (ap (λ t. all_lines (past_of w.trace).facts t) linked.held.parts.run_report ∙ ap (λ (r : RunSoFar). all_lines (past_of r).facts (past_of r).run_report) (sym trace));
     before = w.shown;
     shown = subst (λ (r : RunSoFar). ShowDisks r w.shown) (sym trace) linked.held.shown;
     alike = ap (λ (s : Shown). map (disk_reported s) v.run_report.lines) shown;

@@ -26,7 +26,7 @@ use Rattle.node_disk.specs.Starts.{CanBeStarted}
 use Rattle.node_disk.specs.declared.err.TurnErr.TheVariants as errs
 use Rattle.node_disk.specs.Cuts.{CutByPlan, CutStands, CutStores, IsTried, Stops, stops}
 use Rattle.redo_log.specs.Stands.{stands_by as stands_by_plan}
-use Rattle.node_disk.specs.Effects.{Tells, TellsPasses, GoesUncut, ReachesNone}
+use Rattle.node_disk.specs.Effects.{Tells, TellsPasses, GoesUncut, ReachesNone, IsMailed}
 use Rattle.node_disk.specs.Incoming.{IsReadAs}
 use Rattle.node_disk.specs.OnDisk.{disk_of, kept_of, place_of, turn_calls, IsSpellable, HoldsNext}
 use Rattle.run_rules.specs.Cuts.{Cut_by, By_nothing, By_point, By_strike, cut_append, cut_before, cut_by}
@@ -35,10 +35,9 @@ use Rattle.run_rules.specs.RunReport.{RunReport, orders_at}
 use Rattle.world.specs.declared.slot.NodeSlot.{NodeSlot}
 use Rattle.world.specs.declared.slot.NodeSlot.TheVariants.{Up, Down}
 use Rattle.world_parts.specs.Orders.{HasOrders, OrdersLeft, cut_orders, orders_if}
-use Rattle.world.specs.Mail.{IsMailed}
 use Rattle.world.specs.Served.{CanServe, HasFailed, HasServed, NodeFailed, NodeServed}
 use Rattle.world.specs.NodeSlot.{RunsAt, bytes_of, images_of, site_disk, site_kept}
-use Rattle.world.specs.Turns.{ReportsAll, stands_by, stood}
+use Rattle.world.specs.Turns.{ReportsWholeTurn, stands_by, stood}
 use Rattle.world.proofs.SlotLemmas.{same_of}
 use Rattle.world_parts.proofs.PlanLemmas.{no_strike, one_strike, same_plan, spared}
 
@@ -157,7 +156,7 @@ none_after points k input o x none is reached = none_sent points k o.sent x (sym
 -- What a whole turn was, of a node that kept this.
 pub record WasWhole (t : RunReport) (n : ℕ) (place : Place) (k : NodeState) (incoming : Incoming) (rs : List RedoRecord) (e : DurableTurn) (slot : NodeSlot) : Type 0 where
   pub input : IsReadAs incoming e.input
-  pub tells : ReportsAll (turn_of place k e.input) e
+  pub tells : ReportsWholeTurn (turn_of place k e.input) e
   pub passed : TellsPasses k (turn_of place k e.input) e
   pub mailed : AllByRecursion IsMailed e.sent
   pub cut : cut_by t n k e.input (turn_of place k e.input) ≡ By_nothing

@@ -23,7 +23,7 @@ use Rattle.world.specs.declared.slot.NodeSlot.TheVariants.{Up}
 use Rattle.world_parts.specs.Orders.{HasOrders, OrdersLeft, orders_as, stop_as}
 use Rattle.world.specs.NodeSlot.{site_kept, site_disk, bytes_of, images_of}
 use Rattle.world_parts.specs.Orders.{stands_in}
-use Rattle.world.specs.Started.{IsTried}
+use Rattle.world.specs.Started.{StartIsTried}
 use Rattle.world_parts.proofs.CallRuns.{looks}
 use Rattle.world_parts.proofs.StartOrders.{GoAs, some_plan, start_goes, start_stands}
 use Rattle.world.proofs.SlotLemmas.{down_runs}
@@ -65,7 +65,7 @@ module _ (place : Place) (disk : DiskState) (d : DiskOrders) (rs : List RedoReco
   -- no order struck, and the node is up
   pub tried_up : (node : Node DiskState) → kept_of node ≡ start_of (rs ++ next_boot rs ∷ []) → place_of node ≡ place → HoldRecords (rs ++ next_boot rs ∷ []) (bytes_of (disk_of node))
       → IsRunning bytes_of images_of node → CanBeStarted bytes_of images_of (disk_of node)
-      → CallsGoByPlan (load_calls (bytes_of disk) ++ append_calls) (Some (plan_of disk.orders)) (Some (plan_of (disk_of node).orders)) false → IsTried place d rs (Up node)
+      → CallsGoByPlan (load_calls (bytes_of disk) ++ append_calls) (Some (plan_of disk.orders)) (Some (plan_of (disk_of node).orders)) false → StartIsTried place d rs (Up node)
   tried_up node kept at stored running starts goes =
       let go = goes_by (disk_of node).orders false goes in
       let none : struck 3 d ≡ None = struck_none (struck 3 d) go.struck in
@@ -79,7 +79,7 @@ module _ (place : Place) (disk : DiskState) (d : DiskOrders) (rs : List RedoReco
 
   -- an order struck, and the disk is left, with the power on again
   pub tried_down : (left : DiskState) (now : NodeSlot) → site_kept now ≡ None → bytes_of (site_disk now) ≡ bytes_of left → CanBeStarted bytes_of images_of (site_disk now) → (site_disk now).orders ≡ powered left.orders
-      → CallsGoByPlan (load_calls (bytes_of disk) ++ append_calls) (Some (plan_of disk.orders)) (Some (plan_of left.orders)) true → StartIsLeft (Some (plan_of disk.orders)) (bytes_of disk) (bytes_of left) → IsTried place d rs now
+      → CallsGoByPlan (load_calls (bytes_of disk) ++ append_calls) (Some (plan_of disk.orders)) (Some (plan_of left.orders)) true → StartIsLeft (Some (plan_of disk.orders)) (bytes_of disk) (bytes_of left) → StartIsTried place d rs now
   tried_down left now down same starts power goes stands =
       let go = goes_by left.orders true goes in
       let stood : stands_after (load_calls (bytes_of disk)) (plan_of disk.orders) ≡ stands_in (struck 3 d) =

@@ -6,11 +6,11 @@ use Rattle.run_rules.specs.Data.happenings
 use Rattle.run_rules.specs.RunReport.{Past, start}
 use Rattle.run_rules.specs.Past.{next, past}
 use Rattle.run_rules.specs.Due.{IsTheRun, comes_next}
-use Rattle.run_trace.specs.Recorded.{RunSoFar, IsNext, happening_limit, past_of}
+use Rattle.run_trace.specs.Recorded.{RunSoFar, IsDueNext, happening_limit, past_of}
 use Rattle.world.specs.declared.world.World.{World}
 use Rattle.world.specs.Needs.{IsOfScript}
-use Rattle.world.specs.Linked.{AreCounted, IsHeld, PartsAre}
-use Rattle.world_parts.specs.Shown.{HasBegun, ShowDisks, Shown, ShowsDiskAt}
+use Rattle.world.specs.Linked.{CountsAgree, HoldsRun, PartsAre}
+use Rattle.world_parts.specs.Shown.{CommandHasBegun, ShowDisks, Shown, ShowsDiskAt}
 use Rattle.world.specs.NodeSlot.{SitesAre}
 use Rattle.world.specs.Steps.{StepsOn, StepsTo}
 
@@ -37,11 +37,11 @@ split_end (x ∷ xs) [] later h g is = inr (xs, cc)
 split_end (x ∷ xs) (b ∷ bs) later h g is = elim (split_end xs bs later h g cc) [ inl same ↦ inl (same.0, cc) | inr more ↦ inr (more.0, cc) ]
 
 -- what has begun has begun still
-begun_on : (r : RunSoFar) (h : Happening) (c : ℕ) → HasBegun r c → HasBegun (record r { happenings = r.happenings ++ h ∷ [] }) c
+begun_on : (r : RunSoFar) (h : Happening) (c : ℕ) → CommandHasBegun r c → CommandHasBegun (record r { happenings = r.happenings ++ h ∷ [] }) c
 begun_on r h c begun = (begun.0, begun.1 ++ h ∷ [], ap (λ (hs : List Happening). hs ++ h ∷ []) begun.2 ∙ append_assoc begun.0 (happenings.Begun c ∷ begun.1) (h ∷ []))
 
 -- what is shown stays shown, where no command begins again
-pub shows_on : (r : RunSoFar) (h : Happening) → ((c : ℕ) → h ≡ happenings.Begun c → HasBegun r c → ⊥) → (c : ℕ) (lines : List (List ℕ)) → ShowsDiskAt r c lines
+pub shows_on : (r : RunSoFar) (h : Happening) → ((c : ℕ) → h ≡ happenings.Begun c → CommandHasBegun r c → ⊥) → (c : ℕ) (lines : List (List ℕ)) → ShowsDiskAt r c lines
     → ShowsDiskAt (record r { happenings = r.happenings ++ h ∷ [] }) c lines
 shows_on r h other c lines is = record {
   begun = begun_on r h c is.begun;
@@ -53,7 +53,7 @@ shows_on r h other c lines is = record {
 }
 
 -- what has begun by now had begun before, or begins
-pub begun_before : (r : RunSoFar) (h : Happening) (c : ℕ) → HasBegun (record r { happenings = r.happenings ++ h ∷ [] }) c → (h ≡ happenings.Begun c) ⊎ HasBegun r c
+pub begun_before : (r : RunSoFar) (h : Happening) (c : ℕ) → CommandHasBegun (record r { happenings = r.happenings ++ h ∷ [] }) c → (h ≡ happenings.Begun c) ⊎ CommandHasBegun r c
 begun_before r h c begun = elim (split_end r.happenings begun.0 begun.1 h (happenings.Begun c) begun.2) [ inl same ↦ inl same.0 | inr more ↦ inr (begun.0, more.0, more.1) ]
 
 -- so it is with all disks that were shown, where no command begins
@@ -73,13 +73,13 @@ run_push places commands p (g ∷ hs) h run due = (run.0, run_push places comman
 -- What stands of the world also in the midst of a turn or a start.
 pub record Stands (w : World) : Type 0 where
   pub script : IsOfScript w.trace
-  pub counted : AreCounted w
+  pub counted : CountsAgree w
   pub shown : ShowDisks w.trace w.shown
 
-pub stands_of : (w : World) → IsHeld w → Stands w
+pub stands_of : (w : World) → HoldsRun w → Stands w
 stands_of w held = record { script = held.script; counted = held.counted; shown = held.shown }
 
-module _ (w v : World) (h : Happening) (held : Stands w) (due : IsNext w.trace h) (pushed : IsPushed w.trace v.trace h) where
+module _ (w v : World) (h : Happening) (held : Stands w) (due : IsDueNext w.trace h) (pushed : IsPushed w.trace v.trace h) where
   places_stay : v.trace.places ≡ w.trace.places
   places_stay = ap (λ (r : RunSoFar). r.places) pushed.is
 
@@ -102,7 +102,7 @@ module _ (w v : World) (h : Happening) (held : Stands w) (due : IsNext w.trace h
       subst (λ (r : RunSoFar). ShowDisks r v.shown) (sym pushed.is)
       (subst (λ (ds : Shown). ShowDisks (record w.trace { happenings = w.trace.happenings ++ h ∷ [] }) ds) (sym same) (all_on w.trace h other w.shown held.shown))
 
-  pub held_on : ShowDisks v.trace v.shown → Leaves w v (next w.trace.places w.trace.asked (past_of w.trace) h) → IsHeld v
+  pub held_on : ShowDisks v.trace v.shown → Leaves w v (next w.trace.places w.trace.asked (past_of w.trace) h) → HoldsRun v
   held_on shown leaves = record {
     script = script_on;
     parts = subst (λ (q : Past). PartsAre q v) (sym pushed.past) leaves.parts;

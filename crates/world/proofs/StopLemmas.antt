@@ -13,12 +13,12 @@ use Rattle.node_rules.specs.Words.{numbered}
 use Rattle.tran_ids.proofs.NumberedLemmas.{set_found, set_leaves, set_length}
 use Rattle.run_rules.specs.Facts.{flat, node_at, place_at, records_at}
 use Rattle.run_rules.proofs.AtNodeLemmas.{there_too}
-use Rattle.run_trace.specs.Recorded.{RunSoFar, IsNext, past_of}
+use Rattle.run_trace.specs.Recorded.{RunSoFar, IsDueNext, past_of}
 use Rattle.world.specs.declared.slot.NodeSlot.{NodeSlot}
 use Rattle.world.specs.declared.world.World.{World}
 use Rattle.run_rules.specs.Lawful.{IsNode}
 use Rattle.world.specs.Needs.{DueNodesAreThere, NamesNodes, IsOfScript, due_in}
-use Rattle.world.specs.Linked.{IsHeld, IsLinked, OnlyFalls}
+use Rattle.world.specs.Linked.{HoldsRun, IsLinked, OnlyFalls}
 use Rattle.world.specs.NodeSlot.{SiteIs, SitesAre, has_to_fall, up_at}
 use Rattle.world.specs.Steps.{StepsOn}
 use Rattle.world.specs.Stops.{HasStopped}
@@ -53,7 +53,7 @@ pub record Halts (n : ℕ) (w v : World) : Type 0 where
   pub losses : v.losses.items ≡ lost_by_stop w.net n
   pub run_report : v.run_report ≡ acts (report_stopped w.trace.places w.trace.asked (past_of w.trace).facts (past_of w.trace).run_report n)
 
-module _ (w v : World) (n : ℕ) (held : IsHeld w) (due : IsNext w.trace (happenings.Stopped n)) (pushed : IsPushed w.trace v.trace (happenings.Stopped n)) (only : OnlyFalls (past_of w.trace) n)
+module _ (w v : World) (n : ℕ) (held : HoldsRun w) (due : IsDueNext w.trace (happenings.Stopped n)) (pushed : IsPushed w.trace v.trace (happenings.Stopped n)) (only : OnlyFalls (past_of w.trace) n)
     (halts : Halts n w v) (old new : NodeSlot) (there : numbered w.slots.items n ≡ Some old) (has : HasStopped old new) (set : v.slots.items ≡ set_numbered w.slots.items n new) where
   abbrev p : Past
   p = past_of w.trace

@@ -36,7 +36,7 @@ use Rattle.world.specs.Needs.{CanTake, DueTurnsCanBeTaken}
 use Rattle.world.specs.Served.{CanServe, HasFailed, HasServed}
 use Rattle.world.specs.NodeSlot.{SiteIs, site_kept}
 use Rattle.world.specs.Steps.{StepsOn}
-use Rattle.world.specs.Turns.{CallerAt, CallerIs, CallerOf, IsComingDue, IsCutDuring, IsCutDuringAt, IsCutOff, IsCutShort, IsDuring, IsDuringAt, IsReadied, IsTurned, IsUnderWay}
+use Rattle.world.specs.Turns.{CallerAt, CallerIs, CallerOf, IsComingDue, IsCutDuring, IsCutDuringAt, IsCutOff, IsCutShort, IsDuring, IsDuringAt, IsReadied, IsTurned, TurnIsUnderWay}
 use Rattle.world.proofs.DueLemmas.{kept_is, kept_there}
 use Rattle.world.proofs.ServeLemmas.{can_serve, site_cut, site_whole}
 use Rattle.world.proofs.SlotLemmas.{same_of}
@@ -122,8 +122,8 @@ module _ (w v : World) (begun : Begun) (incoming : Incoming) (ready : IsReadied 
   left m other = ap (λ (slots : List NodeSlot). numbered slots m) set ∙ set_leaves w.slots.items begun.node m new other
 
   -- the node has taken its turn, which this cuts
-  taken_so : (input : Input) → IsReadAs incoming input → (by : Cut_by) → cut_by past_now.run_report begun.node keeps input (turn_of at keeps input) ≡ by → IsUnderWay begun input keeps v by
-  taken_so input read by cut = subst (λ (x : World). IsUnderWay begun input keeps x by) (sym same) (record {
+  taken_so : (input : Input) → IsReadAs incoming input → (by : Cut_by) → cut_by past_now.run_report begun.node keeps input (turn_of at keeps input) ≡ by → TurnIsUnderWay begun input keeps v by
+  taken_so input read by cut = subst (λ (x : World). TurnIsUnderWay begun input keeps x by) (sym same) (record {
     script = ready.linked.held.script;
     parts = record {
       running = ready.linked.held.parts.running;
@@ -166,7 +166,7 @@ module _ (w v : World) (begun : Begun) (incoming : Incoming) (ready : IsReadied 
       let was = site_whole past_now.run_report begun.node at keeps incoming (records_at past_now.facts begun.node) w.run_report.points (ap (λ t. t.points) ready.linked.held.parts.run_report)
       old new e is_old.runs kept_old is_old.holds (ready.orders begun.node old found) served in
       let during : IsDuringAt begun e v keeps = subst (λ (x : World). IsDuringAt begun e x keeps) (sym same) (record {
-        under_way = subst (λ (x : World). IsUnderWay begun e.input keeps x By_nothing) same (taken_so e.input was.input By_nothing was.cut);
+        under_way = subst (λ (x : World). TurnIsUnderWay begun e.input keeps x By_nothing) same (taken_so e.input was.input By_nothing was.cut);
         tells = was.tells;
         passed = was.passed;
         mailed = was.mailed;
@@ -183,7 +183,7 @@ module _ (w v : World) (begun : Begun) (incoming : Incoming) (ready : IsReadied 
       let by : Cut_by = found_by.0 in
       let was = found_by.1 in
       let during : IsCutDuringAt begun c v keeps by = subst (λ (x : World). IsCutDuringAt begun c x keeps by) (sym same) (record {
-        under_way = subst (λ (x : World). IsUnderWay begun c.input keeps x by) same (taken_so c.input was.input by was.cut);
+        under_way = subst (λ (x : World). TurnIsUnderWay begun c.input keeps x by) same (taken_so c.input was.input by was.cut);
         is_cut = was.is_cut;
         tried = was.tried;
         passed = was.passed;

@@ -16,16 +16,16 @@ use Rattle.run_rules.specs.Facts.{node_at, place_at, records_at, with_boot}
 use Rattle.run_rules.specs.Lawful.{IsNode, boots}
 use Rattle.run_rules.specs.RunReport.{Past, RunReport, orders_at}
 use Rattle.run_rules.proofs.AtNodeLemmas.{item_there}
-use Rattle.run_trace.specs.Recorded.{IsNext, past_of}
+use Rattle.run_trace.specs.Recorded.{IsDueNext, past_of}
 use Rattle.world.specs.declared.slot.NodeSlot.{NodeSlot}
 use Rattle.world.specs.declared.world.World.{World}
 use Rattle.world.specs.Needs.{DueNodesAreThere, EachStartsSeldom, NamesNodes, due_in}
-use Rattle.world.specs.Linked.{IsHeld, IsLinked}
+use Rattle.world.specs.Linked.{HoldsRun, IsLinked}
 use Rattle.world.specs.Orders.{OrdersAre}
 use Rattle.world.specs.NodeSlot.{SiteIs, has_to_fall, up_at, site_disk, bytes_of}
 use Rattle.world_parts.specs.Orders.{stands_in}
-use Rattle.world.specs.Started.{CanStart, IsTried, TriedFrom, TriesAt}
-use Rattle.world.specs.Starts.{HasBegun, IsTriedAt, boot_at}
+use Rattle.world.specs.Started.{CanStart, StartIsTried, TriedFrom, TriesAt}
+use Rattle.world.specs.Starts.{IsStarting, IsTriedAt, boot_at}
 use Rattle.world_parts.proofs.BegunLemmas.{starts_down}
 use Rattle.world.proofs.SlotLemmas.{own_and_others, same_of}
 use Rattle.world_parts.proofs.StartLemmas.{failed_starts_next, starts_next, struck_starts_next}
@@ -96,7 +96,7 @@ module _ (w : World) (n : ℕ) (linked : IsLinked w) (due : due_in w.trace ≡ S
     abbrev mid : World
     mid = record w { slots = v.slots }
 
-    pub own_tried : (slot : NodeSlot) → numbered v.slots.items n ≡ Some slot → IsTried (place_at w.trace.places n) d rs slot
+    pub own_tried : (slot : NodeSlot) → numbered v.slots.items n ≡ Some slot → StartIsTried (place_at w.trace.places n) d rs slot
     own_tried slot at =
         let old = item_there w.slots.items n start_inside.0 start_inside.1 in
         tries.own old.0 slot old.1 at d rs (orders n old.0 old.1) (linked.held.slots n old.0 old.1).holds
@@ -105,7 +105,7 @@ module _ (w : World) (n : ℕ) (linked : IsLinked w) (due : due_in w.trace ≡ S
     counted_still = tries.count ∙ linked.held.counted.slots
 
     -- the start may be told
-    begins : stands_in (struck 3 d) ≡ true → HasBegun n mid
+    begins : stands_in (struck 3 d) ≡ true → IsStarting n mid
     begins stands = record {
       script = linked.held.script;
       parts = record { running = linked.held.parts.running; net = linked.held.parts.net; losses = linked.held.parts.losses; to_stop = linked.held.parts.to_stop; boots = linked.held.parts.boots; run_report = linked.held.parts.run_report };
@@ -118,7 +118,7 @@ module _ (w : World) (n : ℕ) (linked : IsLinked w) (due : due_in w.trace ≡ S
       few = (few w.trace n linked.held.script start_there).few;
       next = stands_next w.trace.places w.trace.asked p n due (struck 3 d) refl stands;
       slot = λ slot at.
-          let tried : IsTried (place_at w.trace.places n) d rs slot = own_tried slot at in
+          let tried : StartIsTried (place_at w.trace.places n) d rs slot = own_tried slot at in
           record {
             kept = tried.kept ∙ ap (λ (xs : List RedoRecord). if is_none (struck 3 d) then Some (start_of xs) else None) next_is;
             runs = tried.runs;
@@ -130,14 +130,14 @@ module _ (w : World) (n : ℕ) (linked : IsLinked w) (due : due_in w.trace ≡ S
     }
 
     -- the node stays down
-    stays_held : stands_in (struck 3 d) ≡ false → IsHeld mid
+    stays_held : stands_in (struck 3 d) ≡ false → HoldsRun mid
     stays_held fails = record {
       script = linked.held.script;
       parts = record { running = linked.held.parts.running; net = linked.held.parts.net; losses = linked.held.parts.losses; to_stop = linked.held.parts.to_stop; boots = linked.held.parts.boots; run_report = linked.held.parts.run_report };
       counted = record { slots = counted_still; nodes = linked.held.counted.nodes; records = linked.held.counted.records };
       slots = own_and_others w.trace.places p n v.slots.items
           (λ slot at.
-          let tried : IsTried (place_at w.trace.places n) d rs slot = own_tried slot at in
+          let tried : StartIsTried (place_at w.trace.places n) d rs slot = own_tried slot at in
           record {
             kept = tried.kept ∙ (stays_down (struck 3 d) (Some (start_of (rs ++ next_boot rs ∷ []))) fails ∙ sym up_is);
             runs = tried.runs;
@@ -149,16 +149,16 @@ module _ (w : World) (n : ℕ) (linked : IsLinked w) (due : due_in w.trace ≡ S
     }
 
 -- the start may be told where its record stands
-pub tried_begins : (w v : World) (n : ℕ) → IsLinked w → OrdersAre w → due_in w.trace ≡ Starts n → DueNodesAreThere → EachStartsSeldom → IsTriedAt n w v → stands_in (struck 3 (orders_at (past_of w.trace).run_report n)) ≡ true → HasBegun n v
-tried_begins w v n linked orders due there few tried stands = subst (λ (x : World). HasBegun n x) (sym tried.same) (begins w n linked due there few orders v tried.slots stands)
+pub tried_begins : (w v : World) (n : ℕ) → IsLinked w → OrdersAre w → due_in w.trace ≡ Starts n → DueNodesAreThere → EachStartsSeldom → IsTriedAt n w v → stands_in (struck 3 (orders_at (past_of w.trace).run_report n)) ≡ true → IsStarting n v
+tried_begins w v n linked orders due there few tried stands = subst (λ (x : World). IsStarting n x) (sym tried.same) (begins w n linked due there few orders v tried.slots stands)
 
 -- and else the world is held still, and the node's stop comes
-pub tried_stays : (w v : World) (n : ℕ) → IsLinked w → OrdersAre w → due_in w.trace ≡ Starts n → DueNodesAreThere → EachStartsSeldom → IsTriedAt n w v → stands_in (struck 3 (orders_at (past_of w.trace).run_report n)) ≡ false → IsHeld v
-tried_stays w v n linked orders due there few tried fails = subst (λ (x : World). IsHeld x) (sym tried.same) (stays_held w n linked due there few orders v tried.slots fails)
+pub tried_stays : (w v : World) (n : ℕ) → IsLinked w → OrdersAre w → due_in w.trace ≡ Starts n → DueNodesAreThere → EachStartsSeldom → IsTriedAt n w v → stands_in (struck 3 (orders_at (past_of w.trace).run_report n)) ≡ false → HoldsRun v
+tried_stays w v n linked orders due there few tried fails = subst (λ (x : World). HoldsRun x) (sym tried.same) (stays_held w n linked due there few orders v tried.slots fails)
 
-pub tried_next : (w v : World) (n : ℕ) → due_in w.trace ≡ Starts n → IsTriedAt n w v → stands_in (struck 3 (orders_at (past_of w.trace).run_report n)) ≡ false → IsNext v.trace (happenings.Stopped n)
+pub tried_next : (w v : World) (n : ℕ) → due_in w.trace ≡ Starts n → IsTriedAt n w v → stands_in (struck 3 (orders_at (past_of w.trace).run_report n)) ≡ false → IsDueNext v.trace (happenings.Stopped n)
 tried_next w v n due tried fails =
-    subst (λ (x : World). IsNext x.trace (happenings.Stopped n)) (sym tried.same) (fails_next w.trace.places w.trace.asked (past_of w.trace) n due (struck 3 (orders_at (past_of w.trace).run_report n)) refl fails)
+    subst (λ (x : World). IsDueNext x.trace (happenings.Stopped n)) (sym tried.same) (fails_next w.trace.places w.trace.asked (past_of w.trace) n due (struck 3 (orders_at (past_of w.trace).run_report n)) refl fails)
 
 -- an order that strikes by what the world has strikes by what was told
 pub strike_is : (w : World) (n : ℕ) (o : Option Strike) → IsLinked w → o ≡ struck 3 (orders_at w.run_report n) → struck 3 (orders_at (past_of w.trace).run_report n) ≡ o

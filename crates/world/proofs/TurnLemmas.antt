@@ -19,7 +19,7 @@ use Rattle.run_rules.specs.Lawful.{IsNode, boots}
 use Rattle.run_rules.specs.Past.{next, report_turned, turned}
 use Rattle.run_rules.specs.RunReport.{RunReport, orders_at}
 use Rattle.run_rules.proofs.AtNodeLemmas.{flat_some, range_of, there_too}
-use Rattle.run_trace.specs.Recorded.{happening_limit, IsNext, past_of}
+use Rattle.run_trace.specs.Recorded.{happening_limit, IsDueNext, past_of}
 use Rattle.world.specs.declared.slot.NodeSlot.{NodeSlot}
 use Rattle.world.specs.declared.turning.Begun.{Begun}
 use Rattle.world.specs.declared.world.World.{World}
@@ -27,7 +27,7 @@ use Rattle.world.specs.NodeSlot.{OtherSitesAre, RunsAt, SiteIs, has_to_fall, up_
 use Rattle.world_parts.specs.Orders.{HasOrders, cut_orders}
 use Rattle.world.specs.Orders.{OrdersAre}
 use Rattle.world.specs.Steps.{StepsOn}
-use Rattle.world.specs.Turns.{CallerOf, IsDuringAt, IsUnderWay}
+use Rattle.world.specs.Turns.{CallerOf, IsDuringAt, TurnIsUnderWay}
 use Rattle.world.proofs.SlotLemmas.{SameAt, others_stay, own_and_others, same_or}
 use Rattle.world.proofs.StepLemmas.{IsPushed, Leaves, Stands, shown_on, steps_on}
 use Rattle.world_parts.proofs.OrderLemmas.{cut_elsewhere, cut_here}
@@ -130,7 +130,7 @@ pub record HasTurned (place : Place) (keeps : Option NodeState) (rs : List RedoR
   pub holds : HoldRecords rs (bytes_of (site_disk slot))
   pub starts : CanBeStarted bytes_of images_of (site_disk slot)
 
-module _ (w v : World) (begun : Begun) (input : Input) (k : NodeState) (by : Cut_by) (under : IsUnderWay begun input k w by) (u : Turn) where
+module _ (w v : World) (begun : Begun) (input : Input) (k : NodeState) (by : Cut_by) (under : TurnIsUnderWay begun input k w by) (u : Turn) where
   abbrev p : Past
   p = past_of w.trace
 
@@ -160,7 +160,7 @@ module _ (w v : World) (begun : Begun) (input : Input) (k : NodeState) (by : Cut
         ap (λ (x : Option TurnOutput). turned p u x) outcome_is
         ∙ ap (λ (x : Option NodeState). record { facts = facts_turned p.facts u (Some o); run_report = report_turned p.facts.command x p.run_report u (Some o) }) up
 
-    due_next : IsNext w.trace (happenings.Turn u)
+    due_next : IsDueNext w.trace (happenings.Turn u)
     due_next = turn_comes_next w.trace.places p w.trace.asked begun.node input begun.took k by under.due under.took under.up under.cut ∙ ap (λ (h : Happening). Some h) is
 
     stays_upright : q.run_report.start_to_stop ≡ None
@@ -246,7 +246,7 @@ pub few_deliveries : (took : Option Took) (n : ℕ) → n ≤ happening_limit �
 few_deliveries None n few = tt
 few_deliveries (Some t) n few = omega (arith, few)
 
-module _ (w : World) (begun : Begun) (input : Input) (k : NodeState) (by : Cut_by) (under : IsUnderWay begun input k w by) where
+module _ (w : World) (begun : Begun) (input : Input) (k : NodeState) (by : Cut_by) (under : TurnIsUnderWay begun input k w by) where
   -- the node of a turn is there
   pub node_there : IsNode (length w.slots.items) begun.node
   node_there =
@@ -283,7 +283,7 @@ whole_is n input took o wrote sent is are =
 
 -- a whole turn is the happening that comes next
 pub whole_next : (w : World) (begun : Begun) (e : DurableTurn) (k : NodeState) → IsDuringAt begun e w k → (sent : List Msg) → sent ≡ (turn_of (place_at w.trace.places begun.node) k e.input).sent
-    → IsNext w.trace (happenings.Turn (record { node = begun.node; input = e.input; took = begun.took; wrote = e.wrote; sent = sent; cut = false }))
+    → IsDueNext w.trace (happenings.Turn (record { node = begun.node; input = e.input; took = begun.took; wrote = e.wrote; sent = sent; cut = false }))
 whole_next w begun e k during sent are =
     let under = during.under_way in
     let out : TurnOutput = turn_of (place_at w.trace.places begun.node) k e.input in

@@ -29,7 +29,7 @@ use Rattle.world_parts.specs.Orders.{HasOrders, orders_if}
 use Rattle.world.specs.Orders.{OrdersAre}
 use Rattle.world.specs.NodeSlot.{bytes_of, site_disk}
 use Rattle.world.specs.Steps.{StepsOn}
-use Rattle.world.specs.Turns.{IsDuringAt, IsReported}
+use Rattle.world.specs.Turns.{IsDuringAt, TurnIsReported}
 use Rattle.world.proofs.StopLemmas.{pushed_in}
 use Rattle.world.proofs.TurnLemmas.{HasTurned, Turns, caller_of, none_to_stop, turn_moves, turn_orders_are, whole_is}
 
@@ -84,7 +84,7 @@ module _ (w : World) (begun : Begun) (e : DurableTurn) (k : NodeState) (during :
     own_orders : (slot : NodeSlot) → numbered v.slots.items begun.node ≡ Some slot → HasOrders (orders_if (is_some o.wrote) (orders_at p.run_report begun.node)) (site_disk slot)
     own_orders slot there = (during.slot slot (there_before slot there)).orders
 
-    told_so : IsReported u facts before v → StepsOn w v × OrdersAre v
+    told_so : TurnIsReported u facts before v → StepsOn w v × OrdersAre v
     told_so t =
         let pushed = pushed_in w.trace before.trace v.trace (happenings.Turn u) ready.trace (record { is = t.trace; past = t.past; few = t.few }) in
         let turn_is = whole_is begun.node e.input begun.took o e.wrote sent during.tells.wrote are in
@@ -106,9 +106,9 @@ module _ (w : World) (begun : Begun) (e : DurableTurn) (k : NodeState) (during :
         )
 
     -- the world is that of the longer run
-    pub whole_steps : {T E : Type 0} (r : Result T E) → OnOk r (IsReported u facts before v) → OnOk r (StepsOn w v)
-    whole_steps r told = on_ok_weaker r (λ (t : IsReported u facts before v). (told_so t).0) told
+    pub whole_steps : {T E : Type 0} (r : Result T E) → OnOk r (TurnIsReported u facts before v) → OnOk r (StepsOn w v)
+    whole_steps r told = on_ok_weaker r (λ (t : TurnIsReported u facts before v). (told_so t).0) told
 
     -- and so are the orders on the disks
-    pub whole_keeps_orders : {T E : Type 0} (r : Result T E) → OnOk r (IsReported u facts before v) → OnOk r (OrdersAre v)
-    whole_keeps_orders r told = on_ok_weaker r (λ (t : IsReported u facts before v). (told_so t).1) told
+    pub whole_keeps_orders : {T E : Type 0} (r : Result T E) → OnOk r (TurnIsReported u facts before v) → OnOk r (OrdersAre v)
+    whole_keeps_orders r told = on_ok_weaker r (λ (t : TurnIsReported u facts before v). (told_so t).1) told

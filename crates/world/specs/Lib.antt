@@ -1,7 +1,6 @@
 pub mod Orders
 pub mod NodeSlot
 pub mod Slots
-pub mod Mail
 pub mod Needs
 pub mod Linked
 pub mod Steps

@@ -22,22 +22,22 @@ pub record PartsAre (p : Past) (w : World) : Type 0 where
   pub run_report : w.run_report ≡ p.run_report
 
 -- There are as many nodes, records and sites as places.
-pub record AreCounted (w : World) : Type 0 where
+pub record CountsAgree (w : World) : Type 0 where
   pub slots : length w.slots.items ≡ length w.trace.places
   pub nodes : length (past_of w.trace).facts.nodes ≡ length w.trace.places
   pub records : length (past_of w.trace).facts.records ≡ length w.trace.places
 
 -- The world is that of the run so far, also between a start that an order struck and the stop that follows it.
-pub record IsHeld (w : World) : Type 0 where
+pub record HoldsRun (w : World) : Type 0 where
   pub script : IsOfScript w.trace
   pub parts : PartsAre (past_of w.trace) w
-  pub counted : AreCounted w
+  pub counted : CountsAgree w
   pub slots : SitesAre w.trace.places (past_of w.trace) w.slots.items
   pub shown : ShowDisks w.trace w.shown
 
 -- The world is that of the run so far, and each node that is up by the facts keeps its memory.
 pub record IsLinked (w : World) : Type 0 where
-  pub held : IsHeld w
+  pub held : HoldsRun w
   pub upright : (past_of w.trace).run_report.start_to_stop ≡ None
 
 -- An order to a disk changes neither what its node keeps nor its bytes.

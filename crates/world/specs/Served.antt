@@ -12,13 +12,12 @@ use Rattle.node_disk.specs.declared.err.TurnErr.{TurnErr}
 use Rattle.node_disk.specs.declared.incoming.Incoming.{Incoming}
 use Rattle.node_disk.specs.declared.node.Node.{Node}
 use Rattle.node_disk.specs.Cuts.{AtCut, CutByPlan, CutStands, CutStores, IsTried, Stops}
-use Rattle.node_disk.specs.Effects.{GoesUncut, IsCut, Tells, TellsPasses}
+use Rattle.node_disk.specs.Effects.{GoesUncut, IsCut, Tells, TellsPasses, IsMailed}
 use Rattle.node_disk.specs.Incoming.{IsReadAs}
 use Rattle.node_disk.specs.OnDisk.{disk_of, kept_of, place_of, turn_at, turn_calls, IsRunning, IsSpellable, HoldsNext}
 use Rattle.node_disk.specs.Starts.{CanBeStarted}
 use Rattle.world.specs.declared.slot.NodeSlot.{NodeSlot}
 use Rattle.world.specs.declared.slot.NodeSlot.TheVariants.{Up, Down}
-use Rattle.world.specs.Mail.{IsMailed}
 use Rattle.world.specs.NodeSlot.{bytes_of, images_of}
 
 -- A node that can take what comes.

@@ -17,7 +17,7 @@ pub record CanStart (slot : NodeSlot) : Type 0 where
   pub boots : (rs : List RedoRecord) → HoldRecords rs (bytes_of (site_disk slot)) → last_boot rs + 1 < 2 ^ 32
 
 -- A start of a node of this place was tried, whose disk had these orders and held these records: the node is up where no order struck.
-pub record IsTried (place : Place) (d : DiskOrders) (rs : List RedoRecord) (slot : NodeSlot) : Type 0 where
+pub record StartIsTried (place : Place) (d : DiskOrders) (rs : List RedoRecord) (slot : NodeSlot) : Type 0 where
   pub kept : site_kept slot ≡ (if is_none (struck 3 d) then Some (start_of (rs ++ next_boot rs ∷ [])) else None)
   pub runs : RunsAt place slot
   pub holds : HoldRecords (with_record_if (stands_in (struck 3 d)) rs (next_boot rs)) (bytes_of (site_disk slot))
@@ -26,7 +26,7 @@ pub record IsTried (place : Place) (d : DiskOrders) (rs : List RedoRecord) (slot
 
 -- the start of a site was tried, whatever orders its disk had
 abbrev pub TriedFrom : Place → NodeSlot → NodeSlot → Type 0
-TriedFrom place before after = (d : DiskOrders) (rs : List RedoRecord) → HasOrders d (site_disk before) → HoldRecords rs (bytes_of (site_disk before)) → IsTried place d rs after
+TriedFrom place before after = (d : DiskOrders) (rs : List RedoRecord) → HasOrders d (site_disk before) → HoldRecords rs (bytes_of (site_disk before)) → StartIsTried place d rs after
 
 -- One site was tried to start, and the others are as they were.
 pub record TriesAt (place : Place) (n : ℕ) (before after : List NodeSlot) : Type 0 where

@@ -10,11 +10,11 @@ use Rattle.run_rules.specs.Facts.{place_at, records_at, with_boot}
 use Rattle.run_rules.specs.Lawful.{IsNode, boots}
 use Rattle.run_rules.specs.Past.{next}
 use Rattle.run_rules.specs.RunReport.{orders_at}
-use Rattle.run_trace.specs.Recorded.{IsNext, past_of}
+use Rattle.run_trace.specs.Recorded.{IsDueNext, past_of}
 use Rattle.world.specs.declared.slot.NodeSlot.{NodeSlot}
 use Rattle.world.specs.declared.world.World.{World}
 use Rattle.world.specs.Needs.{IsOfScript}
-use Rattle.world.specs.Linked.{AreCounted, PartsAre}
+use Rattle.world.specs.Linked.{CountsAgree, PartsAre}
 use Rattle.world_parts.specs.Orders.{HasOrders}
 use Rattle.world.specs.Orders.{OrdersAre, OtherOrdersAre}
 use Rattle.world.specs.Steps.{StepsTo}
@@ -40,17 +40,17 @@ pub record HasBoot (w : World) (n : ℕ) (slot : NodeSlot) : Type 0 where
   pub orders : HasOrders (after_append 3 (orders_at (past_of w.trace).run_report n)) (site_disk slot)
 
 -- The start of a node is due, and its record stands; all other parts of the world are as before.
-pub record HasBegun (n : ℕ) (w : World) : Type 0 where
+pub record IsStarting (n : ℕ) (w : World) : Type 0 where
   pub script : IsOfScript w.trace
   pub parts : PartsAre (past_of w.trace) w
   pub upright : (past_of w.trace).run_report.start_to_stop ≡ None
-  pub counted : AreCounted w
+  pub counted : CountsAgree w
   pub others : OtherSitesAre n w.trace.places (past_of w.trace) w.slots.items
   pub other_orders : OtherOrdersAre n w
   pub shown : ShowDisks w.trace w.shown
   pub there : IsNode (length w.trace.places) n
   pub few : boot_at w n < 2 ^ 32
-  pub next : IsNext w.trace (happenings.Started n (boot_at w n))
+  pub next : IsDueNext w.trace (happenings.Started n (boot_at w n))
   pub slot : (slot : NodeSlot) → numbered w.slots.items n ≡ Some slot → HasBoot w n slot
 
 -- A node has started: its record is in the trace, and a stop follows where an order struck behind it.

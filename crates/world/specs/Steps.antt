@@ -3,7 +3,7 @@ use Rattle.std.specs.Prelude.{◌≡◌, ◌<◌, ◌≤◌, Bool, true, false, 
 use Rattle.run_rules.specs.Due.{Ends}
 use Rattle.run_trace.specs.Recorded.{happening_limit}
 use Rattle.world.specs.Needs.{due_in}
-use Rattle.world.specs.Linked.{IsHeld, IsLinked}
+use Rattle.world.specs.Linked.{HoldsRun, IsLinked}
 use Rattle.world.specs.declared.world.World.{World}
 
 -- One happening more, or two, and the world is that of the longer run.
@@ -14,7 +14,7 @@ pub record StepsOn (before after : World) : Type 0 where
 
 -- the same, where a stop follows
 pub record StepsTo (before after : World) : Type 0 where
-  pub held : IsHeld after
+  pub held : HoldsRun after
   pub longer : length before.trace.happenings < length after.trace.happenings
   pub few : length after.trace.happenings ≤ happening_limit
 

@@ -14,7 +14,7 @@ use Rattle.node_disk.specs.declared.incoming.Incoming.TheVariants as comings
 use Rattle.node_disk.specs.declared.err.TurnErr.{TurnErr}
 use Rattle.node_disk.specs.declared.err.TurnErr.TheVariants as errs
 use Rattle.node_disk.specs.Incoming.{IsReadAs}
-use Rattle.node_disk.specs.Effects.{TellsPasses, call_of, mailed}
+use Rattle.node_disk.specs.Effects.{TellsPasses, call_of, mailed, IsMailed}
 use Rattle.node_points.specs.Passing.{passes_as}
 use Rattle.node_rules.specs.Points.{passes}
 use Rattle.std.specs.Prelude.{option_map, option_to_list, length, map, is_some, ◌++◌, ◌∷◌, []}
@@ -33,12 +33,11 @@ use Rattle.run_report.specs.Facts.{ReportsTurn}
 use Rattle.world.specs.declared.slot.NodeSlot.{NodeSlot}
 use Rattle.world.specs.declared.turning.Begun.{Begun}
 use Rattle.world.specs.declared.world.World.{World}
-use Rattle.world.specs.Mail.{IsMailed}
 use Rattle.world_parts.specs.Orders.{HasOrders, OrdersLeft, cut_orders, orders_if}
 use Rattle.world.specs.Orders.{OrdersAre, OtherOrdersAre}
 use Rattle.world.specs.Slots.{kept_at}
 use Rattle.world.specs.Needs.{DeliveriesAreFew, DueTurnsCanBeTaken, IsOfScript, IsTurnDue, due_in}
-use Rattle.world.specs.Linked.{AreCounted, IsLinked, PartsAre}
+use Rattle.world.specs.Linked.{CountsAgree, IsLinked, PartsAre}
 use Rattle.world_parts.specs.Shown.{ShowDisks}
 use Rattle.world.specs.NodeSlot.{site_kept, site_disk, bytes_of, images_of, RunsAt, OtherSitesAre}
 use Rattle.node_disk.specs.Starts.{CanBeStarted}
@@ -84,18 +83,18 @@ CallerOf k (inputs.Call session statement) s = s ≡ session_at k.sessions sessi
 CallerOf k _ s = Unit {0}
 
 -- What a whole turn tells: its record, its messages with their bytes, and the calls that end.
-pub record ReportsAll (o : TurnOutput) (e : DurableTurn) : Type 0 where
+pub record ReportsWholeTurn (o : TurnOutput) (e : DurableTurn) : Type 0 where
   pub wrote : e.wrote ≡ o.wrote
   pub sent : e.sent ≡ map mailed o.sent
   pub ended : map call_of e.ended ≡ o.ended
 
 -- A turn over this input is due at a node that kept this before it, all other parts of the world are as before the turn, and the
 -- turn is cut by this.
-pub record IsUnderWay (begun : Begun) (input : Input) (k : NodeState) (w : World) (by : Cut_by) : Type 0 where
+pub record TurnIsUnderWay (begun : Begun) (input : Input) (k : NodeState) (w : World) (by : Cut_by) : Type 0 where
   pub script : IsOfScript w.trace
   pub parts : PartsAre (past_of w.trace) w
   pub upright : (past_of w.trace).run_report.start_to_stop ≡ None
-  pub counted : AreCounted w
+  pub counted : CountsAgree w
   pub others : OtherSitesAre begun.node w.trace.places (past_of w.trace) w.slots.items
   pub orders : OtherOrdersAre begun.node w
   pub shown : ShowDisks w.trace w.shown
@@ -117,14 +116,14 @@ pub record IsTurned (w : World) (n : ℕ) (o : TurnOutput) (slot : NodeSlot) : T
 
 -- The node did this, and its record stands on its disk.
 pub record IsDuringAt (begun : Begun) (e : DurableTurn) (w : World) (k : NodeState) : Type 0 where
-  pub under_way : IsUnderWay begun e.input k w By_nothing
-  pub tells : ReportsAll (turn_of (place_at w.trace.places begun.node) k e.input) e
+  pub under_way : TurnIsUnderWay begun e.input k w By_nothing
+  pub tells : ReportsWholeTurn (turn_of (place_at w.trace.places begun.node) k e.input) e
   pub passed : TellsPasses k (turn_of (place_at w.trace.places begun.node) k e.input) e
   pub mailed : AllByRecursion IsMailed e.sent
   pub slot : (s : NodeSlot) → numbered w.slots.items begun.node ≡ Some s → IsTurned w begun.node (turn_of (place_at w.trace.places begun.node) k e.input) s
 
 -- A turn is told, and the trace has taken it.
-pub record IsReported (u : Turn) (facts : TurnFacts) (before after : World) : Type 0 where
+pub record TurnIsReported (u : Turn) (facts : TurnFacts) (before after : World) : Type 0 where
   pub tells : ReportsTurn facts before.running before.run_report u after.run_report
   pub trace : after.trace ≡ record before.trace { happenings = before.trace.happenings ++ happenings.Turn u ∷ [] }
   pub past : past_of after.trace ≡ next before.trace.places before.trace.asked (past_of before.trace) (happenings.Turn u)
@@ -148,7 +147,7 @@ pub record IsCutOff (w : World) (n : ℕ) (o : TurnOutput) (by : Cut_by) (slot :
 
 -- The turn was cut.
 pub record IsCutDuringAt (begun : Begun) (c : CutTurn) (w : World) (k : NodeState) (by : Cut_by) : Type 0 where
-  pub under_way : IsUnderWay begun c.input k w by
+  pub under_way : TurnIsUnderWay begun c.input k w by
   pub is_cut : (by ≡ By_nothing) → ⊥
   pub tried : c.tried ≡ (turn_of (place_at w.trace.places begun.node) k c.input).wrote
   pub passed : option_map passes_as c.passes ≡ passes k c.input (turn_of (place_at w.trace.places begun.node) k c.input)

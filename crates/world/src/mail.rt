@@ -3,8 +3,7 @@ ghost use Rattle.std.specs.Prelude.{◌≡◌, ◌++◌, ◌∷◌, [], Some, ma
 ghost use Rattle.std.specs.List.{AllByRecursion};
 ghost use Rattle.msg_codec.specs.Message.{message_of};
 ghost use Rattle.net_bag.specs.Net.{sent_on, sent_one, lost_at_once};
-ghost use Rattle.node_disk.specs.Effects.{call_of};
-ghost use Rattle.world.specs.Mail.{IsMailed};
+ghost use Rattle.node_disk.specs.Effects.{IsMailed, call_of};
 
 use dtx_values::{Bytes, Listing};
 use net_bag::Bag;

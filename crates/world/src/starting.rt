@@ -13,7 +13,7 @@ ghost use Rattle.world.specs.Linked.{IsLinked};
 ghost use Rattle.world.specs.Orders.{OrdersAre};
 ghost use Rattle.world.specs.Started.{CanStart, TriesAt};
 ghost use Rattle.world.specs.Steps.{StepsOn};
-ghost use Rattle.world.specs.Starts.{HasBegun, HasBooted, IsTriedAt};
+ghost use Rattle.world.specs.Starts.{IsStarting, HasBooted, IsTriedAt};
 ghost use Rattle.run_rules.specs.Past.{acts, report_started};
 
 use crate::World;
@@ -97,7 +97,7 @@ impl World {
     // The record of the start of a node stands: it has started.
     #[tactic(auto, using(crate::proofs::LeftLemmas::left_steps, run_trace::proofs::ExtendsLemmas::extends_steps))]
     fn boot(&mut self, alloc: Global, node: u8) -> Result<(), AllocError>
-        requires begun { HasBegun node self.old }
+        requires begun { IsStarting node self.old }
         ensures booted { OnOk result (HasBooted node self.old self.new) }
         ensures extends { Extends self.old.trace self.new.trace }
         ensures left { OnErr result (StillReports self.new) }
@@ -125,7 +125,7 @@ impl World {
     // An order struck the start of a node behind its record: it has started, and stops at once.
     #[tactic(auto, using(crate::proofs::FallLemmas::fall_steps, crate::proofs::LeftLemmas::left_steps, run_trace::proofs::ExtendsLemmas::extends_steps))]
     fn boot_and_fall(&mut self, alloc: Global, node: u8) -> Result<(), AllocError>
-        requires begun { HasBegun node self.old }
+        requires begun { IsStarting node self.old }
         requires due { due_in self.old.trace ≡ Starts node }
         requires struck { struck 3 (orders_of (past_of self.old.trace).run_report node) ≡ None → ⊥ }
         ensures steps { OnOk result (StepsOn self.old self.new) }

@@ -5,10 +5,10 @@ ghost use Rattle.run_rules.specs.Lawful.{IsNode};
 ghost use Rattle.run_rules.specs.Past.{acts, report_stopped};
 ghost use Rattle.run_rules.specs.Due.{Falls, Stops};
 ghost use Rattle.run_rules.specs.Facts.{is_up as is_up_by};
-ghost use Rattle.run_trace.specs.Recorded.{Extends, IsNext, past_of};
+ghost use Rattle.run_trace.specs.Recorded.{Extends, IsDueNext, past_of};
 ghost use Rattle.world.specs.Needs.{due_in};
 ghost use Rattle.world.specs.Left.{StillReports};
-ghost use Rattle.world.specs.Linked.{IsHeld, IsLinked, OnlyFalls};
+ghost use Rattle.world.specs.Linked.{HoldsRun, IsLinked, OnlyFalls};
 ghost use Rattle.world.specs.Halts.{HasHalted};
 ghost use Rattle.world.specs.Orders.{OrdersAre};
 ghost use Rattle.world.specs.Steps.{StepsOn};
@@ -59,8 +59,8 @@ impl World {
     /// A node stops, and `was_up` tells whether it was up: its calls end, messages to it are lost, and its disk is left.
     #[tactic(auto, using(crate::proofs::StopLemmas::stop_steps, crate::proofs::DueLemmas::due_steps, crate::proofs::LeftLemmas::left_steps, run_trace::proofs::ExtendsLemmas::extends_steps))]
     pub(crate) fn halt(&mut self, alloc: Global, node: u8, was_up: bool) -> Result<(), AllocError>
-        requires held { IsHeld self.old }
-        requires next { IsNext self.old.trace (occurrences.Stopped node) }
+        requires held { HoldsRun self.old }
+        requires next { IsDueNext self.old.trace (occurrences.Stopped node) }
         requires there { IsNode (length self.old.trace.places) node }
         requires up { was_up ≡ is_up_by (past_of self.old.trace).facts node }
         requires only { OnlyFalls (past_of self.old.trace) node }
@@ -80,7 +80,7 @@ impl World {
 
     // What is told of a stop.
     fn report_stop(&mut self, alloc: Global, node: u8, was_up: bool) -> Result<(), AllocError>
-        requires held { IsHeld self.old }
+        requires held { HoldsRun self.old }
         requires up { was_up ≡ is_up_by (past_of self.old.trace).facts node }
         requires there { IsNode (length self.old.trace.places) node }
         ensures tells { OnOk result (self.new.run_report ≡ acts (report_stopped self.old.trace.places self.old.trace.asked (past_of self.old.trace).facts (past_of self.old.trace).run_report node)) }

@@ -2,20 +2,19 @@
 ghost use Rattle.std.specs.Prelude.{◌≡◌, ◌<◌, ◌-◌, ◌^◌, [], length, map, is_some, true, OnOk, IfOk, IfErr, IfSome, OnErr};
 ghost use Rattle.std.specs.List.{AllByRecursion};
 ghost use Rattle.net_bag.specs.Net.{sent_on, lost_at_once};
-ghost use Rattle.node_disk.specs.Effects.{call_of};
+ghost use Rattle.node_disk.specs.Effects.{IsMailed, call_of};
 ghost use Rattle.run_rules.specs.Facts.{taken};
 ghost use Rattle.run_rules.specs.Lawful.{IsNode};
 ghost use Rattle.run_rules.specs.Data.happenings as occurrences;
-ghost use Rattle.run_trace.specs.Recorded.{Extends, IsNext};
+ghost use Rattle.run_trace.specs.Recorded.{Extends, IsDueNext};
 ghost use Rattle.run_report.specs.Turned.{cut_as};
 ghost use Rattle.world.specs.Needs.{DeliveriesAreFew, DueTurnsCanBeTaken, due_in};
-ghost use Rattle.world.specs.Mail.{IsMailed};
 ghost use Rattle.world.specs.Left.{StillReports};
 ghost use Rattle.world.specs.Linked.{IsLinked};
 ghost use Rattle.world.specs.Orders.{OrdersAre};
 ghost use Rattle.world.specs.Steps.{StepsOn};
 ghost use Rattle.world.specs.Stops.{StopsAt};
-ghost use Rattle.world.specs.Turns.{TookIs, IsComingDue, IsDuring, IsCutDuring, IsCutShort, IsReadied, IsReported, stands_by, stood};
+ghost use Rattle.world.specs.Turns.{TookIs, IsComingDue, IsDuring, IsCutDuring, IsCutShort, IsReadied, TurnIsReported, stands_by, stood};
 
 use crate::World;
 use crate::laws::{numbers_stay_small, what_is_due_can_happen};
@@ -267,9 +266,9 @@ impl World {
     // A turn is told, and the trace takes it, also where there was no memory to tell it: it has happened.
     #[tactic(auto, using(run_trace::proofs::ExtendsLemmas::extends_steps))]
     fn report_turn(&mut self, alloc: Global, turn: Turn, facts: TurnFacts) -> Result<(), AllocError>
-        requires next { IsNext self.old.trace (occurrences.Turn turn) }
+        requires next { IsDueNext self.old.trace (occurrences.Turn turn) }
         requires few { IfSome turn.took (λ took. self.old.run_report.deliveries < 2 ^ 32 - 1) }
-        ensures told { OnOk result (IsReported turn facts self.old self.new) }
+        ensures told { OnOk result (TurnIsReported turn facts self.old self.new) }
         ensures left { StillReports self.old → StillReports self.new }
         ensures same { self.new ≡ record self.old { trace = self.new.trace; run_report = self.new.run_report } }
         ensures extends { Extends self.old.trace self.new.trace }

@@ -21,7 +21,7 @@ use Rattle.run_rules.specs.RunReport.{Call, Past, RunReport, orders_at, start}
 use Rattle.run_rules.proofs.FactLemmas.{facts_next}
 use Rattle.net_bag.specs.Net.{first_flying, may_deliver, may_repeat, packet_at}
 use Rattle.run_trace.specs.Recorded.{RunSoFar, IsRunOfScript, past_of}
-use Rattle.world_parts.specs.Shown.{HasBegun}
+use Rattle.world_parts.specs.Shown.{CommandHasBegun}
 
 module _ (asked : List Command) (f : Facts) (t : RunReport) where
   -- a command that is due is the next one, and a start that is due is the act of the command that runs, at a node that is down
@@ -248,7 +248,7 @@ module _ (places : List Place) (asked : List Command) where
   low p (h ∷ hs) later c run = low (next places asked p h) hs later c run.1
 
 -- a command that is due has not begun
-pub begins_fresh : (r : RunSoFar) (c : ℕ) → IsRunOfScript r → due_of r.asked (past_of r) ≡ Begins c → HasBegun r c → ⊥
+pub begins_fresh : (r : RunSoFar) (c : ℕ) → IsRunOfScript r → due_of r.asked (past_of r) ≡ Begins c → CommandHasBegun r c → ⊥
 begins_fresh r c run due begun =
     let next_is = begins_next_command r.asked (past_of r) c due in
     let run_is : IsTheRun r.places r.asked (start r.places) (begun.0 ++ happenings.Begun c ∷ begun.1) = subst (λ (hs : List Happening). IsTheRun r.places r.asked (start r.places) hs) begun.2 run in

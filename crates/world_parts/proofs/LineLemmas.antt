@@ -16,7 +16,7 @@ use Rattle.run_rules.specs.Commands.{call_of, calls_after, commits_first, has_ca
 use Rattle.run_rules.specs.Cuts.{Cut_by, By_nothing, By_point, By_strike, appends, arms, arms_point, cut_appends, cut_by, turn_appends}
 use Rattle.run_rules.specs.Disks.{Strike, struck}
 use Rattle.run_rules.specs.Facts.{Facts, command_at, facts_after, is_up, node_at, outcome_at}
-use Rattle.run_rules.specs.Lines.{call_line, call_line_of, is_down, is_reached, line, over_line, page_lines, put_line, reached_line, says_node, told, with_own}
+use Rattle.run_rules.specs.Lines.{call_line, call_line_of, is_down, is_reached, line, over_line, page_lines, put_line, reached_line, says_node, all_lines, with_own}
 use Rattle.run_rules.specs.Past.{delivered_more, ends_calls, is_call, is_stop_of, next, start_refused, stop_line, report_stopped, report_turned, without_following, failed_start, started_says}
 use Rattle.run_rules.specs.RunReport.{Call, CommandOutput, Past, RunReport, orders_at}
 use Rattle.run_rules.proofs.ListLemmas.{all_append, all_each, all_filter, all_map, all_weaker}
@@ -45,7 +45,7 @@ pub record IsCallLine (Q : ℕ → Type 0) (l : AnswerLine) : Type 0 where
   pub of : Q l.command
   pub plain : is_place l.said ≡ false
 
--- What is told behind these lines: each answer of an earlier call and each pending call is of a command of which this holds; and of
+-- What is all_lines behind these lines: each answer of an earlier call and each pending call is of a command of which this holds; and of
 -- the lines of the command that runs at most one stands for a disk.
 pub record TellsOf (Q : ℕ → Type 0) (before : List AnswerLine) (t : RunReport) : Type 0 where
   pub lines : t.lines ≡ before
@@ -276,7 +276,7 @@ pub record IsOf (Q : ℕ → Type 0) (p : Past) : Type 0 where
   pub tells : TellsOf Q p.run_report.lines p.run_report
 
 -- all lines
-pub reported_of : (Q : ℕ → Type 0) (p : Past) → IsOf Q p → AllByRecursion (λ (l : AnswerLine). Q l.command) (told p.facts p.run_report)
+pub reported_of : (Q : ℕ → Type 0) (p : Past) → IsOf Q p → AllByRecursion (λ (l : AnswerLine). Q l.command) (all_lines p.facts p.run_report)
 reported_of Q p is =
     let f = p.facts in
     let t = p.run_report in

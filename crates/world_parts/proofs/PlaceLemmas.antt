@@ -10,12 +10,12 @@ use Rattle.run_rules.specs.Due.{IsTheRun}
 use Rattle.run_rules.specs.Facts.{Facts, facts_after}
 use Rattle.node_rules.specs.Words.{one}
 use Rattle.node_rules.specs.Refusals.{dtx}
-use Rattle.run_rules.specs.Lines.{line, over_line, page_lines, refuses_with, spent, told}
+use Rattle.run_rules.specs.Lines.{line, over_line, page_lines, refuses_with, spent, all_lines}
 use Rattle.run_rules.specs.Past.{next, past}
 use Rattle.run_rules.specs.RunReport.{Past, RunReport, start}
 use Rattle.run_rules.proofs.ListLemmas.{all_weaker}
 use Rattle.run_trace.specs.Recorded.{RunSoFar, IsRunOfScript, past_of}
-use Rattle.world_parts.specs.Shown.{HasBegun, IsOnce, is_place, places_in}
+use Rattle.world_parts.specs.Shown.{CommandHasBegun, IsOnce, is_place, places_in}
 use Rattle.world_parts.proofs.BegunLemmas.{begun_next}
 use Rattle.world_parts.proofs.ShownLemmas.{places_append}
 use Rattle.world_parts.proofs.LineLemmas.{HasOnePlace, IsCallLine, IsOf, Plain, begun_of, other_of, same_command, same_reports, reported_of}
@@ -43,7 +43,7 @@ module _ (places : List Place) (asked : List Command) where
 
 -- a command that has begun, or none
 abbrev pub Begins : RunSoFar → ℕ → Type 0
-Begins r c = (c ≡ 0) ⊎ HasBegun r c
+Begins r c = (c ≡ 0) ⊎ CommandHasBegun r c
 
 begins_of : (r : RunSoFar) → IsOf (Begins r) (past_of r)
 begins_of r =
@@ -53,7 +53,7 @@ begins_of r =
 pub lines_begun : (r : RunSoFar) → AllByRecursion (λ (l : AnswerLine). Begins r l.command) (past_of r).run_report.lines
 lines_begun r = (begins_of r).lines
 
-pub told_begun : (r : RunSoFar) → AllByRecursion (λ (l : AnswerLine). Begins r l.command) (told (past_of r).facts (past_of r).run_report)
+pub told_begun : (r : RunSoFar) → AllByRecursion (λ (l : AnswerLine). Begins r l.command) (all_lines (past_of r).facts (past_of r).run_report)
 told_begun r = reported_of (Begins r) (past_of r) (begins_of r)
 
 -- ---- each command has one such line at most
@@ -119,7 +119,7 @@ pub record IsNumbered (p : Past) : Type 0 where
   pub below : AllByRecursion (λ (l : AnswerLine). l.command < p.facts.command) p.run_report.lines
 
 -- all lines have one place of a command at most
-pub numbered_told : (p : Past) → IsNumbered p → IsOnce (places_in (told p.facts p.run_report))
+pub numbered_told : (p : Past) → IsNumbered p → IsOnce (places_in (all_lines p.facts p.run_report))
 numbered_told p numbered =
     let f = p.facts in
     let t = p.run_report in
@@ -131,7 +131,7 @@ numbered_told p numbered =
     let page : places_in (page_lines f t) ≡ places_in own =
     places_append (own ++ t.page.others) (map (line n) stops) ∙ (ap (λ (cs : List ℕ). places_in (own ++ t.page.others) ++ cs) (plain_places n stops (plain_append t.page.stops (over_line f t) numbered.is.tells.stops (over_plain f t)))
     ∙ (append-nil (places_in (own ++ t.page.others)) ∙ front)) in
-    let all : places_in (told f t) ≡ places_in t.lines ++ places_in (map (line n) t.page.own) = places_append t.lines (page_lines f t) ∙ ap (λ (cs : List ℕ). places_in t.lines ++ cs) page in
+    let all : places_in (all_lines f t) ≡ places_in t.lines ++ places_in (map (line n) t.page.own) = places_append t.lines (page_lines f t) ∙ ap (λ (cs : List ℕ). places_in t.lines ++ cs) page in
     elim (own_places n t.page.own numbered.is.tells.own) [
       | inl none ↦ subst (λ (cs : List ℕ). IsOnce cs) (sym (all ∙ (ap (λ (cs : List ℕ). places_in t.lines ++ cs) none ∙ append-nil (places_in t.lines)))) numbered.once
       | inr one ↦ subst (λ (cs : List ℕ). IsOnce cs) (sym (all ∙ ap (λ (cs : List ℕ). places_in t.lines ++ cs) one)) (once_more (places_in t.lines) n numbered.once (places_below n t.lines numbered.below))
@@ -157,7 +157,7 @@ module _ (places : List Place) (asked : List Command) where
   begun_numbered p c numbered next_is = record {
     is = begun_of (λ d. d ≤ c) places asked p c (wider (λ d. d ≤ p.facts.command) (λ d. d ≤ c) p (λ d less. omega (arith, less, next_is)) numbered.is) (omega arith);
     once = numbered_told p numbered;
-    below = all_weaker (λ l. l.command ≤ p.facts.command) (λ l. l.command < c) (λ l less. omega (arith, less, next_is)) (told p.facts p.run_report) (reported_of (λ d. d ≤ p.facts.command) p numbered.is);
+    below = all_weaker (λ l. l.command ≤ p.facts.command) (λ l. l.command < c) (λ l less. omega (arith, less, next_is)) (all_lines p.facts p.run_report) (reported_of (λ d. d ≤ p.facts.command) p numbered.is);
   }
 
   other_numbered : (p : Past) (h : Happening) → IsNumbered p → ((c : ℕ) → h ≡ happenings.Begun c → ⊥) → IsNumbered (next places asked p h)

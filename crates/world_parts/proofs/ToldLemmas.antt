@@ -1,4 +1,4 @@
--- The lines of a run, where each that stands for a disk is told with what its command showed, are those that are due.
+-- The lines of a run, where each that stands for a disk is all_lines with what its command showed, are those that are due.
 use Rattle.std.proofs.Common.{◌≡◌, inl, inr, ℕ, Bool, true, false, if◌then◌else◌, List, [], ◌∷◌, is_some, map, Option, Some, None, refl, ap, sym, subst}
 use Rattle.std.specs.List.{AllByRecursion}
 use Rattle.run_rules.specs.Data.{AnswerLine, Command, Said}
@@ -8,9 +8,9 @@ use Rattle.run_rules.specs.Data.notices
 use Rattle.run_rules.specs.Facts.{command_at, facts_of, first_facts, records_at}
 use Rattle.run_rules.specs.Reported.{StandsFor, LineIs, LinesAre, disk_of, is_shown_disk}
 use Rattle.run_rules.specs.Lawful.{AreOfAScript}
-use Rattle.run_rules.specs.Lines.{told}
+use Rattle.run_rules.specs.Lines.{all_lines}
 use Rattle.run_trace.specs.Recorded.{RunSoFar, past_of}
-use Rattle.world_parts.specs.Shown.{HasBegun, ShowDisks, Shown, ShowsDiskAt, disk_reported, history_of, is_place, shown_at, showing}
+use Rattle.world_parts.specs.Shown.{CommandHasBegun, ShowDisks, Shown, ShowsDiskAt, disk_reported, history_of, is_place, shown_at, showing}
 use Rattle.world_parts.proofs.PlaceLemmas.{Begins, lines_begun, told_begun}
 
 -- a shown disk is of SHOW DISK, and stands for one
@@ -26,7 +26,7 @@ module _ (r : RunSoFar) (script : AreOfAScript r.places r.asked) (shown : Shown)
   abbrev is_disk : AnswerLine → Bool
   is_disk due = is_shown_disk (command_at r.asked due.command) due.said
 
-  begun_of : (c n : ℕ) → Begins r c → command_at r.asked c ≡ commands.ShowDisk n → HasBegun r c
+  begun_of : (c n : ℕ) → Begins r c → command_at r.asked c ≡ commands.ShowDisk n → CommandHasBegun r c
   begun_of c n (inl none) show = absurd (cc (ap (command_at r.asked) none, show))
   begun_of c n (inr begun) show = begun
 
@@ -66,8 +66,8 @@ module _ (r : RunSoFar) (script : AreOfAScript r.places r.asked) (shown : Shown)
   lines_are (due ∷ dues) begins = (line_is due (is_place due.said) (is_disk due) refl refl begins.0, lines_are dues begins.1)
 
   -- all lines, with the disks that were shown
-  pub told_are : LinesAre (history_of r script) (told (past_of r).facts (past_of r).run_report) (map (disk_reported shown) (told (past_of r).facts (past_of r).run_report))
-  told_are = lines_are (told (past_of r).facts (past_of r).run_report) (told_begun r)
+  pub told_are : LinesAre (history_of r script) (all_lines (past_of r).facts (past_of r).run_report) (map (disk_reported shown) (all_lines (past_of r).facts (past_of r).run_report))
+  told_are = lines_are (all_lines (past_of r).facts (past_of r).run_report) (told_begun r)
 
   -- those of the commands before the one that runs
   pub before_are : LinesAre (history_of r script) (past_of r).run_report.lines (map (disk_reported shown) (past_of r).run_report.lines)

@@ -18,12 +18,12 @@ abbrev pub history_of : (r : RunSoFar) → AreOfAScript r.places r.asked → His
 history_of r script = record { places = r.places; commands = r.asked; of_a_script = script; trace = r.happenings }
 
 -- a command has begun
-abbrev pub HasBegun : RunSoFar → ℕ → Type 0
-HasBegun r c = (before : List Happening) × (later : List Happening) × (r.happenings ≡ before ++ happenings.Begun c ∷ later)
+abbrev pub CommandHasBegun : RunSoFar → ℕ → Type 0
+CommandHasBegun r c = (before : List Happening) × (later : List Happening) × (r.happenings ≡ before ++ happenings.Begun c ∷ later)
 
 -- the lines are those of a disk that held its node's records when this command, a SHOW DISK, began
 pub record ShowsDiskAt (r : RunSoFar) (command : ℕ) (lines : List (List ℕ)) : Type 0 where
-  pub begun : HasBegun r command
+  pub begun : CommandHasBegun r command
   pub node : ℕ
   pub is : command_at r.asked command ≡ commands.ShowDisk node
   pub bytes : List ℕ
@@ -41,7 +41,7 @@ shown_at shown command = lookup (nat_eq command) shown
 -- What is shown is so, and there is something for each SHOW DISK that has begun.
 pub record ShowDisks (r : RunSoFar) (shown : Shown) : Type 0 where
   pub each : (command : ℕ) (lines : List (List ℕ)) → shown_at shown command ≡ Some lines → ShowsDiskAt r command lines
-  pub all : (command n : ℕ) → HasBegun r command → command_at r.asked command ≡ commands.ShowDisk n → is_some (shown_at shown command) ≡ true
+  pub all : (command n : ℕ) → CommandHasBegun r command → command_at r.asked command ≡ commands.ShowDisk n → is_some (shown_at shown command) ≡ true
 
 -- whether a line stands for the bytes of a disk
 abbrev pub is_place : Said → Bool

@@ -2,7 +2,7 @@
 use Rattle.std.proofs.Common.{[], IfOk, sym, subst, ◌∙◌}
 use Rattle.node_rules.specs.Refusals.{ora}
 use Rattle.node_rules.specs.Client.{refuses}
-use Rattle.node_drafts.specs.Gives.{Gives}
+use Rattle.node_drafts.specs.Gives.{GivesDraft}
 use Rattle.node_memory.specs.Parts.{kept_in}
 use Rattle.node_calls.proofs.NameLaws.{at_node, link_refused}
 use Rattle.node_calls.proofs.defining.create_link.Goals as goal
@@ -10,5 +10,5 @@ use Rattle.node_calls.proofs.defining.create_link.Goals as goal
 pub returns-then-is_link_used-clause-gives : goal.returns-then-is_link_used-clause-gives
 returns-then-is_link_used-clause-gives c =
     let k = kept_in c.args.memory.now in
-    subst (λ d. IfOk c.refuse.result (λ draft. Gives d k draft)) (sym (link_refused k c.args.session c.args.link.now (sym c.is_link_used.ensures.used ∙ c.if-is_link_used.true)))
-    (at_node c.refuse.result (λ draft j. Gives (refuses j c.args.session (ora 2011 [])) j draft) k c.refuse.ensures)
+    subst (λ d. IfOk c.refuse.result (λ draft. GivesDraft d k draft)) (sym (link_refused k c.args.session c.args.link.now (sym c.is_link_used.ensures.used ∙ c.if-is_link_used.true)))
+    (at_node c.refuse.result (λ draft j. GivesDraft (refuses j c.args.session (ora 2011 [])) j draft) k c.refuse.ensures)

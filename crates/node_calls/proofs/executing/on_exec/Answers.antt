@@ -8,7 +8,7 @@ use Rattle.node_rules.specs.NodeState.{live_id, saying}
 use Rattle.node_rules.specs.Calls.{next_call}
 use Rattle.node_state.specs.Lives.{advised}
 use Rattle.node_state.specs.Works.{work_of}
-use Rattle.node_drafts.specs.Gives.{Gives}
+use Rattle.node_drafts.specs.Gives.{GivesDraft}
 use Rattle.node_memory.specs.Parts.{kept_in}
 use Rattle.node_calls.proofs.BranchLaws.{few_changed}
 use Rattle.node_calls.proofs.CallLaws.{again_so, ignored_so, numbers_taken, run_so}
@@ -37,7 +37,7 @@ returns-in_ok-says-in-Again-clause-gives c =
     let a = c.args in
     let k = kept_in a.memory.now in
     again_so a.memory.now.place k a.to.now c.in-Some.live.now (sym c.in-Some.ensures.live) a.from a.call a.given a.advice a.statement.now _ (sym c.in-Again.ensures)
-    (subst (λ says. Gives (saying k says) k c.saying.result) c.in_ok-says-in-Again.ensures (c.saying.ensures.gives k))
+    (subst (λ says. GivesDraft (saying k says) k c.saying.result) c.in_ok-says-in-Again.ensures (c.saying.ensures.gives k))
 
 pub returns-in_ok-draft-in-Run-clause-gives : goal.returns-in_ok-draft-in-Run-clause-gives
 returns-in_ok-draft-in-Run-clause-gives c =

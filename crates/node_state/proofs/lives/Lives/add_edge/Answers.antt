@@ -7,7 +7,7 @@ use Rattle.tran_ids.specs.Listed.{item_at}
 use Rattle.session_tree.specs.declared.live.Live.{Live}
 use Rattle.session_tree.specs.Live.{add_edge}
 use Rattle.node_rules.specs.NodeState.{live_id}
-use Rattle.node_state.specs.ByBranch.{AreKeyed}
+use Rattle.node_state.specs.ByBranch.{KeysAreBranches}
 use Rattle.node_state.specs.Changed.{change_item}
 use Rattle.node_state.specs.Lives.{HasRoom}
 use Rattle.node_state.proofs.BranchLaws.{found_as, found, still_keyed, same_set, changed_is, unchanged_is, none_there}
@@ -35,7 +35,7 @@ pub invariant_of-self : goal.invariant_of-self
 invariant_of-self c =
     let es = c.self.inside.lives.entries in
     let back = ap (set_value_at es c.in-Some.place) c.in_err-add_edge.ensures.err ∙ same_set live_id HasRoom es c.in-Some.place c.index_mut.result.now c.index_mut.ensures.value in
-    subst (AreKeyed live_id HasRoom) (sym back) c.self.invariant
+    subst (KeysAreBranches live_id HasRoom) (sym back) c.self.invariant
 
 pub returns-in_err-add_edge-clause-err : goal.returns-in_err-add_edge-clause-err
 returns-in_err-add_edge-clause-err c =

@@ -5,7 +5,7 @@ use Rattle.indexmap.proofs.CallerLemmas.{insert_entry-new}
 use Rattle.tran_ids.specs.Listed.{item_at}
 use Rattle.session_tree.specs.declared.live.Live.{Live}
 use Rattle.node_rules.specs.NodeState.{live_id}
-use Rattle.node_state.specs.ByBranch.{AreKeyed}
+use Rattle.node_state.specs.ByBranch.{KeysAreBranches}
 use Rattle.node_state.specs.Lives.{HasRoom}
 use Rattle.node_state.proofs.BranchLaws.{found_as, put_is, put_absent, absent_from, keyed_push}
 use Rattle.node_state.proofs.lives.Lives.begin.Goals as goal
@@ -16,7 +16,7 @@ invariant_of-self-2 c =
     let es = c.self.inside.lives.entries in
     let absent = absent_from live_id HasRoom x.me es c.self.invariant (ap (λ ls. item_at live_id ls x.me) c.self.view_is ∙ c.requires.new) in
     let all = c.in_ok-insert.ensures.entries ∙ insert_entry-new found_as c.self.inside.lives x.me x absent in
-    subst (AreKeyed live_id HasRoom) (sym all) (keyed_push live_id HasRoom es x c.requires.room c.self.invariant)
+    subst (KeysAreBranches live_id HasRoom) (sym all) (keyed_push live_id HasRoom es x c.requires.room c.self.invariant)
 
 pub returns-clause-ok : goal.returns-clause-ok
 returns-clause-ok c =

@@ -2,7 +2,7 @@ use Rattle.std.proofs.Common.{◌≡◌, None, sym, ap, subst, ◌∙◌}
 use Rattle.std.specs.Map.{lookup, values_of, remove_entry}
 use Rattle.tran_ids.specs.Listed.{drop_item}
 use Rattle.node_rules.specs.NodeState.{live_id}
-use Rattle.node_state.specs.ByBranch.{AreKeyed}
+use Rattle.node_state.specs.ByBranch.{KeysAreBranches}
 use Rattle.node_state.specs.Lives.{HasRoom}
 use Rattle.node_state.proofs.BranchLaws.{found_as, dropped_is, keyed_removed}
 use Rattle.node_state.proofs.lives.Lives.drop_branch.Goals as goal
@@ -12,7 +12,7 @@ invariant_of-self c =
     let b = c.args.branch.now in
     let es = c.self.inside.lives.entries in
     let left = c.shift_remove.ensures.entries in
-    subst (AreKeyed live_id HasRoom) (sym left) (keyed_removed live_id HasRoom b es c.self.invariant)
+    subst (KeysAreBranches live_id HasRoom) (sym left) (keyed_removed live_id HasRoom b es c.self.invariant)
 
 pub returns : goal.returns
 returns c =

@@ -4,7 +4,7 @@ use Rattle.indexmap.specs.Layout.{set_value_at}
 use Rattle.tran_ids.specs.Listed.{item_at, put_item}
 use Rattle.tran_ids.proofs.ListedLemmas.{item_is}
 use Rattle.node_rules.specs.NodeState.{work_id, work_or}
-use Rattle.node_state.specs.ByBranch.{AreKeyed}
+use Rattle.node_state.specs.ByBranch.{KeysAreBranches}
 use Rattle.node_state.specs.Works.{AnyWork, work_of, change_work, with_child}
 use Rattle.node_state.proofs.BranchLaws.{found_as, found, still_keyed, same_set, keyed_placed, none_there}
 use Rattle.node_state.proofs.WorkLaws.{on_err}
@@ -14,7 +14,7 @@ pub invariant_of-self : goal.invariant_of-self
 invariant_of-self c =
     let es = c.self.inside.works.entries in
     let back = ap (set_value_at es c.in-Some.place) c.in_err-add_child.ensures.err ∙ same_set work_id AnyWork es c.in-Some.place c.index_mut.result.now c.index_mut.ensures.value in
-    subst (AreKeyed work_id AnyWork) (sym back) c.self.invariant
+    subst (KeysAreBranches work_id AnyWork) (sym back) c.self.invariant
 
 pub returns-in_err-add_child-clause-err : goal.returns-in_err-add_child-clause-err
 returns-in_err-add_child-clause-err c =

@@ -2,7 +2,7 @@ use Rattle.std.proofs.Common.{◌≡◌, None, sym, ap, subst, ◌∙◌}
 use Rattle.std.specs.Map.{lookup, values_of, remove_entry}
 use Rattle.tran_ids.specs.Listed.{drop_item}
 use Rattle.node_rules.specs.NodeState.{work_id}
-use Rattle.node_state.specs.ByBranch.{AreKeyed}
+use Rattle.node_state.specs.ByBranch.{KeysAreBranches}
 use Rattle.node_state.specs.Works.{AnyWork}
 use Rattle.node_state.proofs.BranchLaws.{found_as, dropped_is, keyed_removed}
 use Rattle.node_state.proofs.works.Works.drop_branch.Goals as goal
@@ -12,7 +12,7 @@ invariant_of-self c =
     let b = c.args.branch.now in
     let es = c.self.inside.works.entries in
     let left = c.shift_remove.ensures.entries in
-    subst (AreKeyed work_id AnyWork) (sym left) (keyed_removed work_id AnyWork b es c.self.invariant)
+    subst (KeysAreBranches work_id AnyWork) (sym left) (keyed_removed work_id AnyWork b es c.self.invariant)
 
 pub returns : goal.returns
 returns c =

@@ -3,7 +3,7 @@ use Rattle.std.specs.Map.{lookup, values_of}
 use Rattle.indexmap.specs.IndexMap.{insert_entry}
 use Rattle.tran_ids.specs.Listed.{item_at, put_item}
 use Rattle.node_rules.specs.NodeState.{work_id}
-use Rattle.node_state.specs.ByBranch.{AreKeyed}
+use Rattle.node_state.specs.ByBranch.{KeysAreBranches}
 use Rattle.node_state.specs.Works.{AnyWork}
 use Rattle.node_state.proofs.BranchLaws.{found_as, found, put_is, keyed_put}
 use Rattle.node_state.proofs.WorkLaws.{on_err}
@@ -21,7 +21,7 @@ invariant_of-self-2 c =
     let x = c.args.work in
     let es = c.self.inside.works.entries in
     let all = c.in_ok-insert.ensures.entries in
-    subst (AreKeyed work_id AnyWork) (sym all) (keyed_put work_id AnyWork x es tt c.self.invariant)
+    subst (KeysAreBranches work_id AnyWork) (sym all) (keyed_put work_id AnyWork x es tt c.self.invariant)
 
 pub returns-clause-ok : goal.returns-clause-ok
 returns-clause-ok c =

@@ -3,7 +3,7 @@ use Rattle.std.proofs.lemmas.List.{with_items_is}
 use Rattle.tran_ids.proofs.NumberedLemmas.{set_length}
 use Rattle.node_rules.specs.Words.{numbered, set_numbered}
 use Rattle.run_rules.specs.Data.happenings
-use Rattle.run_trace.specs.Recorded.{RunSoFar, IsNext}
+use Rattle.run_trace.specs.Recorded.{RunSoFar, IsDueNext}
 use Rattle.world.specs.declared.world.World.{World}
 use Rattle.std.specs.Vec.{with_items}
 use Rattle.net_bag.specs.Net.{started}
@@ -17,8 +17,8 @@ pub push-requires : goal.push-requires
 push-requires c =
     let w = c.args.self.now in
     let is = boot_is w c.args.node c.next_boot-boot.result c.requires.begun (λ k at. c.next_boot-boot.ensures k (ap (λ (bs : List ℕ). numbered bs c.args.node) c.deref.ensures.value ∙ at)) in
-    subst (λ (r : RunSoFar). IsNext r (happenings.Started c.args.node c.next_boot-boot.result)) (sym (ap (λ (x : World). x.trace) c.report_start.ensures.same))
-    (subst (λ (k : ℕ). IsNext w.trace (happenings.Started c.args.node k)) (sym is) c.requires.begun.next)
+    subst (λ (r : RunSoFar). IsDueNext r (happenings.Started c.args.node c.next_boot-boot.result)) (sym (ap (λ (x : World). x.trace) c.report_start.ensures.same))
+    (subst (λ (k : ℕ). IsDueNext w.trace (happenings.Started c.args.node k)) (sym is) c.requires.begun.next)
 
 pub returns-clause-booted : goal.returns-clause-booted
 returns-clause-booted c =

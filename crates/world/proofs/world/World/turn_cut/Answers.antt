@@ -2,7 +2,7 @@ use Rattle.std.proofs.Common.{◌<◌, ◌-◌, ◌^◌, refl, ap, sym, subst, �
 use Rattle.std.specs.Prelude.{IfSome}
 use Rattle.run_rules.specs.Data.{Turn}
 use Rattle.run_rules.specs.Data.happenings
-use Rattle.run_trace.specs.Recorded.{IsNext}
+use Rattle.run_trace.specs.Recorded.{IsDueNext}
 use Rattle.run_report.specs.Turned.{cut_as}
 use Rattle.world.specs.Turns.{stands_by}
 use Rattle.world.proofs.CutLemmas.{cut_agrees, cut_keeps_orders, cut_known, cut_next, cut_steps}
@@ -16,7 +16,7 @@ pub report_turn-requires-clause-next : goal.report_turn-requires-clause-next
 report_turn-requires-clause-next c =
     let w = c.args.self.now in
     let agrees = cut_agrees w c.args.begun c.args.cut c.requires.during.0 c.requires.during.1 c.requires.during.2 c.cut_facts-facts.result.writes c.cut_facts-facts.result.passes (cut_as c.cut-by.result) c.cut_facts-facts.ensures.writes c.cut_facts-facts.ensures.passes c.cut-by.ensures.cuts in
-    subst (λ (u : Turn). IsNext w.trace (happenings.Turn u)) (sym c.cut_short-turn.ensures)
+    subst (λ (u : Turn). IsDueNext w.trace (happenings.Turn u)) (sym c.cut_short-turn.ensures)
     (cut_next w c.args.begun c.args.cut c.requires.during.0 c.requires.during.1 c.requires.during.2 c.stands.result (c.stands.ensures ∙ ap stands_by agrees))
 
 pub report_turn-requires-clause-few : goal.report_turn-requires-clause-few

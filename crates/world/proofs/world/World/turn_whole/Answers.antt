@@ -5,8 +5,8 @@ use Rattle.node_rules.specs.Data.{Msg}
 use Rattle.node_disk.specs.declared.effects.Mailed.{Mailed}
 use Rattle.run_rules.specs.Data.happenings
 use Rattle.run_rules.specs.Facts.{taken}
-use Rattle.run_trace.specs.Recorded.{RunSoFar, IsNext, past_of}
-use Rattle.world.specs.Mail.{IsMailed}
+use Rattle.run_trace.specs.Recorded.{RunSoFar, IsDueNext, past_of}
+use Rattle.node_disk.specs.Effects.{IsMailed}
 use Rattle.world_parts.specs.Shown.{ShowDisks}
 use Rattle.world.specs.declared.world.World.{World}
 use Rattle.world.proofs.TurnLemmas.{whole_next, without_bytes}
@@ -20,7 +20,7 @@ pub report_turn-requires-clause-next : goal.report_turn-requires-clause-next
 report_turn-requires-clause-next c =
     let during = c.requires.during.1 in
     let sent = c.in-Ok.ensures.sent ∙ (ap (map (λ (x : Mailed). x.msg)) (c.into_vec.ensures ∙ during.tells.sent) ∙ without_bytes _) in
-    subst (λ (x : RunSoFar). IsNext x (happenings.Turn (record { node = c.args.begun.node; input = c.args.effects.input; took = c.args.begun.took; wrote = c.args.effects.wrote; sent = c.in-Ok.sent; cut = false })))
+    subst (λ (x : RunSoFar). IsDueNext x (happenings.Turn (record { node = c.args.begun.node; input = c.args.effects.input; took = c.args.begun.took; wrote = c.args.effects.wrote; sent = c.in-Ok.sent; cut = false })))
     (sym (ap (λ (x : World). x.trace) c.end_and_send.ensures.same))
     (whole_next c.args.self.now c.args.begun c.args.effects c.requires.during.0 during c.in-Ok.sent sent)
 

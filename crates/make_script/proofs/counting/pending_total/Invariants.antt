@@ -1,7 +1,7 @@
 use Rattle.std.proofs.Common.{◌≡◌, ◌≤◌, ◌*◌, ◌-◌, ◌^◌, length, take, drop}
 use Rattle.std.specs.Prelude.{sum_by}
 use Rattle.make_script.specs.Summary.{count_told}
-use Rattle.make_script.proofs.counting.rows_told.Given as goal
+use Rattle.make_script.proofs.counting.pending_total.Given as goal
 
 -- the counts so far were added up
 abbrev pub invariant-loop-line : goal.invariant-loop-line

@@ -1,5 +1,0 @@
-use Rattle.tree_trail_laws.proofs.ChildRunLemmas.{children_are_told}
-use Rattle.tree_trail_laws.proofs.children_are_told.Goals as goal
-
-pub returns : goal.returns
-returns c = children_are_told

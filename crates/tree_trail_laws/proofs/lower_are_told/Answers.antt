@@ -1,5 +1,0 @@
-use Rattle.tree_trail_laws.proofs.LowerRunLemmas.{lower_are_told}
-use Rattle.tree_trail_laws.proofs.lower_are_told.Goals as goal
-
-pub returns : goal.returns
-returns c = lower_are_told

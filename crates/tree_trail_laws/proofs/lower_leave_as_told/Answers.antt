@@ -1,5 +1,0 @@
-use Rattle.tree_trail_laws.proofs.LowerLeaveLemmas.{lower_leave_as_told}
-use Rattle.tree_trail_laws.proofs.lower_leave_as_told.Goals as goal
-
-pub returns : goal.returns
-returns c = lower_leave_as_told
