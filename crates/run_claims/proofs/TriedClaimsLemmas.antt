@@ -12,5 +12,5 @@ the_tried_claims = record {
   later = λ p k id b is. A_commit id b is;
   lost = λ k well. well;
   stopped = λ n well. well;
-  delivered = refl
+  delivered = refl;
 }

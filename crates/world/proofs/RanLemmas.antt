@@ -69,7 +69,7 @@ is_ran w ran places asked happenings book run answers left pending =
     record {
       due = subst (λ (r : RunSoFar). IsRunOfScript r) same run;
       booked = book ∙ ap book_of (sym happenings);
-      all_lines = subst (λ (r : RunSoFar). (script : AreOfAScript r.places r.asked) → IsReported (history_of r script) ran.answers (as_ending ran.ended)) same
+      told = subst (λ (r : RunSoFar). (script : AreOfAScript r.places r.asked) → IsReported (history_of r script) ran.answers (as_ending ran.ended)) same
           (λ script. subst (λ (ls : List AnswerLine). IsReported (history_of w.trace script) ls (as_ending ran.ended)) (sym answers) (left_told w script ran.ended left));
       pending = subst (λ (r : RunSoFar). ran.ended ≡ AllRun → ran.pending ≡ pending_in (past_of r).facts) same pending;
     }
