@@ -1,3 +1,4 @@
+mod SiteLemmas
 pub mod CompleteLemmas
 pub mod WayLemmas
 pub mod DueLemmas

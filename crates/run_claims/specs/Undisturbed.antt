@@ -1,6 +1,6 @@
 -- A COMMIT that nothing disturbs, and what it leaves. (Database Administrator's Guide, "Distributed Transactions Concepts":
 -- two-phase commit mechanism, prepare, commit and forget phases.)
-use Rattle.std.specs.Prelude.{◌≡◌, ℕ, ◌==◌, ◌&&◌, Bool, true, false, if◌then◌else◌, List, [], ◌∷◌, ◌++◌, map, filter, option_map, Option, Some, None}
+use Rattle.std.specs.Prelude.{◌≡◌, ℕ, ◌==◌, ◌&&◌, ◌⊎◌, Bool, true, false, if◌then◌else◌, List, [], ◌∷◌, ◌++◌, map, filter, option_map, Option, Some, None}
 use Rattle.std.specs.List.{AllByRecursion}
 use Rattle.node_rules.specs.Data.{Answer, BranchId, Kind, Live, Place, Input}
 use Rattle.node_rules.specs.Data.decisions
@@ -14,19 +14,23 @@ use Rattle.node_rules.specs.Turn.{BranchStatus, Is_gone, status_of}
 use Rattle.node_rules.specs.Words.{same}
 use Rattle.net_bag.specs.Net.{first_flying}
 use Rattle.run_rules.specs.Births.{Born, born_id, births_from}
-use Rattle.run_rules.specs.Book.{At}
-use Rattle.run_rules.specs.Branches.{is_among}
+use Rattle.run_rules.specs.Book.{At, is_decision_on, stands}
+use Rattle.run_rules.specs.Branches.{Trail, no_trail, is_among, plan_at}
 use Rattle.run_rules.specs.Data.{Command, Entry, Fate, Packet, Turn, Happening}
 use Rattle.run_rules.specs.Data.entries
 use Rattle.run_rules.specs.Data.fates
 use Rattle.run_rules.specs.Data.happenings
 use Rattle.run_rules.specs.Facts.{Facts, first_facts, node_at, outcome_at, facts_after, facts_of}
 use Rattle.run_rules.specs.Lawful.{History, IsLawfulRun}
-use Rattle.run_rules.specs.Trail.{ended_by}
+use Rattle.run_rules.specs.Trail.{ended_by, has_no_site, trail_of}
 
 -- what these happenings leave
 abbrev pub facts_by : List Place → List Command → List Happening → Facts
 facts_by places asked hs = facts_of places asked (first_facts places) hs
+
+-- and what they tell of branches
+abbrev pub trail_by : List Place → List Command → List Happening → Trail
+trail_by places asked hs = trail_of places asked (first_facts places) no_trail hs
 
 -- A COMMIT of the transaction of a live root, and what has happened since the turn of its call.
 pub record Commit (places : List Place) (asked : List Command) (trace : List Happening) : Type 0 where
@@ -125,10 +129,17 @@ SealIsEnded book root _ = Unit {0}
 abbrev pub stand_at : Facts → BranchId → Option BranchStatus
 stand_at f b = option_map (λ k. status_of k b) (node_at f b.node)
 
--- A COMMIT is complete: its call has one answer, Commit complete; each sealed branch of the transaction has ended with
--- commit; and of none of its branches a node knows anything any more, so no view shows one.
+-- A COMMIT was accepted, and a decision of its transaction stands in the book; or its session tree had no commit point site,
+-- since none of its branches had changes.
+abbrev pub IsDecided : List Place → List Command → List Happening → BranchId → Type 0
+IsDecided places asked trace root = (stands (is_decision_on root) (facts_by places asked trace).book ≡ true) ⊎ (has_no_site (plan_at (trail_by places asked trace) root) ≡ true)
+
+-- A COMMIT is complete: its call has one answer, Commit complete; a decision of the transaction stands, where there was anything
+-- to decide; each sealed branch of the transaction has ended with commit; and of none of its branches a node knows anything any
+-- more, so no view shows one.
 pub record CommitIsComplete (places : List Place) (asked : List Command) (trace : List Happening) (c : Commit places asked trace) : Type 0 where
   pub answered : answers_from places asked (facts_by places asked c.before) c.call.node c.session (happenings.Turn c.call ∷ c.during) ≡ commit_complete ∷ []
+  pub decided : IsDecided places asked trace c.root
   pub ended : AllByRecursion (SealIsEnded (facts_by places asked trace).book c.root) (facts_by places asked trace).book
   pub gone : AllByRecursion (λ b. stand_at (facts_by places asked trace) b ≡ Some Is_gone) (branches_by places asked trace c.root)
 
