@@ -37,7 +37,7 @@ use Rattle.tree_laws.proofs.AskRunLemmas.{live_told}
 use Rattle.tree_laws.proofs.AtTurn.{at_turn}
 use Rattle.tree_laws.proofs.DecideLemmas.{cancel}
 use Rattle.tree_laws.proofs.TopStepLemmas.{Finishes, Why, By_record, By_quiet, By_finish, By_abort, By_rollback, By_parent, By_ask, By_call, By_give_up, why_on}
-use Rattle.run_claims.specs.Undisturbed.{Commit, Undisturbed, IsDecided}
+use Rattle.run_claims.specs.Undisturbed.{Commit, Undisturbed, IsDecided, is_create}
 use Rattle.commit_laws.specs.StillLaws.{DroppedNone, AbortsNone}
 use Rattle.commit_laws.specs.WaitLaws.{AllCame}
 use Rattle.commit_point_laws.specs.EndLaws.{WalkEnd, Has_decided, Has_no_changes}
@@ -152,7 +152,7 @@ module _ (t : History) (whole : IsLawfulRun t) (c : Commit t.places t.commands t
     unfolding turn_of
     wrote_is = (drop.owed t whole c u all it w fine.is fine.uncut fine refl).0
 
-    other_input : (input : Input) → w.input ≡ input → ((n : ℕ) (comment : Option (List ℕ)) → inputs.Call n (Some (stmts.Commit comment)) ≢ input) → ((m : _) → inputs.Message m ≢ input) → ⊥
+    other_input : (input : Input) → w.input ≡ input → ((n : ℕ) (comment : Option (List ℕ)) → inputs.Call n (Some (stmts.Commit comment)) ≢ input) → ((m : _) → inputs.Message m ≢ input) → is_create input ≡ false → ⊥
     other_input = drop.input_is t whole c u all it w fine.is fine.uncut fine refl
 
     -- ---- why it left
@@ -191,8 +191,8 @@ module _ (t : History) (whole : IsLawfulRun t) (c : Commit t.places t.commands t
     finishes (By_rollback from came) = upset from kinds.Rollback came refl
     finishes (By_parent from came above) = upset from kinds.RolledBack came refl
     finishes (By_ask from came above) = upset from kinds.Ask came refl
-    finishes (By_call n call at root) = absurd (other_input (inputs.Call n (Some stmts.Rollback)) call (λ m comment no. absurd cc) (λ m no. absurd cc))
-    finishes (By_give_up n gives root pends) = absurd (other_input (inputs.GiveUp n) gives (λ m comment no. absurd cc) (λ m no. absurd cc))
+    finishes (By_call n call at root) = absurd (other_input (inputs.Call n (Some stmts.Rollback)) call (λ m comment no. absurd cc) (λ m no. absurd cc) refl)
+    finishes (By_give_up n gives root pends) = absurd (other_input (inputs.GiveUp n) gives (λ m comment no. absurd cc) (λ m no. absurd cc) refl)
 
     siteless : HadNoSite t r
     siteless = had_no_site t whole hs w it.later is k may.1.up r l me was top (finishes why)

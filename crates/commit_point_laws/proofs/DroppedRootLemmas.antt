@@ -39,7 +39,7 @@ use Rattle.tree_laws.proofs.ForestRunLemmas.{run_known}
 use Rattle.tree_laws.proofs.PrefixLemmas.{so_far, f_at, e_at, one_on, more_on}
 use Rattle.tree_laws.proofs.FateLemmas.{among_found}
 use Rattle.tree_laws.proofs.TimeLemmas.{Part, part_on, part_of, part_lawful, may_of, each_at, exit_end, sent_end, born_end}
-use Rattle.run_claims.specs.Undisturbed.{Commit, Undisturbed}
+use Rattle.run_claims.specs.Undisturbed.{Commit, Undisturbed, is_create}
 use Rattle.commit_laws.specs.WaitLaws.{AllCame}
 use Rattle.commit_point_laws.specs.RootLaws.{FoundNothing, is_rollback, RootReason, Seals, Decides, Finishes, Hears_abort, Gets_rollback, Rolls_back, Gives_up, TurnsLeaveRoots}
 use Rattle.commit_point_laws.proofs.CalmLemmas.{IsPlain, plain, took_message, never_disturbed, none_rolled}
@@ -258,10 +258,11 @@ module _ (t : History) (whole : IsLawfulRun t) (c : Commit t.places t.commands t
     rollback_not from came = never_disturbed t whole c u hs w it.later is root_born root_began root_of from kinds.Rollback refl (subst (λ i. Came w.input from i kinds.Rollback) (sym root_me) came)
 
     -- the input is the COMMIT or a message
-    pub input_is : (input : Input) → w.input ≡ input → ((n : ℕ) (comment : Option (List ℕ)) → inputs.Call n (Some (stmts.Commit comment)) ≢ input) → ((m : _) → inputs.Message m ≢ input) → ⊥
-    input_is input is_it no_call no_message = elim (comes.comes) [
+    pub input_is : (input : Input) → w.input ≡ input → ((n : ℕ) (comment : Option (List ℕ)) → inputs.Call n (Some (stmts.Commit comment)) ≢ input) → ((m : _) → inputs.Message m ≢ input) → is_create input ≡ false → ⊥
+    input_is input is_it no_call no_message no_create = elim (comes.comes) [
       | inl call ↦ no_call call.0 call.1 (sym (subst (λ (y : Turn). IsCall y.input call.0 (stmts.Commit call.1)) comes_is call.2) ∙ is_it)
-      | inr took ↦ (let came = took_message f k w.node w.input w.took took.0 (subst (λ (y : Turn). y.took ≡ Some took.0) comes_is took.1) may.1.comes in no_message came.0 (sym came.1 ∙ is_it))
+      | inr (inl took) ↦ (let came = took_message f k w.node w.input w.took took.0 (subst (λ (y : Turn). y.took ≡ Some took.0) comes_is took.1) may.1.comes in no_message came.0 (sym came.1 ∙ is_it))
+      | inr (inr create) ↦ (let yes : is_create input ≡ true = ap is_create (sym is_it) ∙ subst (λ (y : Turn). is_create y.input ≡ true) comes_is create in absurd (cc (yes, no_create)))
     ]
 
     by_reason : RootReason (said_in f) e w.input b (turn_of p k w.input).wrote (map post_of (turn_of p k w.input).sent) → FoundNothing (said_in (facts_at t)) (events_of t) b
@@ -270,8 +271,8 @@ module _ (t : History) (whole : IsLawfulRun t) (c : Commit t.places t.commands t
     by_reason (Finishes now) = found_end now
     by_reason (Hears_abort from came told) = absurd (abort_not from came told)
     by_reason (Gets_rollback from came) = absurd (rollback_not from came)
-    by_reason (Rolls_back n call) = absurd (input_is (inputs.Call n (Some stmts.Rollback)) call (λ m comment no. absurd cc) (λ m no. absurd cc))
-    by_reason (Gives_up n gives) = absurd (input_is (inputs.GiveUp n) gives (λ m comment no. absurd cc) (λ m no. absurd cc))
+    by_reason (Rolls_back n call) = absurd (input_is (inputs.Call n (Some stmts.Rollback)) call (λ m comment no. absurd cc) (λ m no. absurd cc) refl)
+    by_reason (Gives_up n gives) = absurd (input_is (inputs.GiveUp n) gives (λ m comment no. absurd cc) (λ m no. absurd cc) refl)
 
     found_so : FoundNothing (said_in (facts_at t)) (events_of t) b
     found_so = by_reason reason
