@@ -8,5 +8,9 @@ pub mod AnsweredLemmas
 pub mod CourseLemmas
 pub mod EarlierLemmas
 pub mod ToldLemmas
+pub mod SoonerLemmas
+pub mod CreateFlowLemmas
+pub mod CreateStepLemmas
+pub mod CreateCourseLemmas
 pub mod QuietLemmas
 mod TriedCourseLemmas

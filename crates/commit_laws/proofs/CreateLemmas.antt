@@ -1,7 +1,7 @@
 -- A CREATE itself changes the catalog alone: the branches of its node, their rows and the sessions stay, and it says nothing.
 use Rattle.std.proofs.Common.{◌≡◌, ◌⊎◌, Bool, true, false, List, [], ◌∷◌, ◌++◌, Option, Some, None, refl, sym, ap, subst, ◌∙◌}
 use Rattle.std.proofs.lemmas.Bool.{cond_both}
-use Rattle.node_rules.specs.Data.{Input, Place, Stmt}
+use Rattle.node_rules.specs.Data.{Answer, Input, Place, Stmt}
 use Rattle.node_rules.specs.Data.inputs
 use Rattle.node_rules.specs.Data.stmts
 use Rattle.node_rules.specs.Client.{is_used, is_link}
@@ -37,6 +37,13 @@ module _ (p : Place) (k : NodeState) where
   create_leaves (inputs.Message m) is = absurd cc
   create_leaves (inputs.GiveUp n) is = absurd cc
   create_leaves inputs.Reco is = absurd cc
+
+  -- and it is answered in its own turn
+  pub create_answers : (n : _) (s : Stmt) → commits_first s ≡ true → (a : Answer) × ((draft_of p k (inputs.Call n (Some s))).ended ≡ (record { session = n; answer = a }) ∷ [])
+  create_answers n (stmts.CreateTable t) is = cond_both (is_used k.stored.durable t.name) _ _ (λ (d : TurnDraft). (a : Answer) × (d.ended ≡ (record { session = n; answer = a }) ∷ [])) (λ used. (_, refl)) (λ free. (_, refl))
+  create_answers n (stmts.CreateLink l) is = cond_both (is_link k.stored.durable l.name) _ _ (λ (d : TurnDraft). (a : Answer) × (d.ended ≡ (record { session = n; answer = a }) ∷ [])) (λ used. (_, refl)) (λ free. (_, refl))
+  create_answers n (stmts.CreateSynonym y) is = cond_both (is_used k.stored.durable y.name) _ _ (λ (d : TurnDraft). (a : Answer) × (d.ended ≡ (record { session = n; answer = a }) ∷ [])) (λ used. (_, refl)) (λ free. (_, refl))
+  create_answers n _ is = absurd cc
 
 -- a CREATE takes no message
 pub create_takes_none : (f : Facts) (k : NodeState) (node : _) (input : Input) (took : Option Took) → is_create input ≡ true → Comes f k node input took → took ≡ None

@@ -34,7 +34,7 @@ use Rattle.commit_leave_laws.proofs.PendLemmas.{State, Waits, Done, delivered, s
 -- ---- lists
 
 -- the answers of one happening more
-answers_more : (places : List Place) (asked : _) (f : Facts) (node session : ℕ) (hs : List Happening) (h : Happening)
+pub answers_more : (places : List Place) (asked : _) (f : Facts) (node session : ℕ) (hs : List Happening) (h : Happening)
     → commit_answers_from places asked f node session (hs ++ h ∷ []) ≡ commit_answers_from places asked f node session hs ++ commit_answers_in places (facts_of places asked f hs) node session h
 unfolding facts_of
 answers_more places asked f node session [] h = append-nil (commit_answers_in places f node session h)
