@@ -1,6 +1,8 @@
--- A quiet COMMIT, tried: the run of the script of two nodes has one, and it is done.
-use Rattle.std.specs.Prelude.{◌≡◌, ℕ, List, [], ◌∷◌, ◌++◌, drop, replicate, slice_get, take, Option, Some}
-use Rattle.run_rules.specs.Data.{Happening}
+-- Quiet COMMITs, tried on scripts of two nodes: a COMMIT of a transaction with changes at both is quiet, and it is done; so is the
+-- COMMIT that a CREATE makes first of the same transaction. Where a message of the COMMIT is lost it is not quiet.
+use Rattle.std.specs.Prelude.{◌≡◌, ℕ, codes, List, [], ◌∷◌, ◌++◌, replicate, slice_get, Option, Some, None}
+use Rattle.node_rules.specs.Data.stmts
+use Rattle.run_rules.specs.Data.{Command, Happening}
 use Rattle.run_rules.specs.Data.happenings
 use Rattle.run_rules.specs.Due.{happened}
 use Rattle.run_rules.specs.Lawful.{History}
@@ -9,23 +11,27 @@ use Rattle.run_rules.specs.Scripts.{IsTheRunOf}
 use Rattle.run_branch_laws.specs.TriedRun as tried
 use Rattle.run_claims.specs.CommitCourse.{QuietCommit, IsDone}
 use Rattle.run_claims.specs.Undisturbed.{Commit}
-use Rattle.commit_course_laws.specs.TriedCourse.{script, lossy}
+use Rattle.commit_course_laws.specs.TriedCourse.{asks, changes, script, lossy}
 
--- what happens in the run of the script
-abbrev pub trace : List Happening
-trace = happened tried.places script (replicate 21 0) (start tried.places)
+-- the same changes, and a CREATE instead of the COMMIT
+abbrev pub creating : List Command
+creating = changes ++ asks 1 (stmts.CreateTable (tried.table_of_keys (codes "U"))) ∷ []
 
--- the twentieth happening of the second script, after the COMMIT: the message that tells B the commit is lost
-abbrev pub lossy_loss : Option Happening
-lossy_loss = slice_get (happened tried.places lossy (replicate 20 0) (start tried.places)) 19
+-- so many happenings of a script
+abbrev pub run_of : List Command → ℕ → List Happening
+run_of asked n = happened tried.places asked (replicate n 0) (start tried.places)
 
--- The run of the script has a quiet COMMIT, which is done. In that of the second script a message is lost in the COMMIT's
--- command, so the COMMIT is not quiet.
-pub record TheTriedQuiet : Type 0 where
+-- The run of a script has a quiet COMMIT, and it is done.
+pub record HasQuietCommit (asked : List Command) : Type 0 where
   pub history : History
-  pub asked : history.commands ≡ script
+  pub of : history.commands ≡ asked
   pub run : IsTheRunOf history
   pub commit : Commit history.places history.commands history.trace
   pub quiet : QuietCommit history history.trace [] commit
   pub done : IsDone history history.trace commit
-  pub lost : lossy_loss ≡ Some (happenings.Lost 7)
+
+-- The COMMIT is quiet, and so is that of the CREATE; in the third script the message is lost that tells B the commit.
+pub record TheTriedQuiet : Type 0 where
+  pub commits : HasQuietCommit script
+  pub creates : HasQuietCommit creating
+  pub loses : slice_get (run_of lossy 20) 19 ≡ Some (happenings.Lost 7)
