@@ -239,7 +239,7 @@ module _ (complete : UndisturbedCommitsAreComplete) (law : DeliveriesStayBelow) 
     none_given_up x xs calls none (inl still) = by now.stage (answered still)
       where
         by : Stage n m s (Came mid) (told mid) (at_past mid).run_report → told mid ≡ commit_complete ∷ [] → ⊥
-        by (Commits y at then all no unsaid) is_said = (let both : [] ≡ commit_complete ∷ [] = sym unsaid ∙ is_said in cc)
+        by (Commits y at second all no unsaid) is_said = (let both : [] ≡ commit_complete ∷ [] = sym unsaid ∙ is_said in cc)
         by (Follows y at create all) is_said = cc (at, none)
         by (Created it gone no) is_said = (subst (AllByRecursion IsNoCall) calls gone).0
         by (Refused a others at incomplete gone no) is_said = (subst (AllByRecursion IsNoCall) calls gone).0
@@ -292,7 +292,7 @@ module _ (complete : UndisturbedCommitsAreComplete) (law : DeliveriesStayBelow) 
     one_more _ (Second u x at here input k up whole) = by now.stage
       where
         by : Stage n m s (Came mid) (told mid) (at_past mid).run_report → Status (mid ++ happenings.Turn u ∷ [])
-        by (Commits y found then all none unsaid) = absurd (cc (at, none))
+        by (Commits y found second all none unsaid) = absurd (cc (at, none))
         by (Follows y is_next create all) =
             let both : Some y ≡ Some x = sym is_next ∙ at in
             let same : y ≡ x = cc in
@@ -335,7 +335,7 @@ module _ (complete : UndisturbedCommitsAreComplete) (law : DeliveriesStayBelow) 
   has_come = by last.stage (answered c.during [] (append-nil c.during) last over.0)
     where
       by : Stage n m s (Came c.during) (told c.during) (at_past c.during).run_report → told c.during ≡ commit_complete ∷ [] → CreateHasCome t front c s
-      by (Commits y found then all none unsaid) is_said = (let both : [] ≡ commit_complete ∷ [] = sym unsaid ∙ is_said in absurd cc)
+      by (Commits y found second all none unsaid) is_said = (let both : [] ≡ commit_complete ∷ [] = sym unsaid ∙ is_said in absurd cc)
       by (Follows y is_next create all) is_said = (let none = over.1 in absurd (cc (is_next, none)))
       by (Created it gone none) is_said = record { before = it.before; turn = it.turn; later = it.rest; is = it.is; here = it.here; asks = it.asks; whole = it.whole }
       by (Refused a others first_is incomplete gone none) is_said =

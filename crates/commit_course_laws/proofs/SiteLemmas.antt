@@ -37,7 +37,7 @@ use Rattle.tree_laws.proofs.AskRunLemmas.{live_told}
 use Rattle.tree_laws.proofs.AtTurn.{at_turn}
 use Rattle.tree_laws.proofs.DecideLemmas.{cancel}
 use Rattle.tree_laws.proofs.TopStepLemmas.{Finishes, Why, By_record, By_quiet, By_finish, By_abort, By_rollback, By_parent, By_ask, By_call, By_give_up, why_on}
-use Rattle.run_claims.specs.Undisturbed.{Commit, Undisturbed, IsDecided, is_create}
+use Rattle.run_claims.specs.Undisturbed.{Commit, Undisturbed, SiteHasDecided, is_create}
 use Rattle.commit_laws.specs.StillLaws.{DroppedNone, AbortsNone}
 use Rattle.commit_laws.specs.WaitLaws.{AllCame}
 use Rattle.commit_point_laws.specs.EndLaws.{WalkEnd, Has_decided, Has_no_changes}
@@ -127,8 +127,8 @@ module _ (t : History) (whole : IsLawfulRun t) (c : Commit t.places t.commands t
             absurd (cc (call, message))
         by (x ∷ xs) at same_list =
             let head : x ≡ happenings.Turn c.call = cc in
-            let then : (c.before ++ happenings.Turn c.call ∷ []) ++ xs ≡ hs = append_assoc c.before (happenings.Turn c.call ∷ []) xs ∙ (ap (λ y. c.before ++ y ∷ xs) (sym head) ∙ ap (λ ys. c.before ++ ys) (sym at)) in
-            calm_so t whole c u quiet k w.input hs w it.later is xs then may.1 here from kind came
+            let joined : (c.before ++ happenings.Turn c.call ∷ []) ++ xs ≡ hs = append_assoc c.before (happenings.Turn c.call ∷ []) xs ∙ (ap (λ y. c.before ++ y ∷ xs) (sym head) ∙ ap (λ ys. c.before ++ ys) (sym at)) in
+            calm_so t whole c u quiet k w.input hs w it.later is xs joined may.1 here from kind came
 
     upset : {A : Type 0} (from : BranchId) (kind : Kind) → Came w.input from r kind → upsets kind ≡ true → A
     upset from kind came upsetting = (let none = calm from kind came in absurd (cc (none, upsetting)))
@@ -199,11 +199,11 @@ module _ (t : History) (whole : IsLawfulRun t) (c : Commit t.places t.commands t
 
   -- ---- the walk has ended
 
-  decided_by : WalkEnd t r → IsDecided t.places t.commands t.trace r
+  decided_by : WalkEnd t r → SiteHasDecided t.places t.commands t.trace r
   decided_by (Has_no_changes left others) = inr (siteless left)
   decided_by (Has_decided n left of) =
       let its = decided_stands t whole _ n left in
       inl (place_any (is_decision_on r) (facts_at t).book its.1 (entries.Decided _ _ its.0 n) its.2 (same_from_equal _ r of))
 
-  pub is_decided : IsDecided t.places t.commands t.trace r
+  pub is_decided : SiteHasDecided t.places t.commands t.trace r
   is_decided = decided_by (undisturbed_walks_end t whole c u below)

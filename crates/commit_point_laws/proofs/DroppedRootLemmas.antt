@@ -153,7 +153,7 @@ module _ (t : History) (whole : IsLawfulRun t) (c : Commit t.places t.commands t
     lawful : IsLawfulRun (so_far t hs)
     lawful = part_lawful t whole hs part
 
-    pub may : MayHappen t.places t.commands f h
+    abbrev pub may : MayHappen t.places t.commands f h
     may = may_of t whole hs h it.later is
 
     abbrev pub k : NodeState

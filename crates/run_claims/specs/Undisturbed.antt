@@ -155,17 +155,17 @@ SealIsEnded book root _ = Unit {0}
 abbrev pub stand_at : Facts → BranchId → Option BranchStatus
 stand_at f b = option_map (λ k. status_of k b) (node_at f b.node)
 
--- A COMMIT was accepted, and a decision of its transaction stands in the book; or its session tree had no commit point site,
--- since none of its branches had changes.
-abbrev pub IsDecided : List Place → List Command → List Happening → BranchId → Type 0
-IsDecided places asked trace root = (stands (is_decision_on root) (facts_by places asked trace).book ≡ true) ⊎ (has_no_site (plan_at (trail_by places asked trace) root) ≡ true)
+-- the commit point site of a COMMIT has decided, as the book says; or the COMMIT was accepted and its session tree had no site,
+-- since none of its branches had changes
+abbrev pub SiteHasDecided : List Place → List Command → List Happening → BranchId → Type 0
+SiteHasDecided places asked trace root = (stands (is_decision_on root) (facts_by places asked trace).book ≡ true) ⊎ (has_no_site (plan_at (trail_by places asked trace) root) ≡ true)
 
 -- A COMMIT is complete: its call has one answer, Commit complete; a decision of the transaction stands, where there was anything
 -- to decide; each sealed branch of the transaction has ended with commit; and of none of its branches a node knows anything any
 -- more, so no view shows one.
 pub record CommitIsComplete (places : List Place) (asked : List Command) (trace : List Happening) (c : Commit places asked trace) : Type 0 where
   pub answered : commit_answers_from places asked (facts_by places asked c.before) c.call.node c.session (happenings.Turn c.call ∷ c.during) ≡ commit_complete ∷ []
-  pub decided : IsDecided places asked trace c.root
+  pub decided : SiteHasDecided places asked trace c.root
   pub ended : AllByRecursion (SealIsEnded (facts_by places asked trace).book c.root) (facts_by places asked trace).book
   pub gone : AllByRecursion (λ b. stand_at (facts_by places asked trace) b ≡ Some Is_gone) (branches_by places asked trace c.root)
 
