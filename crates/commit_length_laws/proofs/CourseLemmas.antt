@@ -209,9 +209,9 @@ module _ (t : History) (whole : IsLawfulRun t) (c : Commit t.places t.commands t
         let on : f_at t (hs ++ h ∷ []) ≡ facts_after t.places t.commands (f_at t hs) (happenings.Turn v) = one_on t hs h ∙ ap (facts_after t.places t.commands (f_at t hs)) turn in
         subst (λ (x : Facts). (delivery_of (happenings.Turn v) + all_worth g far x ≤ all_worth g far (f_at t hs)) × AllFly Course x.net) (sym on) (elim it [
           | inl delivery ↦ (
-              subst (λ o. (if is_some o then 1 else 0) + all_worth g far (facts_after t.places t.commands (f_at t hs) (happenings.Turn v)) ≤ all_worth g far (f_at t hs)) (sym delivery.2) (less hs h rest is calm v turn delivery.0 delivery.1 delivery.2 may.0 may.1 now),
-              flies_on hs h rest is calm v turn delivery.0 delivery.1 delivery.2 may.0 may.1 now,
-            )
+            subst (λ o. (if is_some o then 1 else 0) + all_worth g far (facts_after t.places t.commands (f_at t hs) (happenings.Turn v)) ≤ all_worth g far (f_at t hs)) (sym delivery.2) (less hs h rest is calm v turn delivery.0 delivery.1 delivery.2 may.0 may.1 now),
+            flies_on hs h rest is calm v turn delivery.0 delivery.1 delivery.2 may.0 may.1 now,
+          )
           | inr create ↦ (create_less hs h rest is v create.0 create.1 may.0 may.1 now, create_flies hs h rest is v create.0 create.1 may.0 may.1 now)
         ])
     one_more hs h rest is (happenings.Begun n) turn it now = absurd (elim it [ inl no ↦ no | inr no ↦ no ])
