@@ -3,7 +3,7 @@ use Rattle.std.proofs.Common.{◌≡◌, ℕ, ◌+◌, ◌<◌, ◌==◌, ◌&&�
 use Rattle.std.specs.List.{AllByRecursion}
 use Rattle.std.proofs.lemmas.Bool.{eq-eqb}
 use Rattle.std.proofs.lemmas.List.{append_assoc}
-use Rattle.node_rules.specs.Data.{Answer, Input, Place, Stmt}
+use Rattle.node_rules.specs.Data.{Answer, Stmt}
 use Rattle.node_rules.specs.Data.inputs
 use Rattle.node_rules.specs.Data.stmts
 use Rattle.node_rules.specs.declared.session.Finished.{Finished}
@@ -28,7 +28,7 @@ use Rattle.run_rules.specs.Scripts.{IsTheRunOf}
 use Rattle.run_rules.proofs.FactLemmas.{facts_are}
 use Rattle.run_rules.proofs.ListLemmas.{all_append}
 use Rattle.run_base_laws.proofs.PastLemmas.{past_on}
-use Rattle.run_ready_laws.proofs.PendingLemmas.{found_so, at_parts}
+use Rattle.run_ready_laws.proofs.PendingLemmas.{found_so}
 use Rattle.tree_laws.proofs.PrefixLemmas.{so_far}
 use Rattle.tree_laws.proofs.TimeLemmas.{part_lawful}
 use Rattle.answer_origin_laws.proofs.CallAtLemmas.{HasShape, Plain, Commits as Commits_shape, named_so}
@@ -36,12 +36,12 @@ use Rattle.answer_origin_laws.proofs.CallTurnLemmas.{what_comes_is_pending}
 use Rattle.commit_laws.proofs.CreateLemmas.{create_answers}
 use Rattle.commit_leave_laws.proofs.AnswerLemmas.{answers_more}
 use Rattle.commit_length_laws.specs.FewLaws.{DeliveriesStayBelow, deliveries_in}
-use Rattle.run_claims.specs.Undisturbed.{Commit, Undisturbed, CommitIsComplete, UndisturbedCommitsAreComplete, IsInCourse, is_create, facts_by, answers_in, commit_answers_in, commit_answers_from}
+use Rattle.run_claims.specs.Undisturbed.{Commit, Undisturbed, UndisturbedCommitsAreComplete, IsInCourse, is_create, facts_by, answers_in, commit_answers_in, commit_answers_from}
 use Rattle.run_claims.specs.CommitCourse.{past_by, GoesWell, CreateIsUnderWay, CreateHasCome, IsDone}
 use Rattle.commit_course_laws.specs.CommandCalls.{is_hold}
 use Rattle.commit_course_laws.proofs.FlowLemmas.{IsWholeTurn, IsItsCall, Comes, Delivery, Give_up, no_create}
 use Rattle.commit_course_laws.proofs.CourseLemmas.{CommandGoes, p, there, upto, due, facts_before, its, shapes, settled, stands, alone, first, first_none, first_run, past_is, end_is, facts_end}
-use Rattle.commit_course_laws.proofs.AnsweredLemmas.{IsNoCall, HasNone}
+use Rattle.commit_course_laws.proofs.AnsweredLemmas.{IsNoCall}
 use Rattle.commit_course_laws.proofs.EarlierLemmas.{all_front}
 use Rattle.commit_course_laws.proofs.SoonerLemmas.{StaysCalm, complete_sooner, few_sooner, counted, not_spent}
 use Rattle.commit_course_laws.proofs.CreateFlowLemmas.{IsOf, IsCreateCall, Stage, Commits, Follows, Created, Refused, said}

@@ -2,7 +2,7 @@
 -- been answered, so no call is given up, and nothing comes but the next command.
 use Rattle.std.proofs.Common.{◌≡◌, ℕ, ◌+◌, ◌<◌, true, false, List, [], ◌∷◌, ◌++◌, Some, None, inl, inr, refl, sym, ap, subst, ◌∙◌}
 use Rattle.std.specs.List.{AllByRecursion}
-use Rattle.node_rules.specs.Data.{Place, Stmt}
+use Rattle.node_rules.specs.Data.{Place}
 use Rattle.node_rules.specs.Data.stmts
 use Rattle.net_bag.specs.Net.{first_flying}
 use Rattle.run_rules.specs.Commands.{commits_first}
@@ -10,7 +10,7 @@ use Rattle.run_rules.specs.Data.{Command, Happening}
 use Rattle.run_rules.specs.Data.commands
 use Rattle.run_rules.specs.Data.happenings
 use Rattle.run_rules.specs.Due.{due_of, IsTheRun}
-use Rattle.run_rules.specs.Facts.{Facts, command_at}
+use Rattle.run_rules.specs.Facts.{Facts}
 use Rattle.run_rules.specs.Reported.{IsBetweenCommands}
 use Rattle.run_rules.specs.Scripts.{IsTheRunOf}
 use Rattle.run_rules.specs.Lawful.{History, IsLawfulRun}
@@ -22,10 +22,9 @@ use Rattle.run_rules.proofs.ListLemmas.{all_weaker}
 use Rattle.run_ready_laws.proofs.RunLawfulLemmas.{the_run_is_lawful}
 use Rattle.tree_laws.proofs.PrefixLemmas.{so_far}
 use Rattle.tree_laws.proofs.TimeLemmas.{part_lawful}
-use Rattle.run_claims.specs.Undisturbed.{Commit, Undisturbed, CommitIsComplete, UndisturbedCommitsAreComplete, IsFirstDelivery, IsInCourse, is_create, facts_by, answers_from, commit_answers_from}
+use Rattle.run_claims.specs.Undisturbed.{Commit, Undisturbed, CommitIsComplete, UndisturbedCommitsAreComplete, IsFirstDelivery, IsInCourse, is_create, facts_by}
 use Rattle.commit_length_laws.specs.FewLaws.{DeliveriesStayBelow, deliveries_in}
-use Rattle.run_claims.specs.CommitCourse.{past_by, GoesWell, CommitIsUnderWay, Of_commit, Of_create, IsUnderWay, QuietCommit, IsDone, QuietCommitsAreComplete}
-use Rattle.node_rules.specs.Sessions.{commit_complete}
+use Rattle.run_claims.specs.CommitCourse.{GoesWell, CommitIsUnderWay, Of_commit, Of_create, IsUnderWay, QuietCommit, IsDone, QuietCommitsAreComplete}
 use Rattle.commit_course_laws.proofs.FlowLemmas.{IsWholeTurn, IsNoCreate, Flows, Comes, Delivery, Give_up, comes_so, between_so, Further, further, Course}
 use Rattle.commit_course_laws.proofs.CourseLemmas.{CommandGoes, plain, first, first_none, first_flows, first_run, past_is, end_is, facts_end, fresh, its_course, answered_so}
 use Rattle.commit_course_laws.proofs.SoonerLemmas.{StaysCalm, complete_sooner, few_sooner, counted, not_spent, same_answers}

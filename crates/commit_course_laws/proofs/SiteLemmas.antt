@@ -17,7 +17,7 @@ use Rattle.node_rules.specs.Turn.{turn_of, heard}
 use Rattle.node_rules.specs.Words.{same}
 use Rattle.node_rules.proofs.HeardLemmas.{sessions_heard}
 use Rattle.run_rules.specs.Births.{births_of}
-use Rattle.run_rules.specs.Book.{At, is_decision_on}
+use Rattle.run_rules.specs.Book.{is_decision_on}
 use Rattle.run_rules.specs.Data.{Happening, Turn}
 use Rattle.run_rules.specs.Data.entries
 use Rattle.run_rules.specs.Data.happenings

@@ -19,7 +19,6 @@ use Rattle.run_rules.specs.Due.{due_of, runs_on, happened}
 use Rattle.run_rules.specs.Lawful.{AreOfAScript, IsCommandOver, History, IsPlace}
 use Rattle.run_rules.specs.Past.{next, past}
 use Rattle.run_rules.specs.RunReport.{start}
-use Rattle.run_rules.specs.Scripts.{IsTheRunOf}
 use Rattle.run_branch_laws.specs.TriedRun as tried
 use Rattle.run_branch_laws.proofs.RunLemmas.{is_the_run}
 use Rattle.run_claims.specs.CommitCourse.{QuietCommit, QuietCommitsAreComplete, Of_commit, Of_create}

@@ -1,6 +1,6 @@
 -- Quiet COMMITs, tried on scripts of two nodes: a COMMIT of a transaction with changes at both is quiet, and it is done; so is the
 -- COMMIT that a CREATE makes first of the same transaction. Where a message of the COMMIT is lost it is not quiet.
-use Rattle.std.specs.Prelude.{◌≡◌, ℕ, codes, List, [], ◌∷◌, ◌++◌, replicate, slice_get, Option, Some, None}
+use Rattle.std.specs.Prelude.{◌≡◌, ℕ, codes, List, [], ◌∷◌, ◌++◌, replicate, slice_get, Some}
 use Rattle.node_rules.specs.Data.stmts
 use Rattle.run_rules.specs.Data.{Command, Happening}
 use Rattle.run_rules.specs.Data.happenings

@@ -1,5 +1,5 @@
 -- A CREATE itself changes the catalog alone: the branches of its node, their rows and the sessions stay, and it says nothing.
-use Rattle.std.proofs.Common.{◌≡◌, ◌⊎◌, Bool, true, false, List, [], ◌∷◌, ◌++◌, Option, Some, None, refl, sym, ap, subst, ◌∙◌}
+use Rattle.std.proofs.Common.{◌≡◌, true, List, [], ◌∷◌, Option, Some, None, refl, ap}
 use Rattle.std.proofs.lemmas.Bool.{cond_both}
 use Rattle.node_rules.specs.Data.{Answer, Input, Place, Stmt}
 use Rattle.node_rules.specs.Data.inputs
@@ -11,7 +11,7 @@ use Rattle.node_rules.specs.Records.{applied}
 use Rattle.node_rules.specs.Turn.{draft_of}
 use Rattle.redo_record.specs.Durable.{durable_after}
 use Rattle.run_rules.specs.Commands.{commits_first}
-use Rattle.run_rules.specs.Data.{Happening, Took}
+use Rattle.run_rules.specs.Data.{Took}
 use Rattle.run_rules.specs.Facts.{Facts}
 use Rattle.run_rules.specs.Lawful.{Comes}
 use Rattle.run_claims.specs.Undisturbed.{is_create}

@@ -29,7 +29,7 @@ use Rattle.run_branch_laws.proofs.FreezeRunLemmas.{prepare_finds_rest}
 use Rattle.run_base_laws.proofs.SaidPostLemmas.{prepares_are_said}
 use Rattle.tree_laws.proofs.PrefixLemmas.{f_at, one_on}
 use Rattle.tree_laws.proofs.TimeLemmas.{may_of}
-use Rattle.run_claims.specs.Undisturbed.{Commit, NoneComesIn, IsFirstDelivery, IsCreateTurn, IsInCourse, is_create, branches_in, branches_by, disturbs, is_disturbed}
+use Rattle.run_claims.specs.Undisturbed.{Commit, NoneComesIn, IsInCourse, is_create, branches_in, branches_by, disturbs, is_disturbed}
 use Rattle.commit_laws.proofs.CreateLemmas.{LeavesBranches, create_leaves, create_takes_none}
 use Rattle.commit_laws.proofs.NetLemmas.{numbered_all}
 use Rattle.commit_length_laws.specs.FewLaws.{delivery_of, deliveries_in}
