@@ -74,7 +74,7 @@ module _ (node session : ℕ) where
 
     -- ---- in a turn
 
-    answered_end : (t : RunReport) (u : Turn) (o : TurnOutput) → HasOne node session t → u.node ≡ node → (filter (λ (x : Finished). x.session == session) o.ended ≡ [] → ⊥) → HasNone (ends_calls running t u false (Some o))
+    pub answered_end : (t : RunReport) (u : Turn) (o : TurnOutput) → HasOne node session t → u.node ≡ node → (filter (λ (x : Finished). x.session == session) o.ended ≡ [] → ⊥) → HasNone (ends_calls running t u false (Some o))
     answered_end t u o one here some =
         let v : RunReport = finished running t u.node o.ended in
         let none : HasNone v = subst (λ n. HasNone (finished running t n o.ended)) (sym here) (answered_calls t o.ended one some) in

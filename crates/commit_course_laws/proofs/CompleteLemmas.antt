@@ -1,5 +1,5 @@
 -- In every lawful run an undisturbed COMMIT is complete.
-use Rattle.std.proofs.Common.{◌≡◌, ℕ, ◌+◌, ◌≤◌, ◌||◌, Bool, true, false, if◌then◌else◌, List, [], ◌∷◌, map, filter, slice_get, zero, suc, option_map, Option, Some, None, refl, sym, ap, subst, ◌∙◌, arith}
+use Rattle.std.proofs.Common.{◌≡◌, ℕ, ◌+◌, ◌≤◌, ◌||◌, Bool, true, false, if◌then◌else◌, List, [], ◌∷◌, map, filter, slice_get, suc, option_map, Option, Some, None, refl, sym, ap, subst, ◌∙◌, arith}
 use Rattle.std.specs.List.{AllByRecursion, list_any}
 use Rattle.tran_ids.proofs.BranchLemmas.{equal_from_same, same_from_equal}
 use Rattle.tran_ids.proofs.ListedLemmas.{item_is}
@@ -34,6 +34,7 @@ use Rattle.commit_leave_laws.proofs.AnswerLemmas.{undisturbed_calls_end}
 use Rattle.commit_leave_laws.proofs.CallLemmas as call
 use Rattle.commit_leave_laws.proofs.RootAskLemmas.{undisturbed_branches_leave}
 use Rattle.commit_course_laws.specs.CompleteLaws.{LawfulCommitsAreComplete}
+use Rattle.commit_course_laws.proofs.SiteLemmas.{place_any, is_decided}
 
 -- ---- lists
 
@@ -45,15 +46,6 @@ any_place p (x ∷ xs) is = by (p x) refl is (any_place p xs)
     by : (q : Bool) → p x ≡ q → (q || list_any p xs) ≡ true → (list_any p xs ≡ true → (i : ℕ) × (y : _) × (slice_get xs i ≡ Some y) × (p y ≡ true)) → (i : ℕ) × (y : _) × (slice_get (x ∷ xs) i ≡ Some y) × (p y ≡ true)
     by true here found rest = (0, x, refl, here)
     by false here found rest = let one = rest found in (suc one.0, one.1, one.2, one.3)
-
-place_any : {A : Type 0} (p : A → Bool) (xs : List A) (i : ℕ) (x : A) → slice_get xs i ≡ Some x → p x ≡ true → list_any p xs ≡ true
-place_any p [] i x at is = absurd cc
-place_any p (y ∷ ys) zero x at is = let it : Some y ≡ Some x = at in let one : y ≡ x = cc in ap (λ q. q || list_any p ys) (ap p one ∙ is)
-place_any p (y ∷ ys) (suc i) x at is = by (p y) (place_any p ys i x at is)
-  where
-    by : (q : Bool) → list_any p ys ≡ true → (q || list_any p ys) ≡ true
-    by true found = refl
-    by false found = found
 
 -- what is so of each branch that began in a transaction is so of its branches
 each_branch : (P : BranchId → Type 0) (root : BranchId) (bs : List Born) → AllByRecursion (λ x. x.root ≡ root → P x.me) bs → AllByRecursion P (branches_in bs root)
@@ -161,6 +153,7 @@ module _ (t : History) (whole : IsLawfulRun t) (c : Commit t.places t.commands t
 
   pub complete : CommitIsComplete t.places t.commands t.trace c
   complete = record {
+    decided = is_decided t whole c u dropped (undisturbed_commits_abort_none t whole c u);
     answered = undisturbed_calls_end t whole c u dropped (undisturbed_commits_abort_none t whole c u) (λ k up. root_row k up);
     ended = ended;
     gone = each_branch (λ b. stand_at (facts_at t) b ≡ Some Is_gone) c.root bs (all_weaker (λ x. born_at bs x.me ≡ Some x) _ (λ x began of. gone x began of) bs (each_began bs (no_id_begins_twice t whole)));

@@ -31,7 +31,7 @@ use Rattle.answer_origin_laws.proofs.CallTurnLemmas.{all_so}
 use Rattle.answer_origin_laws.proofs.UptoLemmas.{due_at, may_at}
 use Rattle.run_claims.specs.Undisturbed.{Commit, facts_by, answers_from}
 use Rattle.commit_course_laws.specs.CommandCalls.{is_hold}
-use Rattle.run_claims.specs.CommitCourse.{past_by, CommitIsUnderWay, Delivers, CommitsFlow, CommitsEnd}
+use Rattle.run_claims.specs.CommitCourse.{past_by, GoesWell, CommitIsUnderWay, Delivers, CommitsFlow, CommitsEnd}
 use Rattle.commit_course_laws.proofs.CommandLemmas.{commands_hold_their_call, fresh_deliveries}
 use Rattle.commit_course_laws.proofs.WayLemmas.{turn_way}
 use Rattle.commit_course_laws.proofs.DueLemmas.{stands_here, follows_here}
@@ -82,7 +82,15 @@ module _ (asked : List Command) (command node session : ℕ) (comment : Option (
 
 -- ---- the turn of the call
 
-module _ (t : History) (run : IsTheRunOf t) (front later : List Happening) (c : Commit t.places t.commands front) (goes : CommitIsUnderWay t front later c) where
+-- A command of a COMMIT goes well, which is not HOLD ON or HOLD OFF.
+pub record CommandGoes (t : History) (front later : List Happening) (c : Commit t.places t.commands front) : Type 0 where
+  pub within : front ++ later ≡ t.trace
+  pub no_hold : is_hold (command_at t.commands (facts_by t.places t.commands c.before).command) ≡ false
+  pub off : (past_by t.places t.commands c.before).run_report.hold ≡ false
+  pub whole : c.call.cut ≡ false
+  pub well : AllByRecursion GoesWell c.during
+
+module _ (t : History) (run : IsTheRunOf t) (front later : List Happening) (c : Commit t.places t.commands front) (goes : CommandGoes t front later c) where
   -- before the call
   abbrev pub p : Past
   p = past_by t.places t.commands c.before
@@ -99,31 +107,29 @@ module _ (t : History) (run : IsTheRunOf t) (front later : List Happening) (c : 
   pub upto : past_upto t i ≡ p
   upto = ap (past t.places t.commands (start t.places)) (ap (take i) (sym parts) ∙ take_first c.before (happenings.Turn c.call ∷ (c.during ++ later)))
 
-  due : comes_next t.places t.commands p ≡ Some (happenings.Turn c.call)
+  pub due : comes_next t.places t.commands p ≡ Some (happenings.Turn c.call)
   due = subst (λ q. comes_next t.places t.commands q ≡ Some (happenings.Turn c.call)) upto (due_at t run i (happenings.Turn c.call) there)
 
   pub facts_before : p.facts ≡ facts_by t.places t.commands c.before
   facts_before = facts_are t.places t.commands (start t.places) c.before
 
-  pub own : command_at t.commands p.facts.command ≡ commands.At c.call.node c.session (Some (stmts.Commit c.comment))
-  own = ap (λ (f : Facts). command_at t.commands f.command) facts_before ∙ goes.own
-
   pub its : AllByRecursion (λ (x : Call). x.command ≡ p.facts.command) p.run_report.calls
-  its = subst (λ (q : Past). q.run_report.hold ≡ false → is_hold (command_at t.commands q.facts.command) ≡ false → AllByRecursion (λ (x : Call). x.command ≡ q.facts.command) q.run_report.calls) upto (commands_hold_their_call t run i) goes.off (ap is_hold own)
+  its = subst (λ (q : Past). q.run_report.hold ≡ false → is_hold (command_at t.commands q.facts.command) ≡ false → AllByRecursion (λ (x : Call). x.command ≡ q.facts.command) q.run_report.calls) upto (commands_hold_their_call t run i) goes.off
+      (ap (λ (f : Facts). is_hold (command_at t.commands f.command)) facts_before ∙ goes.no_hold)
 
-  shapes : AllByRecursion (HasShape t.commands) p.run_report.calls
+  pub shapes : AllByRecursion (HasShape t.commands) p.run_report.calls
   shapes = subst (λ (q : Past). AllByRecursion (HasShape t.commands) q.run_report.calls) upto (all_so t run i).shapes
 
   may : (k : NodeState) × MayTurn t.places p.facts c.call k
   may = subst (λ (q : Past). (k : NodeState) × MayTurn t.places q.facts c.call k) upto (may_at t run i (happenings.Turn c.call) there)
 
-  settled : NothingComesFirst p.facts
+  pub settled : NothingComesFirst p.facts
   settled = may.1.settled
 
-  stands : p.run_report.start_to_stop ≡ None
+  pub stands : p.run_report.start_to_stop ≡ None
   stands = stands_here t.places t.commands p settled.told settled.upright c.call due
 
-  alone : p.run_report.next_call ≡ None
+  pub alone : p.run_report.next_call ≡ None
   alone = by p.run_report.next_call refl
     where
       by : (o : Option Call) → p.run_report.next_call ≡ o → o ≡ None
@@ -139,39 +145,9 @@ module _ (t : History) (run : IsTheRunOf t) (front later : List Happening) (c : 
           let commits : commits_first (stmts.Commit c.comment) ≡ true = subst (λ s. commits_first s ≡ true) same second.creates in
           absurd cc
 
-  -- its call alone is pending
-  pub one_call : HasOne c.call.node c.session p.run_report
-  one_call = record { calls = all_its t.commands p.facts.command c.call.node c.session c.comment own p.run_report.calls its shapes; alone = alone }
-
-  -- it is the first thing to happen in its command
-  fresh : p.run_report.acted ≡ false
-  fresh = by p.run_report.acted refl
-    where
-      flows : p.run_report.acted ≡ true → Flows c.call.node c.session p
-      flows acted = record { acted = acted; off = goes.off; stands = stands; upright = settled.upright; one = one_call }
-
-      call : is_call c.call.input ≡ true
-      call = ap is_call c.asks
-
-      other_input : {q : Past} (g : Happening) → Comes c.call.node c.session q g → g ≡ happenings.Turn c.call → ⊥
-      other_input _ (Delivery k u at few other whole took) same = (let it : u ≡ c.call = cc in let input : is_call c.call.input ≡ false = subst (λ (v : Turn). is_call v.input ≡ false) it other in cc (input, call))
-      other_input _ (Give_up u x xs at why other whole) same = (let it : u ≡ c.call = cc in let input : is_call c.call.input ≡ false = subst (λ (v : Turn). is_call v.input ≡ false) it other in cc (input, call))
-
-      by : (q : Bool) → p.run_report.acted ≡ q → q ≡ false
-      by true acted = absurd (other_input (happenings.Turn c.call) (comes_so c.call.node c.session t.places t.commands p (flows acted) (happenings.Turn c.call) goes.whole due).1 refl)
-      by false none = refl
-
-  -- no message was delivered before
-  none_before : p.run_report.deliveries ≡ 0
-  none_before = (subst (λ (q : Past). q.run_report.acted ≡ false → q.run_report.deliveries ≡ 0) upto (fresh_deliveries t i)) fresh
-
-  -- ---- after it
-
-  abbrev pub first : Past
-  first = next t.places t.commands p (happenings.Turn c.call)
-
-  pub first_flows : Flows c.call.node c.session first
-  first_flows = flows_turn c.call.node c.session t.places t.commands p c.call goes.off stands one_call goes.whole
+  -- where it is the first thing to happen in its command, no message was delivered before
+  pub none_before : p.run_report.acted ≡ false → p.run_report.deliveries ≡ 0
+  none_before fresh = (subst (λ (q : Past). q.run_report.acted ≡ false → q.run_report.deliveries ≡ 0) upto (fresh_deliveries t i)) fresh
 
   none_taken : c.call.took ≡ None
   none_taken = by c.call.took refl (subst (λ x. Comes_so x c.call.took) c.asks may.1.comes)
@@ -183,9 +159,14 @@ module _ (t : History) (run : IsTheRunOf t) (front later : List Happening) (c : 
       by None at comes = refl
       by (Some k) at comes = absurd (subst (Comes_so (inputs.Call c.session (Some (stmts.Commit c.comment)))) at comes)
 
-  pub first_none : first.run_report.deliveries ≡ 0
+  -- ---- after it
+
+  abbrev pub first : Past
+  first = next t.places t.commands p (happenings.Turn c.call)
+
+  pub first_none : p.run_report.acted ≡ false → first.run_report.deliveries ≡ 0
   unfolding next
-  first_none = (turn_way p.facts.command (node_at p.facts c.call.node) p.run_report c.call (outcome_at t.places p.facts c.call)).deliveries ∙ (ap (λ o. (delivered_more p.run_report o).deliveries) none_taken ∙ none_before)
+  first_none fresh = (turn_way p.facts.command (node_at p.facts c.call.node) p.run_report c.call (outcome_at t.places p.facts c.call)).deliveries ∙ (ap (λ o. (delivered_more p.run_report o).deliveries) none_taken ∙ none_before fresh)
 
   pub first_run : IsTheRun t.places t.commands first (c.during ++ later)
   unfolding IsTheRun
@@ -202,18 +183,61 @@ module _ (t : History) (run : IsTheRunOf t) (front later : List Happening) (c : 
   pub facts_end : facts_by t.places t.commands front ≡ (past t.places t.commands first c.during).facts
   facts_end = sym (facts_are t.places t.commands (start t.places) front) ∙ ap (λ (q : Past). q.facts) end_is
 
-  pub its_course : Course c.call.node c.session t.places t.commands first c.during
-  its_course = course c.call.node c.session t.places t.commands first c.during later first_flows first_run goes.well
+-- ---- where the command is COMMIT
+
+module _ (t : History) (run : IsTheRunOf t) (front later : List Happening) (c : Commit t.places t.commands front) (goes : CommitIsUnderWay t front later c) where
+  abbrev pub plain : CommandGoes t front later c
+  plain = record { within = goes.within; no_hold = ap is_hold goes.own; off = goes.off; whole = goes.whole; well = goes.well }
+
+  abbrev q0 : Past
+  q0 = p t run front later c plain
+
+  abbrev q1 : Past
+  q1 = first t run front later c plain
+
+  pub own : command_at t.commands q0.facts.command ≡ commands.At c.call.node c.session (Some (stmts.Commit c.comment))
+  own = ap (λ (f : Facts). command_at t.commands f.command) (facts_before t run front later c plain) ∙ goes.own
+
+  -- its call alone is pending
+  pub one_call : HasOne c.call.node c.session q0.run_report
+  one_call = record {
+    calls = all_its t.commands q0.facts.command c.call.node c.session c.comment own q0.run_report.calls (its t run front later c plain) (shapes t run front later c plain);
+    alone = alone t run front later c plain;
+  }
+
+  -- it is the first thing to happen in its command
+  pub fresh : q0.run_report.acted ≡ false
+  fresh = by q0.run_report.acted refl
+    where
+      flows : q0.run_report.acted ≡ true → Flows c.call.node c.session q0
+      flows acted = record { acted = acted; off = goes.off; stands = stands t run front later c plain; upright = (settled t run front later c plain).upright; one = one_call }
+
+      call : is_call c.call.input ≡ true
+      call = ap is_call c.asks
+
+      other_input : {q : Past} (g : Happening) → Comes c.call.node c.session q g → g ≡ happenings.Turn c.call → ⊥
+      other_input _ (Delivery k u at few other whole took) same = (let it : u ≡ c.call = cc in let input : is_call c.call.input ≡ false = subst (λ (v : Turn). is_call v.input ≡ false) it other in cc (input, call))
+      other_input _ (Give_up u x xs at why other whole) same = (let it : u ≡ c.call = cc in let input : is_call c.call.input ≡ false = subst (λ (v : Turn). is_call v.input ≡ false) it other in cc (input, call))
+
+      by : (q : Bool) → q0.run_report.acted ≡ q → q ≡ false
+      by true acted = absurd (other_input (happenings.Turn c.call) (comes_so c.call.node c.session t.places t.commands q0 (flows acted) (happenings.Turn c.call) goes.whole (due t run front later c plain)).1 refl)
+      by false none = refl
+
+  pub first_flows : Flows c.call.node c.session q1
+  first_flows = flows_turn c.call.node c.session t.places t.commands q0 c.call goes.off (stands t run front later c plain) one_call goes.whole
+
+  pub its_course : Course c.call.node c.session t.places t.commands q1 c.during
+  its_course = course c.call.node c.session t.places t.commands q1 c.during later first_flows (first_run t run front later c plain) goes.well
 
   -- where it has been answered no call is pending
   pub answered_so : (hs : List Happening) → AllByRecursion IsWholeTurn hs
-      → answers_from t.places t.commands (facts_by t.places t.commands c.before) c.call.node c.session (happenings.Turn c.call ∷ hs) ≡ commit_complete ∷ [] → (past t.places t.commands first hs).run_report.calls ≡ []
+      → answers_from t.places t.commands (facts_by t.places t.commands c.before) c.call.node c.session (happenings.Turn c.call ∷ hs) ≡ commit_complete ∷ [] → (past t.places t.commands q1 hs).run_report.calls ≡ []
   unfolding past
   answered_so hs whole answers =
-      none_pending (past t.places t.commands first hs).run_report.calls
-      (answered_none c.call.node c.session t.places t.commands p (happenings.Turn c.call ∷ hs) one_call (goes.whole, whole)
-      (λ none. (let it : answers_from t.places t.commands p.facts c.call.node c.session (happenings.Turn c.call ∷ hs) ≡ commit_complete ∷ []
-      = ap (λ f. answers_from t.places t.commands f c.call.node c.session (happenings.Turn c.call ∷ hs)) facts_before ∙ answers in
+      none_pending (past t.places t.commands q1 hs).run_report.calls
+      (answered_none c.call.node c.session t.places t.commands q0 (happenings.Turn c.call ∷ hs) one_call (goes.whole, whole)
+      (λ none. (let it : answers_from t.places t.commands q0.facts c.call.node c.session (happenings.Turn c.call ∷ hs) ≡ commit_complete ∷ []
+      = ap (λ f. answers_from t.places t.commands f c.call.node c.session (happenings.Turn c.call ∷ hs)) (facts_before t run front later c plain) ∙ answers in
       let no : [] ≡ commit_complete ∷ [] = sym none ∙ it in absurd cc)))
 
 -- ---- the laws
@@ -221,11 +245,11 @@ module _ (t : History) (run : IsTheRunOf t) (front later : List Happening) (c : 
 pub commits_flow : CommitsFlow
 unfolding IsTheRun
 commits_flow t run front later h c goes well k flying few =
-    let end : Past = past t.places t.commands (first t run front (h ∷ later) c goes) c.during in
+    let end : Past = past t.places t.commands (first t run front (h ∷ later) c (plain t run front (h ∷ later) c goes)) c.during in
     let flows = (its_course t run front (h ∷ later) c goes).flow in
-    let run_end = run_on t.places t.commands (first t run front (h ∷ later) c goes) c.during (h ∷ later) (first_run t run front (h ∷ later) c goes) in
+    let run_end = run_on t.places t.commands (first t run front (h ∷ later) c (plain t run front (h ∷ later) c goes)) c.during (h ∷ later) (first_run t run front (h ∷ later) c (plain t run front (h ∷ later) c goes)) in
     by h (comes_so c.call.node c.session t.places t.commands end flows h well run_end.0).1
-    (ap (λ (f : Facts). first_flying f.net) (sym (facts_end t run front (h ∷ later) c goes)) ∙ flying) (ap (λ (q : Past). spent q.run_report.deliveries) (sym (end_is t run front (h ∷ later) c goes)) ∙ few)
+    (ap (λ (f : Facts). first_flying f.net) (sym (facts_end t run front (h ∷ later) c (plain t run front (h ∷ later) c goes))) ∙ flying) (ap (λ (q : Past). spent q.run_report.deliveries) (sym (end_is t run front (h ∷ later) c (plain t run front (h ∷ later) c goes))) ∙ few)
   where
     by : {q : Past} (g : Happening) → Comes c.call.node c.session q g → first_flying q.facts.net ≡ Some k → spent q.run_report.deliveries ≡ false → Delivers k g
     by _ (Delivery n u at more other whole took) flies yet =
@@ -238,11 +262,11 @@ commits_flow t run front later h c goes well k flying few =
 pub commits_end : CommitsEnd
 commits_end t run front later c goes answered still =
     let way = its_course t run front later c goes in
-    let end : Past = past t.places t.commands (first t run front later c goes) c.during in
+    let end : Past = past t.places t.commands (first t run front later c (plain t run front later c goes)) c.during in
     let calls : end.run_report.calls ≡ [] = answered_so t run front later c goes c.during way.whole answered in
-    let told : end.facts.losses_to_report ≡ [] = ap (λ (f : Facts). f.losses_to_report) (sym (facts_end t run front later c goes)) ∙ still.0 in
-    let none : first_flying end.facts.net ≡ None = ap (λ (f : Facts). first_flying f.net) (sym (facts_end t run front later c goes)) ∙ still.1 in
+    let told : end.facts.losses_to_report ≡ [] = ap (λ (f : Facts). f.losses_to_report) (sym (facts_end t run front later c (plain t run front later c goes))) ∙ still.0 in
+    let none : first_flying end.facts.net ≡ None = ap (λ (f : Facts). first_flying f.net) (sym (facts_end t run front later c (plain t run front later c goes))) ∙ still.1 in
     let next_due = end_due c.call.node c.session t.places t.commands end way.flow told none calls in (
-      ap (λ (q : Past). q.run_report.calls) (end_is t run front later c goes) ∙ calls,
-      ap (due_of t.commands) (end_is t run front later c goes) ∙ (next_due ∙ ap (next_command t.commands) (sym (facts_end t run front later c goes))),
+      ap (λ (q : Past). q.run_report.calls) (end_is t run front later c (plain t run front later c goes)) ∙ calls,
+      ap (due_of t.commands) (end_is t run front later c (plain t run front later c goes)) ∙ (next_due ∙ ap (next_command t.commands) (sym (facts_end t run front later c (plain t run front later c goes)))),
     )

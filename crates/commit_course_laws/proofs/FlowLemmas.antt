@@ -3,7 +3,7 @@
 use Rattle.std.proofs.Common.{◌≡◌, ℕ, ◌+◌, ◌⊎◌, Bool, true, false, if◌then◌else◌, List, [], ◌∷◌, ◌++◌, length, Option, Some, None, inl, inr, refl, sym, ap, subst, ◌∙◌}
 use Rattle.std.specs.Prelude.{nat_lt}
 use Rattle.std.specs.List.{AllByRecursion}
-use Rattle.node_rules.specs.Data.{Place, Stmt}
+use Rattle.node_rules.specs.Data.{Input, Place, Stmt}
 use Rattle.node_rules.specs.Data.inputs
 use Rattle.node_rules.specs.declared.session.Finished.{Finished}
 use Rattle.node_rules.specs.NodeState.{NodeState, TurnOutput}
@@ -21,6 +21,7 @@ use Rattle.run_rules.specs.RunReport.{Call, Past, RunReport}
 use Rattle.run_ready_laws.proofs.PendingLemmas.{found_so, line_same}
 use Rattle.answer_origin_laws.proofs.ComeLemmas.{input_same}
 use Rattle.run_claims.specs.CommitCourse.{GoesWell}
+use Rattle.run_claims.specs.Undisturbed.{is_create}
 use Rattle.commit_course_laws.proofs.WayLemmas.{turn_before, turn_way, finished_so}
 use Rattle.commit_course_laws.proofs.DueLemmas.{turn_is, delivery_is, told_first, flow_due}
 
@@ -28,6 +29,18 @@ use Rattle.commit_course_laws.proofs.DueLemmas.{turn_is, delivery_is, told_first
 abbrev pub IsWholeTurn : Happening → Type 0
 IsWholeTurn (happenings.Turn u) = u.cut ≡ false
 IsWholeTurn _ = ⊥
+
+-- it is no CREATE
+abbrev pub IsNoCreate : Happening → Type 0
+IsNoCreate (happenings.Turn u) = is_create u.input ≡ false
+IsNoCreate _ = Unit {0}
+
+-- nor is what is no call
+pub no_create : (input : Input) → is_call input ≡ false → is_create input ≡ false
+no_create (inputs.Call n s) is = absurd cc
+no_create (inputs.Message m) is = refl
+no_create (inputs.GiveUp n) is = refl
+no_create inputs.Reco is = refl
 
 -- ---- the one call
 
@@ -124,7 +137,7 @@ module _ (node session : ℕ) where
         give_up_between [] at is = at
         give_up_between (c ∷ cs) at is = absurd is
 
-      delivery_comes : (o : Option ℕ) → first_flying f.net ≡ o → (h : Happening) → GoesWell h → happens places p (next_delivery asked f t o) ≡ Some h → Comes p h
+      pub delivery_comes : (o : Option ℕ) → first_flying f.net ≡ o → (h : Happening) → GoesWell h → happens places p (next_delivery asked f t o) ≡ Some h → Comes p h
       delivery_comes None at h well is = give_up_comes (inl at) t.calls refl h well is
       delivery_comes (Some k) at h well is = by (spent t.deliveries) refl is
         where
@@ -132,7 +145,7 @@ module _ (node session : ℕ) where
           by true all due = give_up_comes (inr all) t.calls refl h well due
           by false more due = delivery_is (λ g. GoesWell g → Comes p g) places p k false (packet_at f.net k) h (λ u other took so. Delivery k u at more other so took) due well
 
-      delivery_between : (o : Option ℕ) → first_flying f.net ≡ o → IsBetweenCommands (next_delivery asked f t o) → ((first_flying f.net ≡ None) ⊎ (spent t.deliveries ≡ true)) × (t.calls ≡ [])
+      pub delivery_between : (o : Option ℕ) → first_flying f.net ≡ o → IsBetweenCommands (next_delivery asked f t o) → ((first_flying f.net ≡ None) ⊎ (spent t.deliveries ≡ true)) × (t.calls ≡ [])
       delivery_between None at is = (inl at, give_up_between (inl at) t.calls refl is)
       delivery_between (Some k) at is = by (spent t.deliveries) refl is
         where
@@ -174,21 +187,23 @@ module _ (node session : ℕ) where
     -- What a turn that comes leaves.
     pub record Further (p : Past) (h : Happening) : Type 0 where
       pub whole : IsWholeTurn h
+      pub own : IsNoCreate h
       pub flow : Flows (next places asked p h)
 
     pub further : (p : Past) (h : Happening) → Flows p → Comes p h → Further p h
-    further p _ flow (Delivery k u at few other whole took) = record { whole = whole; flow = flows_turn p u flow.off flow.stands flow.one whole }
-    further p _ flow (Give_up u c cs at why other whole) = record { whole = whole; flow = flows_turn p u flow.off flow.stands flow.one whole }
+    further p _ flow (Delivery k u at few other whole took) = record { whole = whole; own = no_create u.input other; flow = flows_turn p u flow.off flow.stands flow.one whole }
+    further p _ flow (Give_up u c cs at why other whole) = record { whole = whole; own = no_create u.input other; flow = flows_turn p u flow.off flow.stands flow.one whole }
 
     -- What the happenings of a command leave that goes well.
     pub record Course (p : Past) (hs : List Happening) : Type 0 where
       pub whole : AllByRecursion IsWholeTurn hs
+      pub own : AllByRecursion IsNoCreate hs
       pub flow : Flows (past places asked p hs)
 
     pub course : (p : Past) (hs later : List Happening) → Flows p → IsTheRun places asked p (hs ++ later) → AllByRecursion GoesWell hs → Course p hs
     unfolding past IsTheRun
-    course p [] later flow run well = record { whole = tt; flow = flow }
+    course p [] later flow run well = record { whole = tt; own = tt; flow = flow }
     course p (h ∷ hs) later flow run well =
         let on : Further p h = further p h flow (comes_so p flow h well.0 run.0).1 in
         let rest : Course (next places asked p h) hs = course (next places asked p h) hs later on.flow run.1 well.1 in
-        record { whole = (on.whole, rest.whole); flow = rest.flow }
+        record { whole = (on.whole, rest.whole); own = (on.own, rest.own); flow = rest.flow }

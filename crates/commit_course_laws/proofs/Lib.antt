@@ -1,3 +1,4 @@
+mod SiteLemmas
 pub mod CompleteLemmas
 pub mod WayLemmas
 pub mod DueLemmas
@@ -7,5 +8,10 @@ pub mod AnsweredLemmas
 pub mod CourseLemmas
 pub mod EarlierLemmas
 pub mod ToldLemmas
+pub mod SoonerLemmas
+pub mod CreateFlowLemmas
+pub mod CreateStepLemmas
+pub mod CreateCourseLemmas
 pub mod QuietLemmas
 mod TriedCourseLemmas
+mod TriedQuietLemmas

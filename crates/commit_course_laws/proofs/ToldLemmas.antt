@@ -33,7 +33,7 @@ use Rattle.run_claims.specs.Undisturbed.{answers_from}
 use Rattle.run_claims.specs.CommitCourse.{past_by, AnsweredCommitsAreReported}
 use Rattle.commit_course_laws.proofs.WayLemmas.{turn_before}
 use Rattle.commit_course_laws.proofs.FlowLemmas.{IsWholeTurn, IsItsCall, HasOne, one_ends, one_before, one_turn}
-use Rattle.commit_course_laws.proofs.CourseLemmas.{slice_mid, take_first, p, parts, upto, there, own, its, facts_before, one_call, its_course}
+use Rattle.commit_course_laws.proofs.CourseLemmas.{slice_mid, take_first, p, parts, upto, there, own, its, facts_before, plain, one_call, its_course}
 
 -- nothing is put together of nothing alone
 none_first : {A : Type 0} (xs ys : List A) → xs ++ ys ≡ [] → xs ≡ []
@@ -209,12 +209,13 @@ module _ (t : History) (run : IsTheRunOf t) (command node session : ℕ) (text :
 
 pub answered_commits_are_reported : AnsweredCommitsAreReported
 answered_commits_are_reported t run front later c goes answered =
-    let before : Past = p t run front later c goes in
+    let g = plain t run front later c goes in
+    let before : Past = p t run front later c g in
     let i : ℕ = length c.before in
-    let pending = what_comes_is_pending t run i c.call (there t run front later c goes) c.session (Some (stmts.Commit c.comment)) c.asks in
-    let at : call_at before.run_report c.call.node c.session ≡ Some pending.0 = ap (λ (r : Past). call_at r.run_report c.call.node c.session) (sym (upto t run front later c goes)) ∙ pending.1.pending in
-    let mine : pending.0.command ≡ before.facts.command = (found_so (λ (x : Call). x.command ≡ before.facts.command) (is_call_at c.call.node c.session) before.run_report.calls pending.0 (its t run front later c goes) at).0 in
-    let told = tells t run before.facts.command c.call.node c.session (Some (stmts.Commit c.comment)) (own t run front later c goes) later c.before (happenings.Turn c.call ∷ c.during) (parts t run front later c goes)
+    let pending = what_comes_is_pending t run i c.call (there t run front later c g) c.session (Some (stmts.Commit c.comment)) c.asks in
+    let at : call_at before.run_report c.call.node c.session ≡ Some pending.0 = ap (λ (r : Past). call_at r.run_report c.call.node c.session) (sym (upto t run front later c g)) ∙ pending.1.pending in
+    let mine : pending.0.command ≡ before.facts.command = (found_so (λ (x : Call). x.command ≡ before.facts.command) (is_call_at c.call.node c.session) before.run_report.calls pending.0 (its t run front later c g) at).0 in
+    let told = tells t run before.facts.command c.call.node c.session (Some (stmts.Commit c.comment)) (own t run front later c goes) later c.before (happenings.Turn c.call ∷ c.during) (parts t run front later c g)
     (goes.whole, (its_course t run front later c goes).whole) pending.0 (record { one = one_call t run front later c goes; at = at; mine = mine })
-    (ap (λ f. answers_from t.places t.commands f c.call.node c.session (happenings.Turn c.call ∷ c.during)) (facts_before t run front later c goes) ∙ answered) in
-    subst (λ (f : Facts). (j : ℕ) × (slice_get (reported_of t) j ≡ Some (line f.command (said.Node commit_complete)))) (facts_before t run front later c goes) told
+    (ap (λ f. answers_from t.places t.commands f c.call.node c.session (happenings.Turn c.call ∷ c.during)) (facts_before t run front later c g) ∙ answered) in
+    subst (λ (f : Facts). (j : ℕ) × (slice_get (reported_of t) j ≡ Some (line f.command (said.Node commit_complete)))) (facts_before t run front later c g) told

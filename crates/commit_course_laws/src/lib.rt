@@ -12,6 +12,7 @@ ghost use Rattle.commit_course_laws.specs.CompleteLaws.{LawfulCommitsAreComplete
 ghost use Rattle.commit_course_laws.specs.CommandCalls.{HoldIsKept, CommandsFindNoCall, CommandsFindNothingInFlight};
 ghost use Rattle.run_claims.specs.CommitCourse.{CommitsFlow, CommitsEnd, QuietCommitsAreComplete};
 ghost use Rattle.commit_course_laws.specs.TriedCourse.{TheTriedCourse};
+ghost use Rattle.commit_course_laws.specs.TriedQuiet.{TheTriedQuiet};
 
 /// An undisturbed COMMIT of a lawful run is complete when nothing is in flight any more: its call has one answer, Commit
 /// complete; each sealed branch of its transaction has ended with commit; and no node knows anything of its branches.
@@ -49,7 +50,9 @@ pub fn commits_end()
     ensures { CommitsEnd }
 {}
 
-/// In the run of a script each quiet COMMIT is undisturbed, it is complete when its command is done, and the report says so.
+/// In the run of a script each quiet COMMIT is undisturbed, and it is complete when its command is done: it has one answer, Commit
+/// complete, its transaction is decided if any of its session tree had changes, and no node knows anything of its branches. The
+/// report says Commit complete. So it is of the COMMIT that a CREATE makes first, too: after it the CREATE itself has come.
 pub fn quiet_commits_are_complete()
     ensures { QuietCommitsAreComplete }
 {}
@@ -58,4 +61,9 @@ pub fn quiet_commits_are_complete()
 /// message of it is lost, its call is given up.
 pub fn the_tried_course()
     ensures { TheTriedCourse }
+{}
+
+/// Quiet COMMITs exist: in the run of a script of two nodes a COMMIT is quiet, and done, and in another one the COMMIT of a CREATE.
+pub fn the_tried_quiet()
+    ensures { TheTriedQuiet }
 {}

@@ -1,5 +1,6 @@
 mod TriedCommitLemmas
 pub mod ListLemmas
+pub mod CreateLemmas
 pub mod AmongLemmas
 pub mod SentLemmas
 pub mod UnlessStoppedLemmas

@@ -1,5 +1,5 @@
 -- The tried COMMITs, by computation.
-use Rattle.std.proofs.Common.{List, [], take, drop, None, refl}
+use Rattle.std.proofs.Common.{List, [], take, drop, None, inl, refl}
 use Rattle.node_rules.specs.Data.stmts
 use Rattle.net_bag.specs.Net.{lost}
 use Rattle.run_rules.specs.Births.{births_from}
@@ -26,13 +26,13 @@ the_tried_commit = record {
     goes_on = refl;
     still = refl;
     whole = refl;
-    delivers = ((refl, 5, refl), ((refl, 6, refl), ((refl, 7, refl), ((refl, 8, refl), ((refl, 9, refl), tt)))));
+    course = (inl (refl, 5, refl), (inl (refl, 6, refl), (inl (refl, 7, refl), (inl (refl, 8, refl), (inl (refl, 9, refl), tt)))));
     over = refl;
     lost = (refl, (refl, (refl, (refl, (refl, (refl, (refl, (refl, (refl, tt)))))))));
     stopped = (refl, (refl, tt));
     calm = (refl, (refl, (refl, (refl, (refl, (refl, (refl, (refl, (refl, (refl, (refl, (refl, (refl, (refl, (refl, tt)))))))))))))));
   };
-  complete = record { answered = refl; ended = (tt, (tt, ((λ of. (1, 4, refl)), (tt, (tt, tt))))); gone = (refl, (refl, tt)) };
+  complete = record { answered = refl; decided = inl refl; ended = (tt, (tt, ((λ of. (1, 4, refl)), (tt, (tt, tt))))); gone = (refl, (refl, tt)) };
   lost = record { before = before; call = call; during = drop 10 lost_trace; is = refl; session = 1; comment = None; asks = refl; kept = _; up = refl; root = tried.a; of = refl; live = _; there = refl };
   lost_goes_on = refl;
   lost_still = refl;

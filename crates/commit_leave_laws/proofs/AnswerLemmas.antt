@@ -1,11 +1,13 @@
 -- In every lawful run an undisturbed COMMIT has one answer, Commit complete, once neither its root is live nor a row of it is left.
-use Rattle.std.proofs.Common.{◌≡◌, ◌≢◌, ℕ, ◌==◌, ◌&&◌, ◌||◌, Bool, true, false, not, if◌then◌else◌, List, [], ◌∷◌, ◌++◌, find, length, Some, None, inl, inr, refl, sym, ap, subst, ◌∙◌, append-nil}
+use Rattle.std.proofs.Common.{◌≡◌, ◌≢◌, ℕ, ◌==◌, ◌&&◌, ◌||◌, ◌⊎◌, Bool, true, false, not, if◌then◌else◌, List, [], ◌∷◌, ◌++◌, find, length, Some, None, inl, inr, refl, sym, ap, subst, ◌∙◌, append-nil}
 use Rattle.std.specs.List.{AllByRecursion, list_any}
-use Rattle.std.proofs.lemmas.Bool.{eqb-true, eq-eqb}
+use Rattle.std.proofs.lemmas.Bool.{cond_both, eqb-true, eq-eqb}
 use Rattle.std.proofs.lemmas.List.{append_assoc}
-use Rattle.node_rules.specs.Data.{Answer, BranchId, Place, KeptRow}
+use Rattle.node_rules.specs.Data.{Answer, BranchId, Msg, Place, KeptRow}
+use Rattle.node_rules.specs.Data.inputs
 use Rattle.node_rules.specs.NodeState.{NodeState, TurnDraft, live_id, kept_row_id}
-use Rattle.node_rules.specs.Sessions.{commit_complete}
+use Rattle.node_rules.specs.declared.session.Session.{Session}
+use Rattle.node_rules.specs.Sessions.{session_at, commit_complete}
 use Rattle.node_rules.specs.Turn.{turn_of, draft_of}
 use Rattle.node_rules.specs.Words.{same, is_item_of}
 use Rattle.run_rules.specs.Data.{Happening, Turn}
@@ -19,10 +21,11 @@ use Rattle.run_base_laws.proofs.TurnEventLemmas.{cases_nat}
 use Rattle.tree_laws.proofs.PrefixLemmas.{so_far, f_at, one_on, facts_join}
 use Rattle.tree_laws.proofs.TimeLemmas.{Part, part_of, part_lawful, may_of}
 use Rattle.commit_laws.specs.StillLaws.{DroppedNone, AbortsNone}
-use Rattle.run_claims.specs.Undisturbed.{Commit, Undisturbed, IsFirstDelivery, answers_in, answers_from}
+use Rattle.run_claims.specs.Undisturbed.{Commit, Undisturbed, IsFirstDelivery, IsInCourse, is_create, answers_in, commit_answers_in, commit_answers_from}
+use Rattle.commit_laws.proofs.CreateLemmas.{LeavesBranches, create_leaves}
 use Rattle.commit_laws.proofs.RootLemmas.{undisturbed_roots_leave}
 use Rattle.commit_leave_laws.specs.CallLaws.{HasNoRow, UndisturbedCallsEnd}
-use Rattle.commit_leave_laws.proofs.LastLemmas.{Lasts, has_row}
+use Rattle.commit_leave_laws.proofs.LastLemmas.{Lasts, has_row, is_living}
 use Rattle.commit_leave_laws.proofs.SessionLemmas.{answers_of}
 use Rattle.commit_leave_laws.proofs.CallLemmas as call
 use Rattle.commit_leave_laws.proofs.CallTurnLemmas.{state_first}
@@ -31,13 +34,13 @@ use Rattle.commit_leave_laws.proofs.PendLemmas.{State, Waits, Done, delivered, s
 -- ---- lists
 
 -- the answers of one happening more
-answers_more : (places : List Place) (asked : _) (f : Facts) (node session : ℕ) (hs : List Happening) (h : Happening)
-    → answers_from places asked f node session (hs ++ h ∷ []) ≡ answers_from places asked f node session hs ++ answers_in places (facts_of places asked f hs) node session h
+pub answers_more : (places : List Place) (asked : _) (f : Facts) (node session : ℕ) (hs : List Happening) (h : Happening)
+    → commit_answers_from places asked f node session (hs ++ h ∷ []) ≡ commit_answers_from places asked f node session hs ++ commit_answers_in places (facts_of places asked f hs) node session h
 unfolding facts_of
-answers_more places asked f node session [] h = append-nil (answers_in places f node session h)
+answers_more places asked f node session [] h = append-nil (commit_answers_in places f node session h)
 answers_more places asked f node session (x ∷ hs) h =
-    ap (λ xs. answers_in places f node session x ++ xs) (answers_more places asked (facts_after places asked f x) node session hs h)
-    ∙ sym (append_assoc (answers_in places f node session x) (answers_from places asked (facts_after places asked f x) node session hs) (answers_in places (facts_of places asked (facts_after places asked f x) hs) node session h))
+    ap (λ xs. commit_answers_in places f node session x ++ xs) (answers_more places asked (facts_after places asked f x) node session hs h)
+    ∙ sym (append_assoc (commit_answers_in places f node session x) (commit_answers_from places asked (facts_after places asked f x) node session hs) (commit_answers_in places (facts_of places asked (facts_after places asked f x) hs) node session h))
 
 -- who is among items is found
 any_some : {A : Type 0} (p : A → Bool) (xs : List A) → list_any p xs ≡ true → find p xs ≢ None
@@ -72,7 +75,7 @@ module _ (t : History) (whole : IsLawfulRun t) (c : Commit t.places t.commands t
   node = call.node t whole c
 
   abbrev answered : List Happening → List Answer
-  answered mid = answers_from t.places t.commands f0 c.call.node m (first ∷ mid)
+  answered mid = commit_answers_from t.places t.commands f0 c.call.node m (first ∷ mid)
 
   record Status (mid : List Happening) : Type 0 where
     pub kept : NodeState
@@ -83,9 +86,9 @@ module _ (t : History) (whole : IsLawfulRun t) (c : Commit t.places t.commands t
   facts_mid : (mid : List Happening) → facts_of t.places t.commands f0 (first ∷ mid) ≡ f_at t (after ++ mid)
   facts_mid mid = sym (facts_join t.places t.commands (first_facts t.places) c.before (first ∷ mid)) ∙ ap (f_at t) (sym (append_assoc c.before (first ∷ []) mid))
 
-  -- ---- one delivery more
+  -- ---- one turn more
 
-  module _ (mid : List Happening) (h : Turn) (rest : List Happening) (is : mid ++ happenings.Turn h ∷ rest ≡ c.during) (comes : IsFirstDelivery (happenings.Turn h)) (now : Status mid) where
+  module _ (mid : List Happening) (h : Turn) (rest : List Happening) (is : mid ++ happenings.Turn h ∷ rest ≡ c.during) (uncut : h.cut ≡ false) (now : Status mid) where
     abbrev before : List Happening
     before = after ++ mid
 
@@ -117,42 +120,83 @@ module _ (t : History) (whole : IsLawfulRun t) (c : Commit t.places t.commands t
     facts_so : facts_of t.places t.commands f0 (first ∷ mid) ≡ g
     facts_so = facts_mid mid
 
-    answers_later : answered later ≡ answered mid ++ answers_in t.places g c.call.node m (happenings.Turn h)
+    answers_later : answered later ≡ answered mid ++ commit_answers_in t.places g c.call.node m (happenings.Turn h)
     answers_later =
         answers_more t.places t.commands f0 c.call.node m (first ∷ mid) (happenings.Turn h)
-        ∙ ap (λ (f : Facts). answered mid ++ answers_in t.places f c.call.node m (happenings.Turn h)) facts_so
+        ∙ ap (λ (f : Facts). answered mid ++ commit_answers_in t.places f c.call.node m (happenings.Turn h)) facts_so
 
-    at_root : (here : h.node ≡ r.node) → Status later
+    turned : h.node ≡ r.node → node_at (facts_after t.places t.commands g (happenings.Turn h)) h.node ≡ Some (draft_of (place_at t.places h.node) j h.input).after
     unfolding turn_of
-    at_root here =
+    turned here = (turn_here t.places t.commands g even_so h j may_turn.1.up).0 ∙ ap (λ q. kept_after q (Some (turn_of (place_at t.places h.node) j h.input))) uncut
+
+    up_later : h.node ≡ r.node → node_at (f_at t (after ++ later)) r.node ≡ Some (draft_of (place_at t.places h.node) j h.input).after
+    up_later here =
+        subst (λ (f : Facts). node_at f r.node ≡ Some (draft_of (place_at t.places h.node) j h.input).after) (sym one_more)
+        (subst (λ n. node_at (facts_after t.places t.commands g (happenings.Turn h)) n ≡ Some (draft_of (place_at t.places h.node) j h.input).after) here (turned here))
+
+    state_here : h.node ≡ r.node → State t whole c u quiet j (answered mid)
+    state_here here =
         let there : node_at g r.node ≡ Some j = subst (λ n. node_at g n ≡ Some j) here may_turn.1.up in
         let both : Some now.kept ≡ Some j = sym now.up ∙ there in
         let it : now.kept ≡ j = cc in
-        let state : State t whole c u quiet j (answered mid) = subst (λ x. State t whole c u quiet x (answered mid)) it now.state in
-        let took : Comes g j h.node h.input (Some (record { number = comes.1; again = false })) = subst (λ o. Comes g j h.node h.input o) comes.2 may_turn.1.comes in
-        let message = delivered g j h.node h.input _ took in
-        let next_state = state_next t whole c u quiet j h.input before h rest all_is mid refl may_turn.1 here (answered mid) state message.0 message.1 in
-        let o = draft_of (place_at t.places h.node) j h.input in
-        record {
-          kept = o.after;
-          up = subst (λ (f : Facts). node_at f r.node ≡ Some o.after) (sym one_more) (subst (λ n. node_at (facts_after t.places t.commands g (happenings.Turn h)) n ≡ Some o.after) here (turned here));
-          state = subst (State t whole c u quiet o.after) (sym (answers_later ∙ ap (λ xs. answered mid ++ xs) (answers_are here))) next_state;
-        }
-      where
-        turned : h.node ≡ r.node → node_at (facts_after t.places t.commands g (happenings.Turn h)) h.node ≡ Some (draft_of (place_at t.places h.node) j h.input).after
-        turned here = (turn_here t.places t.commands g even_so h j may_turn.1.up).0 ∙ ap (λ q. kept_after q (Some (turn_of (place_at t.places h.node) j h.input))) comes.0
+        subst (λ x. State t whole c u quiet x (answered mid)) it now.state
 
-        answers_are : h.node ≡ r.node → answers_in t.places g c.call.node m (happenings.Turn h) ≡ answers_of m (draft_of (place_at t.places h.node) j h.input).ended
-        answers_are here =
-            ap (λ q. if q then [] else (if h.node == c.call.node then answers_of m (ended_by (outcome_at t.places g h)) else [])) comes.0
-            ∙ (ap (λ q. if q then answers_of m (ended_by (outcome_at t.places g h)) else []) (eq-eqb h.node c.call.node (here ∙ sym node))
-            ∙ ap (λ o. answers_of m (ended_by (served (place_at t.places h.node) h.input o))) may_turn.1.up)
+    -- where nothing is answered
+    no_more : commit_answers_in t.places g c.call.node m (happenings.Turn h) ≡ [] → answered later ≡ answered mid
+    no_more none = answers_later ∙ (ap (λ xs. answered mid ++ xs) none ∙ append-nil (answered mid))
+
+    -- a message comes to the root's node
+    module _ (comes : IsFirstDelivery (happenings.Turn h)) where
+      message : (x : Msg) × (h.input ≡ inputs.Message x)
+      message = delivered g j h.node h.input _ (subst (λ o. Comes g j h.node h.input o) comes.2 may_turn.1.comes)
+
+      answers_are : h.node ≡ r.node → commit_answers_in t.places g c.call.node m (happenings.Turn h) ≡ answers_of m (draft_of (place_at t.places h.node) j h.input).ended
+      unfolding turn_of
+      answers_are here =
+          ap (λ q. if q then [] else answers_in t.places g c.call.node m (happenings.Turn h)) (ap is_create message.1)
+          ∙ (ap (λ q. if q then [] else (if h.node == c.call.node then answers_of m (ended_by (outcome_at t.places g h)) else [])) uncut
+          ∙ (ap (λ q. if q then answers_of m (ended_by (outcome_at t.places g h)) else []) (eq-eqb h.node c.call.node (here ∙ sym node))
+          ∙ ap (λ o. answers_of m (ended_by (served (place_at t.places h.node) h.input o))) may_turn.1.up))
+
+      at_root : h.node ≡ r.node → Status later
+      at_root here =
+          let next_state = state_next t whole c u quiet j h.input before h rest all_is mid refl may_turn.1 here (answered mid) (state_here here) message.0 message.1 in
+          let o = draft_of (place_at t.places h.node) j h.input in
+          record {
+            kept = o.after;
+            up = up_later here;
+            state = subst (State t whole c u quiet o.after) (sym (answers_later ∙ ap (λ xs. answered mid ++ xs) (answers_are here))) next_state;
+          }
+
+    -- a CREATE comes there
+    module _ (create : is_create h.input ≡ true) where
+      abbrev o : TurnDraft
+      o = draft_of (place_at t.places h.node) j h.input
+
+      leaves : LeavesBranches j o
+      leaves = create_leaves (place_at t.places h.node) j h.input create
+
+      lasts_on : Lasts r j → Lasts r o.after
+      lasts_on (inl living) = inl (ap (is_living r) leaves.lives ∙ living)
+      lasts_on (inr row) = inr (ap (has_row r) leaves.kept ∙ row)
+
+      state_on : (told : List Answer) → State t whole c u quiet j told → State t whole c u quiet o.after told
+      state_on told (Waits root pends lasts none) =
+          Waits (ap (λ (ss : List Session). (session_at ss m).root) leaves.sessions ∙ root) (ap (λ (ss : List Session). (session_at ss m).call) leaves.sessions ∙ pends) (lasts_on lasts) none
+      state_on told (Done free all) = Done (ap (λ (ss : List Session). (session_at ss m).root) leaves.sessions ∙ free) all
+
+      create_root : h.node ≡ r.node → Status later
+      create_root here = record {
+        kept = o.after;
+        up = up_later here;
+        state = subst (State t whole c u quiet o.after) (sym (no_more (ap (λ q. if q then [] else answers_in t.places g c.call.node m (happenings.Turn h)) create))) (state_on (answered mid) (state_here here));
+      }
 
     elsewhere : h.node ≢ r.node → Status later
     elsewhere other = record {
       kept = now.kept;
       up = subst (λ (f : Facts). node_at f r.node ≡ Some now.kept) (sym one_more) ((turn_elsewhere t.places t.commands g even_so h r.node other).0 ∙ now.up);
-      state = subst (State t whole c u quiet now.kept) (sym (answers_later ∙ (ap (λ xs. answered mid ++ xs) none ∙ append-nil (answered mid)))) now.state;
+      state = subst (State t whole c u quiet now.kept) (sym (no_more (cond_both (is_create h.input) [] (answers_in t.places g c.call.node m (happenings.Turn h)) (λ xs. xs ≡ []) (λ yes. refl) (λ no. none)))) now.state;
     }
       where
         apart : (q : Bool) → (h.node == c.call.node) ≡ q → (h.node == c.call.node) ≡ false
@@ -161,12 +205,12 @@ module _ (t : History) (whole : IsLawfulRun t) (c : Commit t.places t.commands t
 
         none : answers_in t.places g c.call.node m (happenings.Turn h) ≡ []
         none =
-            ap (λ q. if q then [] else (if h.node == c.call.node then answers_of m (ended_by (outcome_at t.places g h)) else [])) comes.0
+            ap (λ q. if q then [] else (if h.node == c.call.node then answers_of m (ended_by (outcome_at t.places g h)) else [])) uncut
             ∙ ap (λ q. if q then answers_of m (ended_by (outcome_at t.places g h)) else []) (apart (h.node == c.call.node) refl)
 
-    status_next : Status later
-    status_next = elim (cases_nat h.node r.node) [
-      | inl here ↦ at_root here
+    status_next : IsFirstDelivery (happenings.Turn h) ⊎ (is_create h.input ≡ true) → Status later
+    status_next comes = elim (cases_nat h.node r.node) [
+      | inl here ↦ elim comes [ inl delivery ↦ at_root delivery here | inr create ↦ create_root create here ]
       | inr other ↦ elsewhere other
     ]
 
@@ -188,26 +232,27 @@ module _ (t : History) (whole : IsLawfulRun t) (c : Commit t.places t.commands t
 
       answers_are : answered [] ≡ answers_of m d0.ended
       answers_are =
-          append-nil (answers_in t.places f0 c.call.node m first)
+          append-nil (commit_answers_in t.places f0 c.call.node m first)
+          ∙ (ap (λ q. if q then [] else answers_in t.places f0 c.call.node m first) (ap is_create c.asks)
           ∙ (ap (λ q. if q then [] else (if c.call.node == c.call.node then answers_of m (ended_by (outcome_at t.places f0 c.call)) else [])) u.whole
           ∙ (ap (λ q. if q then answers_of m (ended_by (outcome_at t.places f0 c.call)) else []) (eq-eqb c.call.node c.call.node refl)
-          ∙ ap (λ o. answers_of m (ended_by (served (place_at t.places c.call.node) c.call.input o))) c.up))
+          ∙ ap (λ o. answers_of m (ended_by (served (place_at t.places c.call.node) c.call.input o))) c.up)))
 
   -- ---- up to the end
 
-  walk : (mid rest : List Happening) → mid ++ rest ≡ c.during → AllByRecursion IsFirstDelivery rest → Status mid → Status c.during
+  walk : (mid rest : List Happening) → mid ++ rest ≡ c.during → AllByRecursion IsInCourse rest → Status mid → Status c.during
   walk mid [] is all now = subst Status (sym (append-nil mid) ∙ is) now
   walk mid (happenings.Turn h ∷ rest) is all now =
-      walk (mid ++ happenings.Turn h ∷ []) rest (append_assoc mid (happenings.Turn h ∷ []) rest ∙ is) all.1 (status_next mid h rest is all.0 now)
-  walk mid (happenings.Begun n ∷ rest) is all now = absurd all.0
-  walk mid (happenings.Cut a b ∷ rest) is all now = absurd all.0
-  walk mid (happenings.Join a b ∷ rest) is all now = absurd all.0
-  walk mid (happenings.Lost n ∷ rest) is all now = absurd all.0
-  walk mid (happenings.Stopped n ∷ rest) is all now = absurd all.0
-  walk mid (happenings.Started n boot ∷ rest) is all now = absurd all.0
+      walk (mid ++ happenings.Turn h ∷ []) rest (append_assoc mid (happenings.Turn h ∷ []) rest ∙ is) all.1 (elim all.0 [ inl delivery ↦ status_next mid h rest is delivery.0 now (inl delivery) | inr create ↦ status_next mid h rest is create.0 now (inr create.1) ])
+  walk mid (happenings.Begun n ∷ rest) is all now = absurd (elim all.0 [ inl no ↦ no | inr no ↦ no ])
+  walk mid (happenings.Cut a b ∷ rest) is all now = absurd (elim all.0 [ inl no ↦ no | inr no ↦ no ])
+  walk mid (happenings.Join a b ∷ rest) is all now = absurd (elim all.0 [ inl no ↦ no | inr no ↦ no ])
+  walk mid (happenings.Lost n ∷ rest) is all now = absurd (elim all.0 [ inl no ↦ no | inr no ↦ no ])
+  walk mid (happenings.Stopped n ∷ rest) is all now = absurd (elim all.0 [ inl no ↦ no | inr no ↦ no ])
+  walk mid (happenings.Started n boot ∷ rest) is all now = absurd (elim all.0 [ inl no ↦ no | inr no ↦ no ])
 
   last : Status c.during
-  last = walk [] c.during refl u.delivers status_first
+  last = walk [] c.during refl u.course status_first
 
   module _ (below : DroppedNone t c.root) (gone : HasNoRow t c.root) where
     up_end : node_at (facts_at t) r.node ≡ Some last.kept

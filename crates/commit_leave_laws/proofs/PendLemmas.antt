@@ -99,54 +99,14 @@ module _ (t : History) (whole : IsLawfulRun t) (c : Commit t.places t.commands t
     Done : (session_at k.sessions m).root ≡ None → told ≡ commit_complete ∷ [] → State k told
 
   -- what is known of the root's node as a message comes
-  module _ (k : NodeState) (input : Input) (zs : List Happening) (h : Turn) (rest : List Happening) (is : zs ++ happenings.Turn h ∷ rest ≡ t.trace) (mid : List Happening) (at : after ++ mid ≡ zs) (may : MayTurn t.places (f_at t zs) h k) (here : h.node ≡ r.node)
-      (told : List Answer) (state : State k told) where
+  module _ (k : NodeState) (input : Input) (zs : List Happening) (h : Turn) (rest : List Happening) (is : zs ++ happenings.Turn h ∷ rest ≡ t.trace) (mid : List Happening) (at : after ++ mid ≡ zs) (may : MayTurn t.places (f_at t zs) h k) (here : h.node ≡ r.node) where
     open at_turn t whole zs h rest is use {s as z, part, lawful as lawful_z}
 
     since : Part z lawful_z c.before
     since = record { rest = first ∷ mid; is = sym (append_assoc c.before (first ∷ []) mid) ∙ at }
 
-    only : (b : BranchId) → (session_at k.sessions m).root ≡ Some b → b ≡ r
-    only b root = by state
-      where
-        by : State k told → b ≡ r
-        by (Waits has call lasts none) = (let both : Some r ≡ Some b = sym has ∙ root in let it : r ≡ b = cc in sym it)
-        by (Done free all) = (let both : None ≡ Some b = sym free ∙ root in absurd cc)
-
-    commits : (session_at k.sessions m).root ≡ Some r → (session_at k.sessions m).call ≡ pending.Commit
-    commits root = by state
-      where
-        by : State k told → (session_at k.sessions m).call ≡ pending.Commit
-        by (Waits has call lasts none) = call
-        by (Done free all) = (let both : None ≡ Some r = sym free ∙ root in absurd cc)
-
-    branch_of : (l : Live) → live_at k l.me ≡ Some l → branch_at k l.me ≡ Some (record { live = l; work = work_at k l.me })
-    branch_of l live = ap (with_work k) live
-
-    root_of : (x : Branch) → branch_at k x.live.me ≡ Some x → x.live.parent ≡ None → IsRootOf (session_at k.sessions x.live.me.session) x.live.me x.live.phase x.work.going
-    root_of x live none = roots_wait z lawful_z h.node k may.up x live none
-
-    rests : (x : Branch) → branch_at k x.live.me ≡ Some x → x.live.parent ≡ None → x.live.me.session ≡ m → x.work.going ≡ None
-    rests x live none mine =
-        let fit = root_of x live none in
-        let root : (session_at k.sessions m).root ≡ Some x.live.me = subst (λ n. (session_at k.sessions n).root ≡ Some x.live.me) mine fit.root in
-        let its : x.live.me ≡ r = only x.live.me root in
-        let call : (session_at k.sessions m).call ≡ pending.Commit = commits (root ∙ ap Some its) in
-        subst (λ a. RootWaits a x.live.phase x.work.going) (ap (λ n. (session_at k.sessions n).call) mine ∙ call) fit.waits
-
     goes : (from to : BranchId) (kind : Kind) → Came h.input from to kind → GoesSo (Began (births_of z)) from to kind
     goes from to kind came = came_so (GoesSo (Began (births_of z))) (f_at t zs) (messages_are_of_neighbors z lawful_z) k h.node h.input h.took may.comes from to kind came
-
-    top_of : (l : Live) → live_at k r ≡ Some l → (l.parent ≡ None) × (way_of l.phase ≢ Some false)
-    top_of l live =
-        let its_me : l.me ≡ r = item_is live_id k.lives r l live in
-        let mine : live_at k l.me ≡ Some l = subst (λ b. live_at k b ≡ Some l) (sym its_me) live in
-        let its : LiveIs (Began (births_of z)) l = all_found (LiveIs (Began (births_of z))) live_id k.lives l.me l (nodes_name_the_born z lawful_z h.node k may.up).0 mine in
-        let one : born_at (births_of z) r ≡ Some its.born = subst (λ b. born_at (births_of z) b ≡ Some its.born) (its.is_me ∙ its_me) its.began in
-        let both : Some its.born ≡ Some top = sym one ∙ call.began t whole c zs part since in
-        let same_born : its.born ≡ top = cc in
-        let parent : l.parent ≡ None = sym its.is_parent ∙ (ap (λ (x : Born). x.parent) same_born ∙ call.top_parent t whole c) in
-        (parent, (live_told z lawful_z h.node k may.up l mine).root parent)
 
     -- nothing comes that upsets the COMMIT
     undisturbed : (from : BranchId) (kind : Kind) → Came h.input from r kind → disturbs kind ≡ false
@@ -173,7 +133,7 @@ module _ (t : History) (whole : IsLawfulRun t) (c : Commit t.places t.commands t
         silent [] all = tt
         silent (x ∷ xs) all = ((λ b. all.0 b.0 b.1 b.2 b.3), silent xs all.1)
 
-    calm_so : (from : BranchId) (kind : Kind) → Came h.input from r kind → upsets kind ≡ false
+    pub calm_so : (from : BranchId) (kind : Kind) → Came h.input from r kind → upsets kind ≡ false
     calm_so from (kinds.Prepare site_below comment) came = absurd (call.no_child t whole c zs part since from (goes from r (kinds.Prepare site_below comment) came))
     calm_so from kinds.Abort came = absurd (unaborted from came)
     calm_so from kinds.Rollback came = undisturbed from kinds.Rollback came
@@ -184,54 +144,94 @@ module _ (t : History) (whole : IsLawfulRun t) (c : Commit t.places t.commands t
     below_so : (from to : BranchId) (call given : ℕ) (advice : Option Advice) (s : Stmt) → Came h.input from to (kinds.Exec call given advice s) → (l : Live) → live_at k to ≡ Some l → l.parent ≢ None
     below_so from to call given advice s came l live = asked_parent (births_of z) k (nodes_name_the_born z lawful_z h.node k may.up) from to (goes from to (kinds.Exec call given advice s) came) l live
 
-    known : Known m r own h.input k
-    known = record {
-      only = only;
-      commits = commits;
-      roots = λ l live none. (root_of (record { live = l; work = work_at k l.me }) (branch_of l live) none).root;
-      rests = rests;
-      below = below_so;
-      top = top_of;
-      calm = calm_so;
-    }
+    module _ (told : List Answer) (state : State k told) where
+      only : (b : BranchId) → (session_at k.sessions m).root ≡ Some b → b ≡ r
+      only b root = by state
+        where
+          by : State k told → b ≡ r
+          by (Waits has call lasts none) = (let both : Some r ≡ Some b = sym has ∙ root in let it : r ≡ b = cc in sym it)
+          by (Done free all) = (let both : None ≡ Some b = sym free ∙ root in absurd cc)
 
-    known_heard : (x : Msg) → h.input ≡ inputs.Message x → Known m r own h.input (heard k h.input)
-    known_heard x message =
-        let now = known in
-        subst (λ i. Known m r own h.input (heard k i)) (sym message) (record { only = now.only; commits = now.commits; roots = now.roots; rests = now.rests; below = now.below; top = now.top; calm = now.calm })
+      commits : (session_at k.sessions m).root ≡ Some r → (session_at k.sessions m).call ≡ pending.Commit
+      commits root = by state
+        where
+          by : State k told → (session_at k.sessions m).call ≡ pending.Commit
+          by (Waits has call lasts none) = call
+          by (Done free all) = (let both : None ≡ Some r = sym free ∙ root in absurd cc)
 
-    -- ---- its turn
+      branch_of : (l : Live) → live_at k l.me ≡ Some l → branch_at k l.me ≡ Some (record { live = l; work = work_at k l.me })
+      branch_of l live = ap (with_work k) live
 
-    abbrev d : TurnDraft
-    d = draft_of (place_at t.places h.node) k h.input
+      root_of : (x : Branch) → branch_at k x.live.me ≡ Some x → x.live.parent ≡ None → IsRootOf (session_at k.sessions x.live.me.session) x.live.me x.live.phase x.work.going
+      root_of x live none = roots_wait z lawful_z h.node k may.up x live none
 
-    abbrev k1 : NodeState
-    k1 = heard k h.input
+      rests : (x : Branch) → branch_at k x.live.me ≡ Some x → x.live.parent ≡ None → x.live.me.session ≡ m → x.work.going ≡ None
+      rests x live none mine =
+          let fit = root_of x live none in
+          let root : (session_at k.sessions m).root ≡ Some x.live.me = subst (λ n. (session_at k.sessions n).root ≡ Some x.live.me) mine fit.root in
+          let its : x.live.me ≡ r = only x.live.me root in
+          let call : (session_at k.sessions m).call ≡ pending.Commit = commits (root ∙ ap Some its) in
+          subst (λ a. RootWaits a x.live.phase x.work.going) (ap (λ n. (session_at k.sessions n).call) mine ∙ call) fit.waits
 
-    next_lasts : (x : Msg) → h.input ≡ inputs.Message x → Lasts r k → Lasts r k1
-    next_lasts x message lasts = subst (λ i. Lasts r (heard k i)) (sym message) lasts
+      top_of : (l : Live) → live_at k r ≡ Some l → (l.parent ≡ None) × (way_of l.phase ≢ Some false)
+      top_of l live =
+          let its_me : l.me ≡ r = item_is live_id k.lives r l live in
+          let mine : live_at k l.me ≡ Some l = subst (λ b. live_at k b ≡ Some l) (sym its_me) live in
+          let its : LiveIs (Began (births_of z)) l = all_found (LiveIs (Began (births_of z))) live_id k.lives l.me l (nodes_name_the_born z lawful_z h.node k may.up).0 mine in
+          let one : born_at (births_of z) r ≡ Some its.born = subst (λ b. born_at (births_of z) b ≡ Some its.born) (its.is_me ∙ its_me) its.began in
+          let both : Some its.born ≡ Some top = sym one ∙ call.began t whole c zs part since in
+          let same_born : its.born ≡ top = cc in
+          let parent : l.parent ≡ None = sym its.is_parent ∙ (ap (λ (x : Born). x.parent) same_born ∙ call.top_parent t whole c) in
+          (parent, (live_told z lawful_z h.node k may.up l mine).root parent)
 
-    effect : (x : Msg) → h.input ≡ inputs.Message x → Effect m r own h.input k1 d
-    effect x message =
-        effect_on m r own h.input (place_at t.places h.node) (record { calls = λ n s call. (let it : inputs.Message x ≡ inputs.Call n s = sym message ∙ call in absurd cc); gives_up = λ n gives. (let it : inputs.Message x ≡ inputs.GiveUp n = sym message ∙ gives in absurd cc) })
-        (serves t.places (f_at t zs) h k may).step (known_heard x message)
+      known : Known m r own h.input k
+      known = record {
+        only = only;
+        commits = commits;
+        roots = λ l live none. (root_of (record { live = l; work = work_at k l.me }) (branch_of l live) none).root;
+        rests = rests;
+        below = below_so;
+        top = top_of;
+        calm = calm_so;
+      }
 
-    pub state_next : (x : Msg) → h.input ≡ inputs.Message x → State d.after (told ++ answers_of m d.ended)
-    state_next x message = by (effect x message) state
-      where
-        sessions : k1.sessions ≡ k.sessions
-        sessions = sessions_heard k h.input
+      known_heard : (x : Msg) → h.input ≡ inputs.Message x → Known m r own h.input (heard k h.input)
+      known_heard x message =
+          let now = known in
+          subst (λ i. Known m r own h.input (heard k i)) (sym message) (record { only = now.only; commits = now.commits; roots = now.roots; rests = now.rests; below = now.below; top = now.top; calm = now.calm })
 
-        root_is : (o : Option BranchId) → (session_at k.sessions m).root ≡ o → (session_at k1.sessions m).root ≡ o
-        root_is o root = ap (λ (ss : List Session). (session_at ss m).root) sessions ∙ root
+      -- ---- its turn
 
-        by : Effect m r own h.input k1 d → State k told → State d.after (told ++ answers_of m d.ended)
-        by (inl goes_on) (Waits root call lasts none) =
-            let same_session : session_at d.after.sessions m ≡ session_at k.sessions m = goes_on.0.same ∙ ap (λ (ss : List Session). session_at ss m) sessions in
-            Waits (ap (λ (s : Session). s.root) same_session ∙ root) (ap (λ (s : Session). s.call) same_session ∙ call) (goes_on.1 (root_is (Some r) root) (next_lasts x message lasts))
-            (ap (λ xs. xs ++ answers_of m d.ended) none ∙ goes_on.0.quiet)
-        by (inl goes_on) (Done free all) =
-            let same_session : session_at d.after.sessions m ≡ session_at k.sessions m = goes_on.0.same ∙ ap (λ (ss : List Session). session_at ss m) sessions in
-            Done (ap (λ (s : Session). s.root) same_session ∙ free) (ap (λ xs. xs ++ answers_of m d.ended) all ∙ ap (λ xs. commit_complete ∷ xs) goes_on.0.quiet)
-        by (inr done) (Waits root call lasts none) = Done done.2 (ap (λ xs. xs ++ answers_of m d.ended) none ∙ done.1)
-        by (inr done) (Done free all) = (let both : None ≡ Some r = sym (root_is None free) ∙ done.0 in absurd cc)
+      abbrev d : TurnDraft
+      d = draft_of (place_at t.places h.node) k h.input
+
+      abbrev k1 : NodeState
+      k1 = heard k h.input
+
+      next_lasts : (x : Msg) → h.input ≡ inputs.Message x → Lasts r k → Lasts r k1
+      next_lasts x message lasts = subst (λ i. Lasts r (heard k i)) (sym message) lasts
+
+      effect : (x : Msg) → h.input ≡ inputs.Message x → Effect m r own h.input k1 d
+      effect x message =
+          effect_on m r own h.input (place_at t.places h.node) (record { calls = λ n s call. (let it : inputs.Message x ≡ inputs.Call n s = sym message ∙ call in absurd cc); gives_up = λ n gives. (let it : inputs.Message x ≡ inputs.GiveUp n = sym message ∙ gives in absurd cc) })
+          (serves t.places (f_at t zs) h k may).step (known_heard x message)
+
+      pub state_next : (x : Msg) → h.input ≡ inputs.Message x → State d.after (told ++ answers_of m d.ended)
+      state_next x message = by (effect x message) state
+        where
+          sessions : k1.sessions ≡ k.sessions
+          sessions = sessions_heard k h.input
+
+          root_is : (o : Option BranchId) → (session_at k.sessions m).root ≡ o → (session_at k1.sessions m).root ≡ o
+          root_is o root = ap (λ (ss : List Session). (session_at ss m).root) sessions ∙ root
+
+          by : Effect m r own h.input k1 d → State k told → State d.after (told ++ answers_of m d.ended)
+          by (inl goes_on) (Waits root call lasts none) =
+              let same_session : session_at d.after.sessions m ≡ session_at k.sessions m = goes_on.0.same ∙ ap (λ (ss : List Session). session_at ss m) sessions in
+              Waits (ap (λ (s : Session). s.root) same_session ∙ root) (ap (λ (s : Session). s.call) same_session ∙ call) (goes_on.1 (root_is (Some r) root) (next_lasts x message lasts))
+              (ap (λ xs. xs ++ answers_of m d.ended) none ∙ goes_on.0.quiet)
+          by (inl goes_on) (Done free all) =
+              let same_session : session_at d.after.sessions m ≡ session_at k.sessions m = goes_on.0.same ∙ ap (λ (ss : List Session). session_at ss m) sessions in
+              Done (ap (λ (s : Session). s.root) same_session ∙ free) (ap (λ xs. xs ++ answers_of m d.ended) all ∙ ap (λ xs. commit_complete ∷ xs) goes_on.0.quiet)
+          by (inr done) (Waits root call lasts none) = Done done.2 (ap (λ xs. xs ++ answers_of m d.ended) none ∙ done.1)
+          by (inr done) (Done free all) = (let both : None ≡ Some r = sym (root_is None free) ∙ done.0 in absurd cc)

@@ -4,7 +4,7 @@ use Rattle.std.proofs.Common.{◌≡◌, ◌≢◌, ℕ, zero, suc, ◌+◌, ◌
 use Rattle.std.specs.List.{AllByRecursion}
 use Rattle.std.proofs.lemmas.List.{append_assoc}
 use Rattle.tran_ids.proofs.ListedLemmas.{put_found}
-use Rattle.node_rules.specs.Data.{BranchId, Edge, Live, Phase}
+use Rattle.node_rules.specs.Data.{BranchId, Edge, Live, Phase, Stmt}
 use Rattle.node_rules.specs.Data.acts
 use Rattle.node_rules.specs.Data.inputs
 use Rattle.node_rules.specs.Data.phases
@@ -17,6 +17,7 @@ use Rattle.session_tree.specs.Live.{children_of}
 use Rattle.node_rules.proofs.Steps.{IsOfRows}
 use Rattle.run_rules.specs.Births.{Born, births_of, born_id}
 use Rattle.run_base_laws.specs.BirthLaws.{Began, LiveIs, StandsBelow}
+use Rattle.run_rules.specs.Commands.{commits_first}
 use Rattle.run_rules.specs.Data.{Happening, Packet, Turn}
 use Rattle.run_rules.specs.Data.fates
 use Rattle.run_rules.specs.Data.happenings
@@ -33,7 +34,8 @@ use Rattle.tree_laws.proofs.PrefixLemmas.{so_far, f_at}
 use Rattle.tree_laws.proofs.TimeLemmas.{Part, part_on, part_of, part_lawful, may_of, sent_end}
 use Rattle.commit_laws.specs.DeliveryLaws.{IsBusy}
 use Rattle.commit_laws.specs.StillLaws.{DroppedNone}
-use Rattle.run_claims.specs.Undisturbed.{Commit, Undisturbed, IsFirstDelivery}
+use Rattle.run_claims.specs.Undisturbed.{Commit, Undisturbed, IsInCourse}
+use Rattle.commit_laws.proofs.CreateLemmas.{create_call}
 use Rattle.commit_laws.proofs.HeardLemmas.{prepares_are_heard}
 use Rattle.commit_laws.proofs.RootLemmas.{undisturbed_roots_leave}
 use Rattle.commit_laws.proofs.StillLemmas.{messages_come, undisturbed_collects_end}
@@ -52,6 +54,13 @@ asked_peers (x ∷ es) = ap (λ xs. x.peer ∷ xs) (asked_peers es)
 asks_down : (l : Live) (es : List Edge) → 1 ≤ length es → first_act_by l true (map with_prepare_sent es) ≡ acts.AskDown
 asks_down l [] some = absurd (omega (arith, some))
 asks_down l (e ∷ es) some = refl
+
+-- a CREATE is no statement of rows
+create_no_rows : (s : Stmt) → commits_first s ≡ true → IsOfRows s → ⊥
+create_no_rows (stmts.CreateTable table) is rows = absurd rows
+create_no_rows (stmts.CreateLink l) is rows = absurd rows
+create_no_rows (stmts.CreateSynonym y) is rows = absurd rows
+create_no_rows _ is rows = absurd cc
 
 module _ (t : History) (whole : IsLawfulRun t) (c : Commit t.places t.commands t.trace) (u : Undisturbed t.places t.commands t.trace c) (below : DroppedNone t c.root) where
   abbrev r : BranchId
@@ -87,29 +96,37 @@ module _ (t : History) (whole : IsLawfulRun t) (c : Commit t.places t.commands t
           let same_call : stmts.Commit c.comment ≡ rows.1 = cc in
           subst IsOfRows (sym same_call) rows.3
 
-  walk : (mid rest : List Happening) → mid ++ rest ≡ c.during → AllByRecursion IsFirstDelivery rest → ((i : ℕ) → opens_at (after ++ mid) i ≡ opens_at c.before i) → (i : ℕ) → opens_at (after ++ c.during) i ≡ opens_at c.before i
+  walk : (mid rest : List Happening) → mid ++ rest ≡ c.during → AllByRecursion IsInCourse rest → ((i : ℕ) → opens_at (after ++ mid) i ≡ opens_at c.before i) → (i : ℕ) → opens_at (after ++ c.during) i ≡ opens_at c.before i
   walk mid [] is all now i = subst (λ xs. opens_at (after ++ xs) i ≡ opens_at c.before i) (sym (append-nil mid) ∙ is) (now i)
   walk mid (happenings.Turn h ∷ rest) is all now i =
       let all_is : (after ++ mid) ++ happenings.Turn h ∷ rest ≡ t.trace
       = append_assoc after mid (happenings.Turn h ∷ rest) ∙ (ap (λ xs. after ++ xs) is ∙ (append_assoc c.before (first ∷ []) c.during ∙ c.is)) in
       let may : MayHappen t.places t.commands (f_at t (after ++ mid)) (happenings.Turn h) = may_of t whole (after ++ mid) (happenings.Turn h) rest all_is in
-      let took : Comes (f_at t (after ++ mid)) may.0 h.node h.input (Some (record { number = all.0.1; again = false })) = subst (λ o. Comes (f_at t (after ++ mid)) may.0 h.node h.input o) all.0.2 may.1.comes in
-      let message = delivered (f_at t (after ++ mid)) may.0 h.node h.input _ took in
+      let calm : IsRowsCall h.input → ⊥ = elim all.0 [
+        | inl delivery ↦ (λ rows. (let took : Comes (f_at t (after ++ mid)) may.0 h.node h.input (Some (record { number = delivery.1; again = false })) = subst (λ o. Comes (f_at t (after ++ mid)) may.0 h.node h.input o) delivery.2 may.1.comes in
+            let message = delivered (f_at t (after ++ mid)) may.0 h.node h.input _ took in
+            let it : inputs.Message message.0 ≡ inputs.Call rows.0 (Some rows.1) = sym message.1 ∙ rows.2 in
+            absurd cc))
+        | inr create ↦ (λ rows. (let call = create_call h.input create.1 in
+            let it : inputs.Call call.0 (Some call.1) ≡ inputs.Call rows.0 (Some rows.1) = sym call.2 ∙ rows.2 in
+            let same_call : call.1 ≡ rows.1 = cc in
+            create_no_rows rows.1 (subst (λ s. commits_first s ≡ true) same_call call.3) rows.3))
+      ] in
       let since : Part (so_far t (after ++ mid)) (part_lawful t whole (after ++ mid) (part_of t whole (after ++ mid) (happenings.Turn h) rest all_is)) c.before = record { rest = first ∷ mid; is = sym (append_assoc c.before (first ∷ []) mid) } in
       walk (mid ++ happenings.Turn h ∷ []) rest (append_assoc mid (happenings.Turn h ∷ []) rest ∙ is) all.1
       (λ j. subst (λ xs. opens_at xs j ≡ opens_at c.before j) (append_assoc after mid (happenings.Turn h ∷ []))
-      (no_open (after ++ mid) h rest all_is since (λ rows. (let it : inputs.Message message.0 ≡ inputs.Call rows.0 (Some rows.1) = sym message.1 ∙ rows.2 in absurd cc)) j ∙ now j)) i
-  walk mid (happenings.Begun n ∷ rest) is all now i = absurd all.0
-  walk mid (happenings.Cut a b ∷ rest) is all now i = absurd all.0
-  walk mid (happenings.Join a b ∷ rest) is all now i = absurd all.0
-  walk mid (happenings.Lost n ∷ rest) is all now i = absurd all.0
-  walk mid (happenings.Stopped n ∷ rest) is all now i = absurd all.0
-  walk mid (happenings.Started n boot ∷ rest) is all now i = absurd all.0
+      (no_open (after ++ mid) h rest all_is since calm j ∙ now j)) i
+  walk mid (happenings.Begun n ∷ rest) is all now i = absurd (elim all.0 [ inl no ↦ no | inr no ↦ no ])
+  walk mid (happenings.Cut a b ∷ rest) is all now i = absurd (elim all.0 [ inl no ↦ no | inr no ↦ no ])
+  walk mid (happenings.Join a b ∷ rest) is all now i = absurd (elim all.0 [ inl no ↦ no | inr no ↦ no ])
+  walk mid (happenings.Lost n ∷ rest) is all now i = absurd (elim all.0 [ inl no ↦ no | inr no ↦ no ])
+  walk mid (happenings.Stopped n ∷ rest) is all now i = absurd (elim all.0 [ inl no ↦ no | inr no ↦ no ])
+  walk mid (happenings.Started n boot ∷ rest) is all now i = absurd (elim all.0 [ inl no ↦ no | inr no ↦ no ])
 
   same_opens : (i : ℕ) → opens_at t.trace i ≡ opens_at c.before i
   same_opens i =
       subst (λ xs. opens_at xs i ≡ opens_at c.before i) (append_assoc c.before (first ∷ []) c.during ∙ c.is)
-      (walk [] c.during refl u.delivers (λ j. subst (λ xs. opens_at xs j ≡ opens_at c.before j) (sym (append-nil after)) (call_opens j)) i)
+      (walk [] c.during refl u.course (λ j. subst (λ xs. opens_at xs j ≡ opens_at c.before j) (sym (append-nil after)) (call_opens j)) i)
 
   -- ---- so each branch below it is its child, and is asked
 

@@ -8,7 +8,7 @@ use Rattle.run_rules.specs.Data.happenings
 use Rattle.run_rules.specs.Facts.{node_at}
 use Rattle.run_rules.specs.Lawful.{History, IsLawfulRun, facts_at}
 use Rattle.commit_laws.specs.StillLaws.{DroppedNone, AbortsNone}
-use Rattle.run_claims.specs.Undisturbed.{Commit, Undisturbed, facts_by, answers_from}
+use Rattle.run_claims.specs.Undisturbed.{Commit, Undisturbed, facts_by, commit_answers_from}
 
 -- a branch has no row at its node, where that is up
 abbrev pub HasNoRow : History → BranchId → Type 0
@@ -18,4 +18,4 @@ HasNoRow t b = (k : NodeState) → node_at (facts_at t) b.node ≡ Some k → ke
 -- below the root was dropped and none said Abort.
 abbrev pub UndisturbedCallsEnd : Type 0
 UndisturbedCallsEnd = (t : History) → IsLawfulRun t → (c : Commit t.places t.commands t.trace) → Undisturbed t.places t.commands t.trace c → DroppedNone t c.root → AbortsNone t c.root → HasNoRow t c.root
-    → answers_from t.places t.commands (facts_by t.places t.commands c.before) c.call.node c.session (happenings.Turn c.call ∷ c.during) ≡ commit_complete ∷ []
+    → commit_answers_from t.places t.commands (facts_by t.places t.commands c.before) c.call.node c.session (happenings.Turn c.call ∷ c.during) ≡ commit_complete ∷ []

@@ -1,5 +1,7 @@
--- Each delivery of a COMMIT that flows lessens what is in flight and kept: all that is in flight is of its course.
-use Rattle.std.proofs.Common.{◌≡◌, ℕ, ◌+◌, ◌-◌, ◌*◌, ◌≤◌, ◌&&◌, true, false, List, [], ◌∷◌, ◌++◌, map, length, Some, refl, sym, ap, subst, ◌∙◌, arith}
+-- Each delivery of a COMMIT that flows lessens what is in flight and kept, and a CREATE adds nothing: all that is in flight is of
+-- its course.
+use Rattle.std.proofs.Common.{◌≡◌, ℕ, ◌+◌, ◌-◌, ◌*◌, ◌≤◌, ◌&&◌, true, false, if◌then◌else◌, List, [], ◌∷◌, ◌++◌, map, length, Some, None, inl, inr, refl, sym, ap, subst, ◌∙◌, arith}
+use Rattle.std.specs.Prelude.{is_some}
 use Rattle.std.specs.List.{AllByRecursion}
 use Rattle.std.proofs.lemmas.List.{append_assoc}
 use Rattle.tran_ids.proofs.BranchLemmas.{same_from_equal}
@@ -9,13 +11,14 @@ use Rattle.node_rules.specs.Data.{BranchId, Input, Live, Msg, Place, Post}
 use Rattle.node_rules.specs.Data.phases
 use Rattle.node_rules.specs.NodeState.{NodeState, Branch, TurnDraft, live_id, live_at, branch_at, work_at, with_work}
 use Rattle.node_rules.specs.Turn.{clock_raised_by, draft_of, stamped, turn_of}
+use Rattle.node_rules.specs.Words.{item_at}
 use Rattle.net_bag.specs.Net.{flies, is_flying}
 use Rattle.run_rules.specs.Births.{Born, births_of, born_at}
 use Rattle.run_base_laws.specs.BirthLaws.{Began, GoesSo}
 use Rattle.run_rules.specs.Branches.{is_among}
 use Rattle.run_rules.specs.Data.{Packet, Turn, Happening}
 use Rattle.run_rules.specs.Data.happenings
-use Rattle.run_rules.specs.Facts.{Facts, place_at, node_at, facts_after}
+use Rattle.run_rules.specs.Facts.{Facts, place_at, node_at, taken, facts_after}
 use Rattle.run_base_laws.specs.FreezeLaws.{was_asked}
 use Rattle.run_base_laws.specs.InTurnLaws.{said_in}
 use Rattle.run_rules.specs.Lawful.{IsOwed, MayHappen, MayTurn, History, IsLawfulRun}
@@ -26,14 +29,17 @@ use Rattle.run_branch_laws.proofs.FreezeRunLemmas.{prepare_finds_rest}
 use Rattle.run_base_laws.proofs.SaidPostLemmas.{prepares_are_said}
 use Rattle.tree_laws.proofs.PrefixLemmas.{f_at, one_on}
 use Rattle.tree_laws.proofs.TimeLemmas.{may_of}
-use Rattle.run_claims.specs.Undisturbed.{Commit, NoneComesIn, IsFirstDelivery, branches_in, branches_by, disturbs, is_disturbed}
+use Rattle.run_claims.specs.Undisturbed.{Commit, NoneComesIn, IsInCourse, is_create, branches_in, branches_by, disturbs, is_disturbed}
+use Rattle.commit_laws.proofs.CreateLemmas.{LeavesBranches, create_leaves, create_takes_none}
 use Rattle.commit_laws.proofs.NetLemmas.{numbered_all}
-use Rattle.commit_length_laws.proofs.WorthLemmas.{worth, says_worth, node_worth, asked_worth}
+use Rattle.commit_length_laws.specs.FewLaws.{delivery_of, deliveries_in}
+use Rattle.commit_length_laws.proofs.TotalLemmas.{total}
+use Rattle.commit_length_laws.proofs.WorthLemmas.{worth, says_worth, live_worth, row_worth, node_worth, asked_worth}
 use Rattle.commit_length_laws.proofs.SayLemmas.{SaidSo}
 use Rattle.commit_length_laws.proofs.TurnLemmas.{Fits, Known, turn_fits}
 use Rattle.commit_length_laws.proofs.DepthLemmas.{far_low}
 use Rattle.commit_length_laws.proofs.FullLemmas.{full, full_by, live_in, ask_in, ask_two, asks_low}
-use Rattle.commit_length_laws.proofs.FlightLemmas.{all_worth, AllFly, turned_low, turned_nodes, turn_takes, turn_fly}
+use Rattle.commit_length_laws.proofs.FlightLemmas.{net_worth, all_worth, AllFly, turned_low, turned_nodes, turn_takes, turn_fly}
 use Rattle.commit_length_laws.proofs.TreeLemmas as tree
 use Rattle.commit_length_laws.proofs.TreeLemmas.{mid_all, second_false, Taken, take_it}
 use Rattle.commit_laws.proofs.AmongLemmas.{is_in}
@@ -157,28 +163,66 @@ module _ (t : History) (whole : IsLawfulRun t) (c : Commit t.places t.commands t
       unfolding turn_of
       flies_on = turn_fly Course t.places t.commands f v now (subst (AllByRecursion Course) (sym owed.1) (stamped_so d.after.clock d.says fits.said))
 
-  -- ---- all deliveries
+    -- ---- a CREATE
+
+    module _ (v : Turn) (uncut : v.cut ≡ false) (create : is_create v.input ≡ true) (k : NodeState) (may : MayTurn t.places f v k) (now : AllFly Course f.net) where
+      abbrev d_create : TurnDraft
+      d_create = draft_of (place_at t.places v.node) k v.input
+
+      leaves : LeavesBranches k d_create
+      leaves = create_leaves (place_at t.places v.node) k v.input create
+
+      untaken : v.took ≡ None
+      untaken = create_takes_none f k v.node v.input v.took create may.comes
+
+      even_create : length f.nodes ≡ length f.records
+      even_create = (run_stands s lawful).0.even
+
+      owed_create : IsOwed (place_at t.places v.node) k v.input v.wrote v.sent false
+      owed_create = subst (IsOwed (place_at t.places v.node) k v.input v.wrote v.sent) uncut may.owed
+
+      abbrev after_create : Facts
+      after_create = facts_after t.places t.commands f (happenings.Turn v)
+
+      pub create_less : delivery_of (happenings.Turn v) + all_worth g far after_create ≤ all_worth g far f
+      create_less =
+          let one = turned_low g far t.places t.commands f even_create v k may.up uncut owed_create.1 (λ b y at works. ap (λ ls. item_at live_id ls b) (sym leaves.lives) ∙ at) in
+          let two = turned_nodes g far t.places t.commands f even_create v k may.up uncut owed_create.1 in
+          let says : says_worth g (ask_in f) far d_create.says ≡ 0 = ap (says_worth g (ask_in f) far) leaves.silent in
+          let lives : total (live_worth g (λ b. 0) far) d_create.after.lives ≡ total (live_worth g (λ b. 0) far) k.lives = ap (total (live_worth g (λ b. 0) far)) leaves.lives in
+          let rows : total (row_worth g (λ b. 0) far) d_create.after.stored.durable.kept ≡ total (row_worth g (λ b. 0) far) k.stored.durable.kept = ap (total (row_worth g (λ b. 0) far)) leaves.kept in
+          let net : net_worth g far (ask_in f) (taken f.net v.took) ≡ net_worth g far (ask_in f) f.net = ap (λ o. net_worth g far (ask_in f) (taken f.net o)) untaken in
+          let none : delivery_of (happenings.Turn v) ≡ 0 = ap (λ o. if is_some o then 1 else 0) untaken in
+          omega (arith, one, two, says, lives, rows, net, none)
+
+      pub create_flies : AllFly Course after_create.net
+      unfolding turn_of
+      create_flies = turn_fly Course t.places t.commands f v now (subst (AllByRecursion Course) (sym owed_create.1) (subst (λ ms. AllByRecursion Course (map (stamped d_create.after.clock) ms)) (sym leaves.silent) tt))
+
+  -- ---- all of them
 
   module _ (calm : AllByRecursion (NoneComesIn (branches_by t.places t.commands t.trace c.root)) t.trace) where
-    one_more : (hs : List Happening) (h : Happening) (rest : List Happening) → hs ++ h ∷ rest ≡ t.trace → (y : Happening) → h ≡ y → IsFirstDelivery y → AllFly Course (f_at t hs).net
-        → (1 + all_worth g far (f_at t (hs ++ h ∷ [])) ≤ all_worth g far (f_at t hs)) × AllFly Course (f_at t (hs ++ h ∷ [])).net
+    one_more : (hs : List Happening) (h : Happening) (rest : List Happening) → hs ++ h ∷ rest ≡ t.trace → (y : Happening) → h ≡ y → IsInCourse y → AllFly Course (f_at t hs).net
+        → (delivery_of y + all_worth g far (f_at t (hs ++ h ∷ [])) ≤ all_worth g far (f_at t hs)) × AllFly Course (f_at t (hs ++ h ∷ [])).net
     one_more hs h rest is (happenings.Turn v) turn it now =
         let may = subst (MayHappen t.places t.commands (f_at t hs)) turn (may_of t whole hs h rest is) in
         let on : f_at t (hs ++ h ∷ []) ≡ facts_after t.places t.commands (f_at t hs) (happenings.Turn v) = one_on t hs h ∙ ap (facts_after t.places t.commands (f_at t hs)) turn in
-        let number = it.1 in
-        subst (λ (x : Facts). (1 + all_worth g far x ≤ all_worth g far (f_at t hs)) × AllFly Course x.net) (sym on) (
-          less hs h rest is calm v turn it.0 number it.2 may.0 may.1 now,
-          flies_on hs h rest is calm v turn it.0 number it.2 may.0 may.1 now,
-        )
-    one_more hs h rest is (happenings.Begun n) turn it now = absurd it
-    one_more hs h rest is (happenings.Cut a b) turn it now = absurd it
-    one_more hs h rest is (happenings.Join a b) turn it now = absurd it
-    one_more hs h rest is (happenings.Lost n) turn it now = absurd it
-    one_more hs h rest is (happenings.Stopped n) turn it now = absurd it
-    one_more hs h rest is (happenings.Started n boot) turn it now = absurd it
+        subst (λ (x : Facts). (delivery_of (happenings.Turn v) + all_worth g far x ≤ all_worth g far (f_at t hs)) × AllFly Course x.net) (sym on) (elim it [
+          | inl delivery ↦ (
+            subst (λ o. (if is_some o then 1 else 0) + all_worth g far (facts_after t.places t.commands (f_at t hs) (happenings.Turn v)) ≤ all_worth g far (f_at t hs)) (sym delivery.2) (less hs h rest is calm v turn delivery.0 delivery.1 delivery.2 may.0 may.1 now),
+            flies_on hs h rest is calm v turn delivery.0 delivery.1 delivery.2 may.0 may.1 now,
+          )
+          | inr create ↦ (create_less hs h rest is v create.0 create.1 may.0 may.1 now, create_flies hs h rest is v create.0 create.1 may.0 may.1 now)
+        ])
+    one_more hs h rest is (happenings.Begun n) turn it now = absurd (elim it [ inl no ↦ no | inr no ↦ no ])
+    one_more hs h rest is (happenings.Cut a b) turn it now = absurd (elim it [ inl no ↦ no | inr no ↦ no ])
+    one_more hs h rest is (happenings.Join a b) turn it now = absurd (elim it [ inl no ↦ no | inr no ↦ no ])
+    one_more hs h rest is (happenings.Lost n) turn it now = absurd (elim it [ inl no ↦ no | inr no ↦ no ])
+    one_more hs h rest is (happenings.Stopped n) turn it now = absurd (elim it [ inl no ↦ no | inr no ↦ no ])
+    one_more hs h rest is (happenings.Started n boot) turn it now = absurd (elim it [ inl no ↦ no | inr no ↦ no ])
 
     -- so they are few
-    pub few_more : (hs mid : List Happening) → hs ++ mid ≡ t.trace → AllByRecursion IsFirstDelivery mid → AllFly Course (f_at t hs).net → length mid ≤ all_worth g far (f_at t hs)
+    pub few_more : (hs mid : List Happening) → hs ++ mid ≡ t.trace → AllByRecursion IsInCourse mid → AllFly Course (f_at t hs).net → deliveries_in mid ≤ all_worth g far (f_at t hs)
     few_more hs [] is all now = omega arith
     few_more hs (h ∷ mid) is all now =
         let next = one_more hs h mid is h refl all.0 now in

@@ -29,7 +29,7 @@ use Rattle.tree_laws.proofs.ForestRunLemmas.{run_known}
 use Rattle.tree_laws.proofs.PrefixLemmas.{f_at, one_on}
 use Rattle.tree_laws.proofs.TimeLemmas.{Part, part_of, part_lawful, may_of, born_end}
 use Rattle.run_claims.specs.Undisturbed.{Commit}
-use Rattle.commit_length_laws.specs.FewLaws.{Flows, DeliveriesAreFew, DeliveriesStayBelow}
+use Rattle.commit_length_laws.specs.FewLaws.{Flows, deliveries_in, DeliveriesAreFew, DeliveriesStayBelow}
 use Rattle.commit_length_laws.proofs.WorthLemmas.{says_worth, live_worth, node_worth, asked_worth, sent_worth, map_length}
 use Rattle.commit_length_laws.proofs.ActLemmas.{act_cost, act_low}
 use Rattle.commit_length_laws.proofs.SayLemmas.{SaidSo, WorksOn, act_said, act_works}
@@ -164,12 +164,12 @@ module _ (t : History) (whole : IsLawfulRun t) (c : Commit t.places t.commands t
   called_fly = turn_fly (Course t whole c) t.places t.commands f v (before.none_fly t whole c flows) (subst (AllByRecursion (Course t whole c)) (sym owed.1) (stamped_so (draft_of p k v.input).after.clock (draft_of p k v.input).says call_low.said_so))
 
   -- so few are delivered
-  pub few_deliveries : length c.during ≤ 2880
+  pub few_deliveries : deliveries_in c.during ≤ 2880
   few_deliveries =
       let on : f_at t (hs ++ happenings.Turn v ∷ []) ≡ after = one_on t hs (happenings.Turn v) in
       let is : (hs ++ happenings.Turn v ∷ []) ++ c.during ≡ t.trace = append_assoc hs (happenings.Turn v ∷ []) c.during ∙ c.is in
-      let more : length c.during ≤ all_worth c.root distance (f_at t (hs ++ happenings.Turn v ∷ []))
-      = few_more t whole c flows.calm (hs ++ happenings.Turn v ∷ []) c.during is flows.delivers (subst (λ (g : Facts). AllFly (Course t whole c) g.net) (sym on) called_fly) in
+      let more : deliveries_in c.during ≤ all_worth c.root distance (f_at t (hs ++ happenings.Turn v ∷ []))
+      = few_more t whole c flows.calm (hs ++ happenings.Turn v ∷ []) c.during is flows.course (subst (λ (g : Facts). AllFly (Course t whole c) g.net) (sym on) called_fly) in
       let same_worth : all_worth c.root distance (f_at t (hs ++ happenings.Turn v ∷ [])) ≡ all_worth c.root distance after = ap (λ (g : Facts). all_worth c.root distance g) on in
       let low = called_low in
       omega (arith, more, same_worth, low)
@@ -178,4 +178,4 @@ pub deliveries_are_few : DeliveriesAreFew
 deliveries_are_few t whole c flows = few_deliveries t whole c flows
 
 pub deliveries_stay_below : DeliveriesStayBelow
-deliveries_stay_below t whole c flows = (let low : length c.during ≤ 2880 = few_deliveries t whole c flows in let is : length c.during < 4096 = omega (arith, low) in is)
+deliveries_stay_below t whole c flows = (let low : deliveries_in c.during ≤ 2880 = few_deliveries t whole c flows in let is : deliveries_in c.during < 4096 = omega (arith, low) in is)

@@ -1,5 +1,5 @@
 -- The tried COMMIT, by computation.
-use Rattle.std.proofs.Common.{List, [], take, drop, None, refl}
+use Rattle.std.proofs.Common.{List, [], take, drop, None, inl, refl}
 use Rattle.node_rules.specs.Data.stmts
 use Rattle.net_bag.specs.Net.{lost}
 use Rattle.run_rules.specs.Births.{births_from}
@@ -25,7 +25,7 @@ the_tried_flow = record {
   begun_flows = record {
     still = refl;
     whole = refl;
-    delivers = ((refl, 5, refl), ((refl, 6, refl), tt));
+    course = (inl (refl, 5, refl), (inl (refl, 6, refl), tt));
     calm = (refl, (refl, (refl, (refl, (refl, (refl, (refl, (refl, (refl, (refl, (refl, (refl, tt))))))))))));
   };
   begun_flying = refl;
@@ -34,7 +34,7 @@ the_tried_flow = record {
   over_flows = record {
     still = refl;
     whole = refl;
-    delivers = ((refl, 5, refl), ((refl, 6, refl), ((refl, 7, refl), ((refl, 8, refl), ((refl, 9, refl), tt)))));
+    course = (inl (refl, 5, refl), (inl (refl, 6, refl), (inl (refl, 7, refl), (inl (refl, 8, refl), (inl (refl, 9, refl), tt)))));
     calm = (refl, (refl, (refl, (refl, (refl, (refl, (refl, (refl, (refl, (refl, (refl, (refl, (refl, (refl, (refl, tt)))))))))))))));
   };
   over_still = refl;

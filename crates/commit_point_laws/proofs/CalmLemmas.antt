@@ -1,5 +1,5 @@
 -- In an undisturbed COMMIT each message of the transaction came, no rollback came to its branches, and from the COMMIT on
--- there are whole turns alone: the one of the COMMIT, and deliveries.
+-- there are whole turns alone: the one of the COMMIT, deliveries, and the CREATE itself whose COMMIT it is.
 use Rattle.std.proofs.Common.{◌≡◌, ℕ, ◌&&◌, ◌||◌, Bool, true, false, List, [], ◌∷◌, ◌++◌, map, Option, Some, None, inl, inr, refl, sym, ap, subst, ◌∙◌}
 use Rattle.std.specs.Prelude.{◌⊎◌}
 use Rattle.std.specs.List.{AllByRecursion}
@@ -27,7 +27,7 @@ use Rattle.run_rules.specs.Trail.{is_prepare}
 use Rattle.run_branch_laws.specs.WalkLaws.{was_sent}
 use Rattle.run_base_laws.proofs.TurnEventLemmas.{all_both}
 use Rattle.commit_laws.specs.DeliveryLaws.{CameInTurn, IsBusy}
-use Rattle.run_claims.specs.Undisturbed.{Commit, Undisturbed, branches_in, NoneComesIn, IsFirstDelivery, disturbs, is_disturbed}
+use Rattle.run_claims.specs.Undisturbed.{Commit, Undisturbed, branches_in, NoneComesIn, IsFirstDelivery, IsCreateTurn, IsInCourse, is_create, disturbs, is_disturbed}
 use Rattle.commit_laws.specs.WaitLaws.{AllCame}
 use Rattle.commit_laws.proofs.CameLemmas.{deliveries_came}
 use Rattle.commit_laws.proofs.HeardLemmas.{prepares_are_heard}
@@ -92,21 +92,33 @@ module _ (t : History) (whole : IsLawfulRun t) (c : Commit t.places t.commands t
 
   -- ---- from the COMMIT on
 
-  -- A whole turn, of the call of the COMMIT or of a message.
+  -- A whole turn, of the call of the COMMIT, of a message, or of a CREATE.
   pub record IsPlain (h : Happening) : Type 0 where
     pub turn : Turn
     pub is : h ≡ happenings.Turn turn
     pub uncut : turn.cut ≡ false
-    pub comes : ((n : ℕ) × (comment : Option (List ℕ)) × IsCall turn.input n (stmts.Commit comment)) ⊎ ((x : Took) × (turn.took ≡ Some x))
+    pub comes : ((n : ℕ) × (comment : Option (List ℕ)) × IsCall turn.input n (stmts.Commit comment)) ⊎ (((x : Took) × (turn.took ≡ Some x)) ⊎ (is_create turn.input ≡ true))
 
   delivery_plain : (h : Happening) → IsFirstDelivery h → IsPlain h
-  delivery_plain (happenings.Turn w) is = record { turn = w; is = refl; uncut = is.0; comes = inr (_, is.2) }
+  delivery_plain (happenings.Turn w) is = record { turn = w; is = refl; uncut = is.0; comes = inr (inl (_, is.2)) }
   delivery_plain (happenings.Stopped n) is = absurd is
   delivery_plain (happenings.Started n boot) is = absurd is
   delivery_plain (happenings.Begun n) is = absurd is
   delivery_plain (happenings.Cut a b) is = absurd is
   delivery_plain (happenings.Join a b) is = absurd is
   delivery_plain (happenings.Lost n) is = absurd is
+
+  create_plain : (h : Happening) → IsCreateTurn h → IsPlain h
+  create_plain (happenings.Turn w) is = record { turn = w; is = refl; uncut = is.0; comes = inr (inr is.1) }
+  create_plain (happenings.Stopped n) is = absurd is
+  create_plain (happenings.Started n boot) is = absurd is
+  create_plain (happenings.Begun n) is = absurd is
+  create_plain (happenings.Cut a b) is = absurd is
+  create_plain (happenings.Join a b) is = absurd is
+  create_plain (happenings.Lost n) is = absurd is
+
+  course_plain : (h : Happening) → IsInCourse h → IsPlain h
+  course_plain h is = elim is [ inl delivery ↦ delivery_plain h delivery | inr create ↦ create_plain h create ]
 
   pub plain : (since : List Happening) (h : Happening) (rest : List Happening) → (c.before ++ since) ++ h ∷ rest ≡ t.trace → IsPlain h
   plain since h rest is = by since (cancel c.before (since ++ h ∷ rest) (happenings.Turn c.call ∷ c.during) (sym (append_assoc c.before since (h ∷ rest)) ∙ (is ∙ sym c.is)))
@@ -115,7 +127,7 @@ module _ (t : History) (whole : IsLawfulRun t) (c : Commit t.places t.commands t
       by [] it = (let here : h ≡ happenings.Turn c.call = cc in record { turn = c.call; is = here; uncut = u.whole; comes = inl (c.session, c.comment, c.asks) })
       by (x ∷ xs) it =
           let later : xs ++ h ∷ rest ≡ c.during = (let both : x ∷ (xs ++ h ∷ rest) ≡ happenings.Turn c.call ∷ c.during = it in cc) in
-          delivery_plain h (all_at IsFirstDelivery xs h rest (subst (λ ys. AllByRecursion IsFirstDelivery ys) (sym later) u.delivers))
+          course_plain h (all_at IsInCourse xs h rest (subst (λ ys. AllByRecursion IsInCourse ys) (sym later) u.course))
 
   -- ---- messages
 

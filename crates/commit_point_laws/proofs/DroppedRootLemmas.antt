@@ -39,7 +39,7 @@ use Rattle.tree_laws.proofs.ForestRunLemmas.{run_known}
 use Rattle.tree_laws.proofs.PrefixLemmas.{so_far, f_at, e_at, one_on, more_on}
 use Rattle.tree_laws.proofs.FateLemmas.{among_found}
 use Rattle.tree_laws.proofs.TimeLemmas.{Part, part_on, part_of, part_lawful, may_of, each_at, exit_end, sent_end, born_end}
-use Rattle.run_claims.specs.Undisturbed.{Commit, Undisturbed}
+use Rattle.run_claims.specs.Undisturbed.{Commit, Undisturbed, is_create}
 use Rattle.commit_laws.specs.WaitLaws.{AllCame}
 use Rattle.commit_point_laws.specs.RootLaws.{FoundNothing, is_rollback, RootReason, Seals, Decides, Finishes, Hears_abort, Gets_rollback, Rolls_back, Gives_up, TurnsLeaveRoots}
 use Rattle.commit_point_laws.proofs.CalmLemmas.{IsPlain, plain, took_message, never_disturbed, none_rolled}
@@ -86,7 +86,7 @@ module _ (t : History) (whole : IsLawfulRun t) (c : Commit t.places t.commands t
   abbrev bs : List Born
   bs = births_of t
 
-  part0 : Part t whole c.before
+  pub part0 : Part t whole c.before
   part0 = part_of t whole c.before (happenings.Turn c.call) c.during c.is
 
   lawful0 : IsLawfulRun (so_far t c.before)
@@ -117,19 +117,19 @@ module _ (t : History) (whole : IsLawfulRun t) (c : Commit t.places t.commands t
   pub root_of : root_born.root ≡ b
   root_of = (trees.stands_so bs (said_in (facts_at t)) (run_known t whole) root_born None root_began root_top).0 ∙ root_me
 
-  none_before : exit (e_at t c.before) b ≡ None
+  pub none_before : exit (e_at t c.before) b ≡ None
   none_before =
       subst (λ i. exit (e_at t c.before) i ≡ None) me
       (all_found (λ (l : Live). exit (e_at t c.before) l.me ≡ None) live_id c.kept.lives c.live.me c.live (nodes_are_as_events (so_far t c.before) lawful0 c.call.node c.kept c.up).0 found)
 
   module _ (it : LeftThen t whole c.before b Dropped) (w : Turn) (turn : it.happening ≡ happenings.Turn w) (cut : w.cut ≡ false) (comes : IsPlain t whole c u it.happening) (comes_is : comes.turn ≡ w) where
-    abbrev hs : List Happening
+    abbrev pub hs : List Happening
     hs = c.before ++ it.since
 
-    abbrev h : Happening
+    abbrev pub h : Happening
     h = happenings.Turn w
 
-    is : hs ++ h ∷ it.later ≡ t.trace
+    pub is : hs ++ h ∷ it.later ≡ t.trace
     is = subst (λ y. hs ++ y ∷ it.later ≡ t.trace) turn it.is
 
     abbrev f : Facts
@@ -153,13 +153,13 @@ module _ (t : History) (whole : IsLawfulRun t) (c : Commit t.places t.commands t
     lawful : IsLawfulRun (so_far t hs)
     lawful = part_lawful t whole hs part
 
-    may : MayHappen t.places t.commands f h
+    abbrev pub may : MayHappen t.places t.commands f h
     may = may_of t whole hs h it.later is
 
-    abbrev k : NodeState
+    abbrev pub k : NodeState
     k = may.0
 
-    abbrev p : Place
+    abbrev pub p : Place
     p = place_at t.places w.node
 
     left : exit (events_after t.places t.commands f h e) b ≡ Some Dropped
@@ -175,16 +175,16 @@ module _ (t : History) (whole : IsLawfulRun t) (c : Commit t.places t.commands t
       | inr made ↦ later_exit b made.0 Dropped made.1 made.2
     ]
 
-    was : (l : Live) × (live_at k b ≡ Some l)
+    pub was : (l : Live) × (live_at k b ≡ Some l)
     was = among_found k.lives b (subst (λ o. is_among b (lives_at o) ≡ true) may.1.up leaves.0)
 
-    abbrev l : Live
+    abbrev pub l : Live
     l = was.0
 
     left_kept : node_at g w.node ≡ Some (turn_of p k w.input).after
     left_kept = (turn_here t.places t.commands f (run_stands (so_far t hs) lawful).0.even w k may.1.up).0 ∙ ap (λ q. kept_after q (Some (turn_of p k w.input))) cut
 
-    gone : live_at (turn_of p k w.input).after b ≡ None
+    pub gone : live_at (turn_of p k w.input).after b ≡ None
     gone = not_among (turn_of p k w.input).after.lives b (subst (λ o. is_among b (lives_at o) ≡ false) left_kept leaves.1)
 
     l_me : l.me ≡ b
@@ -196,7 +196,7 @@ module _ (t : History) (whole : IsLawfulRun t) (c : Commit t.places t.commands t
     l_born : its.born ≡ root_born
     l_born = trees.same_born bs (said_in (facts_at t)) (run_known t whole) its.born root_born (born_end t whole hs part its.born its.began) root_began (its.is_me ∙ (l_me ∙ sym root_me))
 
-    top : l.parent ≡ None
+    pub top : l.parent ≡ None
     top = sym its.is_parent ∙ (ap (λ (x : Born). x.parent) l_born ∙ root_top)
 
     reason : RootReason (said_in f) e w.input b (turn_of p k w.input).wrote (map post_of (turn_of p k w.input).sent)
@@ -204,7 +204,7 @@ module _ (t : History) (whole : IsLawfulRun t) (c : Commit t.places t.commands t
         each_at t.places t.commands (TurnsLeaveRoots t.places) (first_facts t.places) hs h it.later []
         (subst (EachEventFrom (TurnsLeaveRoots t.places) t.places t.commands (first_facts t.places) []) (sym is) (roots_have_reasons t whole)) k may.1.up b l was.1 top gone
 
-    owed : IsOwed p k w.input w.wrote w.sent false
+    pub owed : IsOwed p k w.input w.wrote w.sent false
     owed = subst (IsOwed p k w.input w.wrote w.sent) cut may.1.owed
 
     -- the exit that a record tells is no drop
@@ -215,12 +215,12 @@ module _ (t : History) (whole : IsLawfulRun t) (c : Commit t.places t.commands t
         let both : Some z ≡ Some Dropped = sym later ∙ left in
         cc
 
-    seal_not : (r : Sealed) → w.wrote ≡ Some (records.Sealed r) → r.me ≡ b → ⊥
+    pub seal_not : (r : Sealed) → w.wrote ≡ Some (records.Sealed r) → r.me ≡ b → ⊥
     seal_not r wrote is_b =
         let at : exit (with_event (wrote_event w.node (Some (records.Sealed r))) e) b ≡ Some (exits.Sealed r.scn) = first_new (exit e b) (only_at r.me b (exits.Sealed r.scn)) it.none ∙ only_at_same r.me b (exits.Sealed r.scn) is_b in
         (let no : exits.Sealed r.scn ≡ Dropped = written (exits.Sealed r.scn) (wrote_event w.node (Some (records.Sealed r))) (ap (wrote_event w.node) wrote) at in cc)
 
-    decision_not : (r : Decided) → w.wrote ≡ Some (records.Decided r) → r.me ≡ b → ⊥
+    pub decision_not : (r : Decided) → w.wrote ≡ Some (records.Decided r) → r.me ≡ b → ⊥
     decision_not r wrote is_b =
         let at : exit (with_event (wrote_event w.node (Some (records.Decided r))) e) b ≡ Some (exits.Decided r.scn) = first_new (exit e b) (only_at r.me b (exits.Decided r.scn)) it.none ∙ only_at_same r.me b (exits.Decided r.scn) is_b in
         (let no : exits.Decided r.scn ≡ Dropped = written (exits.Decided r.scn) (wrote_event w.node (Some (records.Decided r))) (ap (wrote_event w.node) wrote) at in cc)
@@ -258,10 +258,11 @@ module _ (t : History) (whole : IsLawfulRun t) (c : Commit t.places t.commands t
     rollback_not from came = never_disturbed t whole c u hs w it.later is root_born root_began root_of from kinds.Rollback refl (subst (λ i. Came w.input from i kinds.Rollback) (sym root_me) came)
 
     -- the input is the COMMIT or a message
-    input_is : (input : Input) → w.input ≡ input → ((n : ℕ) (comment : Option (List ℕ)) → inputs.Call n (Some (stmts.Commit comment)) ≢ input) → ((m : _) → inputs.Message m ≢ input) → ⊥
-    input_is input is_it no_call no_message = elim (comes.comes) [
+    pub input_is : (input : Input) → w.input ≡ input → ((n : ℕ) (comment : Option (List ℕ)) → inputs.Call n (Some (stmts.Commit comment)) ≢ input) → ((m : _) → inputs.Message m ≢ input) → is_create input ≡ false → ⊥
+    input_is input is_it no_call no_message no_create = elim (comes.comes) [
       | inl call ↦ no_call call.0 call.1 (sym (subst (λ (y : Turn). IsCall y.input call.0 (stmts.Commit call.1)) comes_is call.2) ∙ is_it)
-      | inr took ↦ (let came = took_message f k w.node w.input w.took took.0 (subst (λ (y : Turn). y.took ≡ Some took.0) comes_is took.1) may.1.comes in no_message came.0 (sym came.1 ∙ is_it))
+      | inr (inl took) ↦ (let came = took_message f k w.node w.input w.took took.0 (subst (λ (y : Turn). y.took ≡ Some took.0) comes_is took.1) may.1.comes in no_message came.0 (sym came.1 ∙ is_it))
+      | inr (inr create) ↦ (let yes : is_create input ≡ true = ap is_create (sym is_it) ∙ subst (λ (y : Turn). is_create y.input ≡ true) comes_is create in absurd (cc (yes, no_create)))
     ]
 
     by_reason : RootReason (said_in f) e w.input b (turn_of p k w.input).wrote (map post_of (turn_of p k w.input).sent) → FoundNothing (said_in (facts_at t)) (events_of t) b
@@ -270,8 +271,8 @@ module _ (t : History) (whole : IsLawfulRun t) (c : Commit t.places t.commands t
     by_reason (Finishes now) = found_end now
     by_reason (Hears_abort from came told) = absurd (abort_not from came told)
     by_reason (Gets_rollback from came) = absurd (rollback_not from came)
-    by_reason (Rolls_back n call) = absurd (input_is (inputs.Call n (Some stmts.Rollback)) call (λ m comment no. absurd cc) (λ m no. absurd cc))
-    by_reason (Gives_up n gives) = absurd (input_is (inputs.GiveUp n) gives (λ m comment no. absurd cc) (λ m no. absurd cc))
+    by_reason (Rolls_back n call) = absurd (input_is (inputs.Call n (Some stmts.Rollback)) call (λ m comment no. absurd cc) (λ m no. absurd cc) refl)
+    by_reason (Gives_up n gives) = absurd (input_is (inputs.GiveUp n) gives (λ m comment no. absurd cc) (λ m no. absurd cc) refl)
 
     found_so : FoundNothing (said_in (facts_at t)) (events_of t) b
     found_so = by_reason reason

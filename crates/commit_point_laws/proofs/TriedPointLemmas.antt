@@ -1,5 +1,5 @@
 -- The tried walk of CommitPoint, by computation.
-use Rattle.std.proofs.Common.{List, [], take, drop, None, refl}
+use Rattle.std.proofs.Common.{List, [], take, drop, None, refl, inl}
 use Rattle.node_rules.specs.Data.stmts
 use Rattle.run_rules.specs.Births.{births_from}
 use Rattle.run_rules.specs.Data.{Turn, Happening}
@@ -27,7 +27,7 @@ the_tried_point = record {
     goes_on = refl;
     still = refl;
     whole = refl;
-    delivers = ((refl, 9, refl), ((refl, 10, refl), ((refl, 11, refl), ((refl, 12, refl), ((refl, 13, refl), ((refl, 14, refl), ((refl, 15, refl), ((refl, 16, refl), ((refl, 17, refl), ((refl, 18, refl), ((refl, 19, refl), tt)))))))))));
+    course = (inl (refl, 9, refl), (inl (refl, 10, refl), (inl (refl, 11, refl), (inl (refl, 12, refl), (inl (refl, 13, refl), (inl (refl, 14, refl), (inl (refl, 15, refl), (inl (refl, 16, refl), (inl (refl, 17, refl), (inl (refl, 18, refl), (inl (refl, 19, refl), tt)))))))))));
     over = refl;
     lost = (refl, (refl, (refl, (refl, (refl, (refl, (refl, (refl, (refl, (refl, (refl, (refl, (refl, (refl, (refl, (refl, (refl, (refl, (refl, tt)))))))))))))))))));
     stopped = (refl, (refl, (refl, tt)));

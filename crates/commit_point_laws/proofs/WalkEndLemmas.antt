@@ -202,8 +202,8 @@ module _ (t : History) (whole : IsLawfulRun t) (c : Commit t.places t.commands t
   -- ---- the root
 
   root_by : (z : Exit) → exit e r ≡ Some z → WalkEnd t r
-  root_by (Decided m) left = (let it = site_decided r m left root_root in Has_decided it.0 it.1)
-  root_by (Sealed n) left = (let it = sealed_ends (p.far r) r n left root_root (omega arith) in Has_decided it.0 it.1)
+  root_by (Decided m) left = (let it = site_decided r m left root_root in Has_decided it.0 it.1 it.2)
+  root_by (Sealed n) left = (let it = sealed_ends (p.far r) r n left root_root (omega arith) in Has_decided it.0 it.1 it.2)
   root_by Quiet left = absurd (i.quiet_not_site r left (root_site (λ d told. quiet_tell_none t whole r left d told) ∙ ap p.site (sym root_root)))
   root_by Dropped left = Has_no_changes left (λ b member of other. all_quiet (root_found t whole c u all left) (p.far b) b member of other (omega arith))
 

@@ -29,9 +29,9 @@ UndisturbedTowardsLeave = (t : History) → IsLawfulRun t → (c : Commit t.plac
     → (b : BranchId) (n : ℕ) → exit (events_of t) b ≡ Some (Sealed n) → (forest_of t).root b ≡ c.root
     → ((m : ℕ) × (exit (events_of t) ((forest_of t).toward b) ≡ Some (Sealed m))) ⊎ ((m : ℕ) × (exit (events_of t) ((forest_of t).toward b) ≡ Some (Decided m)))
 
--- The site of a transaction has decided; or its root is gone, and each other branch that was asked is gone without changes.
+-- The site of a transaction, which is a branch of it, has decided; or its root is gone, and each other branch that was asked is gone without changes.
 pub data WalkEnd (t : History) (root : BranchId) : Type 0 where
-  Has_decided : (m : ℕ) → exit (events_of t) ((forest_of t).site root) ≡ Some (Decided m) → WalkEnd t root
+  Has_decided : (m : ℕ) → exit (events_of t) ((forest_of t).site root) ≡ Some (Decided m) → (forest_of t).root ((forest_of t).site root) ≡ root → WalkEnd t root
   Has_no_changes : exit (events_of t) root ≡ Some Dropped → ((b : BranchId) → (forest_of t).member b ≡ true → (forest_of t).root b ≡ root → b ≢ root → exit (events_of t) b ≡ Some Quiet) → WalkEnd t root
 
 -- So the walk of an undisturbed COMMIT has ended.

@@ -1,6 +1,6 @@
 -- In every lawful run no branch of a transaction is sealed when its COMMIT is called, as none has asked another to prepare;
 -- and none of an undisturbed COMMIT is forced.
-use Rattle.std.proofs.Common.{◌≡◌, ◌≢◌, ℕ, true, false, List, [], ◌∷◌, Option, Some, None, refl, sym, ap, subst, ◌∙◌}
+use Rattle.std.proofs.Common.{◌≡◌, ◌≢◌, ℕ, true, false, List, [], ◌∷◌, Option, Some, None, inl, inr, refl, sym, ap, subst, ◌∙◌}
 use Rattle.std.specs.Prelude.{IfSome}
 use Rattle.std.specs.List.{AllByRecursion}
 use Rattle.tran_ids.proofs.ListedLemmas.{item_is}
@@ -17,6 +17,7 @@ use Rattle.node_rules.proofs.Steps as steps
 use Rattle.node_rules.proofs.Steps.{Step}
 use Rattle.run_rules.specs.Births.{Born, births_of}
 use Rattle.run_base_laws.specs.BirthLaws.{Began}
+use Rattle.run_rules.specs.Commands.{commits_first}
 use Rattle.run_rules.specs.Data.{Took, Turn, Happening, Command}
 use Rattle.run_rules.specs.Data.happenings
 use Rattle.run_rules.specs.Facts.{Facts, first_facts, place_at, facts_after}
@@ -35,7 +36,7 @@ use Rattle.tree_laws.proofs.ForestRunLemmas.{run_known}
 use Rattle.tree_laws.proofs.PrefixLemmas.{f_at, e_at}
 use Rattle.tree_laws.proofs.HeardLemmas.{left_were_asked}
 use Rattle.tree_laws.proofs.TimeLemmas.{Part, part_of, part_lawful, rest_lawful, born_end, events_join}
-use Rattle.run_claims.specs.Undisturbed.{Commit, IsFirstDelivery}
+use Rattle.run_claims.specs.Undisturbed.{Commit, IsFirstDelivery, IsCreateTurn, IsInCourse, is_create}
 use Rattle.commit_spread_laws.proofs.FirstLemmas.{commits_come_first}
 use Rattle.commit_spread_laws.specs.BeforeLaws.{NoneSealedBefore, NoneForced}
 use Rattle.tree_laws.proofs.MoreLemmas.{inv_at}
@@ -155,6 +156,15 @@ delivery_calm f k node (inputs.Call session statement) None comes i some n s cal
 delivery_calm f k node (inputs.GiveUp session) took comes i some n s call forces = absurd (cc (call))
 delivery_calm f k node inputs.Reco took comes i some n s call forces = absurd (cc (call))
 
+-- nor is a CREATE a statement that forces
+creates_none : (s : Stmt) → commits_first s ≡ true → Forces s → ⊥
+creates_none (stmts.CommitForce id given) is forces = absurd cc
+creates_none (stmts.RollbackForce id) is forces = absurd cc
+creates_none _ is forces = absurd forces
+
+create_calm : (input : Input) → is_create input ≡ true → ForcesNone input
+create_calm input is n s call forces = creates_none s (sym (ap is_create call) ∙ is) forces
+
 module _ (places : List Place) (asked : List Command) (b : BranchId) where
   turn_forces : (f : Facts) (u : Turn) (e : List Event) → MayHappen places asked f (happenings.Turn u) → ForcesNone u.input → forced (events_after places asked f (happenings.Turn u) e) b ≡ forced e b
   turn_forces f u e may calm =
@@ -166,13 +176,17 @@ module _ (places : List Place) (asked : List Command) (b : BranchId) where
   delivered_forces f (happenings.Turn u) e may is = turn_forces f u e may (delivery_calm f may.0 u.node u.input u.took may.1.comes _ is.2)
   delivered_forces f _ e may is = absurd is
 
-  deliveries_force : (f : Facts) (hs : List Happening) (e : List Event) → IsLawful places asked f hs → AllByRecursion IsFirstDelivery hs → forced (events_from places asked f hs e) b ≡ forced e b
+  created_forces : (f : Facts) (h : Happening) (e : List Event) → MayHappen places asked f h → IsCreateTurn h → forced (events_after places asked f h e) b ≡ forced e b
+  created_forces f (happenings.Turn u) e may is = turn_forces f u e may (create_calm u.input is.1)
+  created_forces f _ e may is = absurd is
+
+  deliveries_force : (f : Facts) (hs : List Happening) (e : List Event) → IsLawful places asked f hs → AllByRecursion IsInCourse hs → forced (events_from places asked f hs e) b ≡ forced e b
   unfolding events_from IsLawful
   deliveries_force f [] e may all = refl
-  deliveries_force f (h ∷ hs) e may all = deliveries_force (facts_after places asked f h) hs (events_after places asked f h e) may.1 all.1 ∙ delivered_forces f h e may.0 all.0
+  deliveries_force f (h ∷ hs) e may all = deliveries_force (facts_after places asked f h) hs (events_after places asked f h e) may.1 all.1 ∙ elim all.0 [ inl delivery ↦ delivered_forces f h e may.0 delivery | inr create ↦ created_forces f h e may.0 create ]
 
-  -- a COMMIT, and deliveries
-  commit_forces : (f : Facts) (u : Turn) (hs : List Happening) (e : List Event) (n : ℕ) (comment : Option (List ℕ)) → IsCall u.input n (stmts.Commit comment) → IsLawful places asked f (happenings.Turn u ∷ hs) → AllByRecursion IsFirstDelivery hs
+  -- a COMMIT, deliveries, and a CREATE itself
+  commit_forces : (f : Facts) (u : Turn) (hs : List Happening) (e : List Event) (n : ℕ) (comment : Option (List ℕ)) → IsCall u.input n (stmts.Commit comment) → IsLawful places asked f (happenings.Turn u ∷ hs) → AllByRecursion IsInCourse hs
       → forced (events_from places asked f (happenings.Turn u ∷ hs) e) b ≡ forced e b
   unfolding events_from IsLawful
   commit_forces f u hs e n comment asks lawful all =
@@ -189,4 +203,4 @@ none_forced t whole c u z began of =
     let ends : events_of t ≡ events_from t.places t.commands (f_at t c.before) (happenings.Turn c.call ∷ c.during) (e_at t c.before)
     = ap (λ xs. events_from t.places t.commands (first_facts t.places) xs []) (sym c.is) ∙ events_join t.places t.commands (first_facts t.places) c.before (happenings.Turn c.call ∷ c.during) [] in
     ap (λ e. forced e z.me) ends
-    ∙ (commit_forces t.places t.commands z.me (f_at t c.before) c.call c.during (e_at t c.before) c.session c.comment c.asks (rest_lawful t whole c.before (record { rest = happenings.Turn c.call ∷ c.during; is = c.is })) u.delivers ∙ not_forced t whole c z began of)
+    ∙ (commit_forces t.places t.commands z.me (f_at t c.before) c.call c.during (e_at t c.before) c.session c.comment c.asks (rest_lawful t whole c.before (record { rest = happenings.Turn c.call ∷ c.during; is = c.is })) u.course ∙ not_forced t whole c z began of)

@@ -25,7 +25,7 @@ use Rattle.run_base_laws.proofs.SaidPostLemmas.{prepares_are_said}
 use Rattle.tree_laws.proofs.PrefixLemmas.{so_far, f_at, one_on, facts_join}
 use Rattle.tree_laws.proofs.TimeLemmas.{Part, part_of, part_lawful, may_of, sent_end}
 use Rattle.commit_laws.specs.OnceLaws.{count_sent}
-use Rattle.run_claims.specs.Undisturbed.{Commit, Undisturbed, IsFirstDelivery}
+use Rattle.run_claims.specs.Undisturbed.{Commit, Undisturbed, IsFirstDelivery, IsInCourse, is_create}
 use Rattle.commit_laws.proofs.OnceLemmas.{prepares_are_sent_once}
 use Rattle.commit_spread_laws.specs.GotLaws.{GotPrepare}
 use Rattle.commit_spread_laws.proofs.DeliveredLemmas.{stays_delivered, turn_delivers}
@@ -146,11 +146,14 @@ module _ (t : History) (whole : IsLawfulRun t) (c : Commit t.places t.commands t
 
     -- it comes once
     delivery : IsFirstDelivery (happenings.Turn v)
-    delivery = subst IsFirstDelivery turn (elim (split_at IsFirstDelivery c.before (happenings.Turn c.call) c.during hs h rest (is ∙ sym c.is) u.delivers) [
-      | inl old ↦ absurd (asked_before old.0 old.1)
-      | inr (inl call) ↦ absurd (is_no_call call)
-      | inr (inr so) ↦ so
-    ])
+    delivery = elim in_course [ inl so ↦ so | inr create ↦ (let message : is_create v.input ≡ false = ap is_create came.is in let yes = create.1 in absurd (cc (message, yes))) ]
+      where
+        in_course : IsInCourse (happenings.Turn v)
+        in_course = subst IsInCourse turn (elim (split_at IsInCourse c.before (happenings.Turn c.call) c.during hs h rest (is ∙ sym c.is) u.course) [
+          | inl old ↦ absurd (asked_before old.0 old.1)
+          | inr (inl call) ↦ absurd (is_no_call call)
+          | inr (inr so) ↦ so
+        ])
 
     taken : (x : Packet) × MayCome f v.node (record { from = q; to = b; scn = came.scn; kind = kind }) (record { number = delivery.1; again = false }) x
     taken = subst₂ (λ i o. Comes f k v.node i o) came.is delivery.2 may.comes

@@ -2,13 +2,15 @@
 -- number, until none is in flight; then the call has been answered, and the next command begins. So an administrator sees
 -- that a COMMIT that nothing disturbs is complete in its own command. (Database Administrator's Guide, "Distributed
 -- Transactions Concepts": two-phase commit mechanism.)
-use Rattle.std.specs.Prelude.{◌≡◌, ℕ, ◌∷◌, ◌++◌, false, List, [], slice_get, Some, None}
+use Rattle.std.specs.Prelude.{◌≡◌, ℕ, ◌∷◌, ◌++◌, true, false, List, [], slice_get, Some, None}
 use Rattle.std.specs.List.{AllByRecursion}
-use Rattle.node_rules.specs.Data.{Place}
+use Rattle.node_rules.specs.Data.{Place, Stmt}
 use Rattle.node_rules.specs.Data.stmts
+use Rattle.node_rules.specs.Inputs.{IsCall}
 use Rattle.node_rules.specs.Sessions.{session_at, commit_complete}
 use Rattle.net_bag.specs.Net.{first_flying}
-use Rattle.run_rules.specs.Data.{Command, Happening}
+use Rattle.run_rules.specs.Commands.{commits_first}
+use Rattle.run_rules.specs.Data.{Command, Turn, Happening}
 use Rattle.run_rules.specs.Data.commands
 use Rattle.run_rules.specs.Data.happenings
 use Rattle.run_rules.specs.Due.{next_command, due_of}
@@ -42,6 +44,21 @@ pub record CommitIsUnderWay (t : History) (front later : List Happening) (c : Co
   pub off : (past_by t.places t.commands c.before).run_report.hold ≡ false
   pub whole : c.call.cut ≡ false
   pub well : AllByRecursion GoesWell c.during
+
+-- The COMMIT of a CREATE at the end of the first part of a run, whose command has gone well so far: the command is that CREATE,
+-- HOLD is off, and the turn of the COMMIT's call is whole.
+pub record CreateIsUnderWay (t : History) (front later : List Happening) (c : Commit t.places t.commands front) (s : Stmt) : Type 0 where
+  pub within : front ++ later ≡ t.trace
+  pub creates : commits_first s ≡ true
+  pub own : command_at t.commands (facts_by t.places t.commands c.before).command ≡ commands.At c.call.node c.session (Some s)
+  pub off : (past_by t.places t.commands c.before).run_report.hold ≡ false
+  pub whole : c.call.cut ≡ false
+  pub well : AllByRecursion GoesWell c.during
+
+-- The command of a COMMIT goes well: it is COMMIT itself, or a CREATE, which commits first.
+pub data IsUnderWay (t : History) (front later : List Happening) (c : Commit t.places t.commands front) : Type 0 where
+  Of_commit : CommitIsUnderWay t front later c → IsUnderWay t front later c
+  Of_create : (s : Stmt) → CreateIsUnderWay t front later c s → IsUnderWay t front later c
 
 -- ---- what comes next
 
@@ -80,12 +97,12 @@ AnsweredCommitsAreReported = (t : History) → IsTheRunOf t → (front later : L
 
 -- ---- a quiet COMMIT
 
--- A COMMIT of the run of a script is quiet: no statement of its transaction asked for a rollback; HOLD is off and nothing is
--- in flight when it is called; until its command is done, so that the next one or the end of the script is due, no turn is
+-- A COMMIT of the run of a script is quiet, that of a CREATE too: no statement of its transaction asked for a rollback; HOLD is
+-- off and nothing is in flight when it is called; until its command is done, so that the next one or the end of the script is due, no turn is
 -- cut, no message is lost and no node stops; of its transaction no message was lost before, no node of its branches has
 -- stopped since they began, and neither a rollback nor a question of the recoverer came to any of them.
 pub record QuietCommit (t : History) (front later : List Happening) (c : Commit t.places t.commands front) : Type 0 where
-  pub goes : CommitIsUnderWay t front later c
+  pub goes : IsUnderWay t front later c
   pub done : IsBetweenCommands (due_of t.commands (past_by t.places t.commands front))
   pub goes_on : (session_at c.kept.sessions c.session).code ≡ None
   pub still : first_flying (facts_by t.places t.commands c.before).net ≡ None
@@ -93,11 +110,23 @@ pub record QuietCommit (t : History) (front later : List Happening) (c : Commit 
   pub stopped : AllByRecursion (HasNotStopped (facts_by t.places t.commands front)) (branches_by t.places t.commands front c.root)
   pub calm : AllByRecursion (NoneComesIn (branches_by t.places t.commands front c.root)) front
 
--- A COMMIT is undisturbed, it is complete when its command is done, and the report says so.
+-- a CREATE itself comes in a whole turn of its command, after its COMMIT was called
+pub record CreateHasCome (t : History) (front : List Happening) (c : Commit t.places t.commands front) (s : Stmt) : Type 0 where
+  pub before : List Happening
+  pub turn : Turn
+  pub later : List Happening
+  pub is : before ++ happenings.Turn turn ∷ later ≡ c.during
+  pub here : turn.node ≡ c.call.node
+  pub asks : IsCall turn.input c.session s
+  pub whole : turn.cut ≡ false
+
+-- A COMMIT is undisturbed, and it is complete when its command is done. The report says so where the command is COMMIT; where
+-- it is a CREATE, the CREATE itself has come.
 pub record IsDone (t : History) (front : List Happening) (c : Commit t.places t.commands front) : Type 0 where
   pub undisturbed : Undisturbed t.places t.commands front c
   pub complete : CommitIsComplete t.places t.commands front c
-  pub told : IsReportedComplete t front c
+  pub told : command_at t.commands (facts_by t.places t.commands c.before).command ≡ commands.At c.call.node c.session (Some (stmts.Commit c.comment)) → IsReportedComplete t front c
+  pub created : (s : Stmt) → commits_first s ≡ true → command_at t.commands (facts_by t.places t.commands c.before).command ≡ commands.At c.call.node c.session (Some s) → CreateHasCome t front c s
 
 -- Each quiet COMMIT of a run is.
 abbrev pub QuietCommitsAreDone : History → Type 0

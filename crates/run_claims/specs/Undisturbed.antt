@@ -1,6 +1,6 @@
 -- A COMMIT that nothing disturbs, and what it leaves. (Database Administrator's Guide, "Distributed Transactions Concepts":
 -- two-phase commit mechanism, prepare, commit and forget phases.)
-use Rattle.std.specs.Prelude.{◌≡◌, ℕ, ◌==◌, ◌&&◌, Bool, true, false, if◌then◌else◌, List, [], ◌∷◌, ◌++◌, map, filter, option_map, Option, Some, None}
+use Rattle.std.specs.Prelude.{◌≡◌, ℕ, ◌==◌, ◌&&◌, ◌⊎◌, Bool, true, false, if◌then◌else◌, List, [], ◌∷◌, ◌++◌, map, filter, option_map, Option, Some, None}
 use Rattle.std.specs.List.{AllByRecursion}
 use Rattle.node_rules.specs.Data.{Answer, BranchId, Kind, Live, Place, Input}
 use Rattle.node_rules.specs.Data.decisions
@@ -14,19 +14,24 @@ use Rattle.node_rules.specs.Turn.{BranchStatus, Is_gone, status_of}
 use Rattle.node_rules.specs.Words.{same}
 use Rattle.net_bag.specs.Net.{first_flying}
 use Rattle.run_rules.specs.Births.{Born, born_id, births_from}
-use Rattle.run_rules.specs.Book.{At}
-use Rattle.run_rules.specs.Branches.{is_among}
+use Rattle.run_rules.specs.Book.{At, is_decision_on, stands}
+use Rattle.run_rules.specs.Branches.{Trail, no_trail, is_among, plan_at}
+use Rattle.run_rules.specs.Commands.{commits_first}
 use Rattle.run_rules.specs.Data.{Command, Entry, Fate, Packet, Turn, Happening}
 use Rattle.run_rules.specs.Data.entries
 use Rattle.run_rules.specs.Data.fates
 use Rattle.run_rules.specs.Data.happenings
 use Rattle.run_rules.specs.Facts.{Facts, first_facts, node_at, outcome_at, facts_after, facts_of}
 use Rattle.run_rules.specs.Lawful.{History, IsLawfulRun}
-use Rattle.run_rules.specs.Trail.{ended_by}
+use Rattle.run_rules.specs.Trail.{ended_by, has_no_site, trail_of}
 
 -- what these happenings leave
 abbrev pub facts_by : List Place → List Command → List Happening → Facts
 facts_by places asked hs = facts_of places asked (first_facts places) hs
+
+-- and what they tell of branches
+abbrev pub trail_by : List Place → List Command → List Happening → Trail
+trail_by places asked hs = trail_of places asked (first_facts places) no_trail hs
 
 -- A COMMIT of the transaction of a live root, and what has happened since the turn of its call.
 pub record Commit (places : List Place) (asked : List Command) (trace : List Happening) : Type 0 where
@@ -59,6 +64,20 @@ abbrev pub IsFirstDelivery : Happening → Type 0
 IsFirstDelivery (happenings.Turn u) = (u.cut ≡ false) × (number : ℕ) × (u.took ≡ Some (record { number = number; again = false }))
 IsFirstDelivery _ = ⊥
 
+-- whether a client's call is of a CREATE
+abbrev pub is_create : Input → Bool
+is_create (inputs.Call session (Some s)) = commits_first s
+is_create _ = false
+
+-- a CREATE itself comes in a turn that is whole
+abbrev pub IsCreateTurn : Happening → Type 0
+IsCreateTurn (happenings.Turn u) = (u.cut ≡ false) × (is_create u.input ≡ true)
+IsCreateTurn _ = ⊥
+
+-- what happens in the course of an undisturbed COMMIT: a delivery, or a CREATE itself, once its COMMIT has been answered
+abbrev pub IsInCourse : Happening → Type 0
+IsInCourse h = IsFirstDelivery h ⊎ IsCreateTurn h
+
 -- whether a message was lost
 abbrev pub is_lost : Fate → Bool
 is_lost fates.Lost = true
@@ -90,14 +109,15 @@ NoneComesIn bs (happenings.Turn u) = is_disturbed bs u.input ≡ false
 NoneComesIn bs _ = Unit {0}
 
 -- A COMMIT is undisturbed: no statement of its transaction asks for a rollback; nothing is in flight when it is called;
--- from then on there are deliveries alone, of whole turns, until nothing is in flight, as they come while HOLD is off; none
+-- from then on there are whole turns alone, deliveries as they come while HOLD is off and a CREATE itself whose COMMIT it is,
+-- until nothing is in flight; none
 -- of the transaction's messages was lost; no node of its branches has stopped since they began; and neither a rollback nor
 -- a question of the recoverer came to any of them.
 pub record Undisturbed (places : List Place) (asked : List Command) (trace : List Happening) (c : Commit places asked trace) : Type 0 where
   pub goes_on : (session_at c.kept.sessions c.session).code ≡ None
   pub still : first_flying (facts_by places asked c.before).net ≡ None
   pub whole : c.call.cut ≡ false
-  pub delivers : AllByRecursion IsFirstDelivery c.during
+  pub course : AllByRecursion IsInCourse c.during
   pub over : first_flying (facts_by places asked trace).net ≡ None
   pub lost : LostNone (branches_by places asked trace c.root) (facts_by places asked trace).net.packets
   pub stopped : AllByRecursion (HasNotStopped (facts_by places asked trace)) (branches_by places asked trace c.root)
@@ -111,10 +131,20 @@ answers_in places f node session (happenings.Turn u) =
     if u.cut then [] else (if u.node == node then map (λ x. x.answer) (filter (λ x. x.session == session) (ended_by (outcome_at places f u))) else [])
 answers_in places f node session _ = []
 
--- all of them in these happenings, after what they found
+-- those of its COMMIT: the answer of a CREATE itself is none of them
+abbrev pub commit_answers_in : List Place → Facts → ℕ → ℕ → Happening → List Answer
+commit_answers_in places f node session (happenings.Turn u) = if is_create u.input then [] else answers_in places f node session (happenings.Turn u)
+commit_answers_in places f node session _ = []
+
+-- all answers of the session in these happenings, after what they found
 abbrev pub answers_from : List Place → List Command → Facts → ℕ → ℕ → List Happening → List Answer
 answers_from places asked f node session [] = []
 answers_from places asked f node session (h ∷ hs) = answers_in places f node session h ++ answers_from places asked (facts_after places asked f h) node session hs
+
+-- and those of its COMMIT
+abbrev pub commit_answers_from : List Place → List Command → Facts → ℕ → ℕ → List Happening → List Answer
+commit_answers_from places asked f node session [] = []
+commit_answers_from places asked f node session (h ∷ hs) = commit_answers_in places f node session h ++ commit_answers_from places asked (facts_after places asked f h) node session hs
 
 -- a seal of the transaction has its Ended commit
 abbrev pub SealIsEnded : List Entry → BranchId → Entry → Type 0
@@ -125,10 +155,17 @@ SealIsEnded book root _ = Unit {0}
 abbrev pub stand_at : Facts → BranchId → Option BranchStatus
 stand_at f b = option_map (λ k. status_of k b) (node_at f b.node)
 
--- A COMMIT is complete: its call has one answer, Commit complete; each sealed branch of the transaction has ended with
--- commit; and of none of its branches a node knows anything any more, so no view shows one.
+-- the commit point site of a COMMIT has decided, as the book says; or the COMMIT was accepted and its session tree had no site,
+-- since none of its branches had changes
+abbrev pub SiteHasDecided : List Place → List Command → List Happening → BranchId → Type 0
+SiteHasDecided places asked trace root = (stands (is_decision_on root) (facts_by places asked trace).book ≡ true) ⊎ (has_no_site (plan_at (trail_by places asked trace) root) ≡ true)
+
+-- A COMMIT is complete: its call has one answer, Commit complete; a decision of the transaction stands, where there was anything
+-- to decide; each sealed branch of the transaction has ended with commit; and of none of its branches a node knows anything any
+-- more, so no view shows one.
 pub record CommitIsComplete (places : List Place) (asked : List Command) (trace : List Happening) (c : Commit places asked trace) : Type 0 where
-  pub answered : answers_from places asked (facts_by places asked c.before) c.call.node c.session (happenings.Turn c.call ∷ c.during) ≡ commit_complete ∷ []
+  pub answered : commit_answers_from places asked (facts_by places asked c.before) c.call.node c.session (happenings.Turn c.call ∷ c.during) ≡ commit_complete ∷ []
+  pub decided : SiteHasDecided places asked trace c.root
   pub ended : AllByRecursion (SealIsEnded (facts_by places asked trace).book c.root) (facts_by places asked trace).book
   pub gone : AllByRecursion (λ b. stand_at (facts_by places asked trace) b ≡ Some Is_gone) (branches_by places asked trace c.root)
 
