@@ -1,5 +1,5 @@
 -- What the matches hold is what the words mean.
-use Rattle.std.proofs.Common.{◌∙◌, Some, rules, arith, sym, ap, codes}
+use Rattle.std.proofs.Common.{◌∙◌, rules, arith, sym, ap, codes}
 use Rattle.std.specs.Str.Parse.{ParsesUnsigned, ExplainsUnsignedError, HasUnsignedDigitsIfOk}
 use Rattle.clap.specs.Words.{first_of, found_of, one_of, one_text}
 use Rattle.clap.proofs.WalkLemmas.{first_value-rows, one_text-rows}
