@@ -9,7 +9,7 @@ use Rattle.script_run.specs.Headline.{IsRun, nothing_done}
 use Rattle.script_run.specs.Ending.{Read, Written, TextIsCut, EndsRead, IsComplete, ending_of, due_of}
 use Rattle.script_run.proofs.Headlines.{with_status}
 use Rattle.script_run.proofs.Endings.{is_complete}
-use Rattle.chart_run.specs.declared.choices.Choices.{Choices}
+use Rattle.chart_words.specs.declared.Choices.{Choices}
 use Rattle.chart_run.specs.Ending.{EndsLined, EndsShown, EndsDrawn}
 
 -- ---- what dtx wrote to a sink in memory

@@ -8,7 +8,7 @@ use Rattle.chart_captions.specs.Tale.{tale_from}
 use Rattle.chart_text.specs.Window.{window_of}
 use Rattle.chart_text.specs.Plain.{text_of}
 use Rattle.chart_text.specs.Svg.{svg_of}
-use Rattle.chart_run.specs.declared.choices.Choices.{Choices}
+use Rattle.chart_words.specs.declared.Choices.{Choices}
 
 -- the marks of a run, over the nodes that its script makes
 unfoldable pub marks_in : Run → Marks

@@ -10,7 +10,7 @@ use Rattle.script_run.specs.declared.outcome.Status.{Status}
 use Rattle.script_run.specs.declared.outcome.Status.TheVariants.{Done, BadScript, Usage, NoMemory, WriteFault}
 use Rattle.script_run.specs.Headline.{nothing_done}
 use Rattle.script_run.specs.Ending.{Read, Written, IsUnread, IsUnfailed, TextIsCut, IsAskedBy, RunIsWhole, EndsReported, EndsRead, due_of}
-use Rattle.chart_run.specs.declared.choices.Choices.{Choices}
+use Rattle.chart_words.specs.declared.Choices.{Choices}
 use Rattle.chart_run.specs.Drawing.{picture_of}
 
 -- what is written where the words are wrong
@@ -22,11 +22,11 @@ abbrev pub EndsLined : Status → Written → List ℕ → Status → Type 0
 EndsLined due w line WriteFault = TextIsCut w line
 EndsLined due w line status = (status ≡ due) × Appends w.before w.now line
 
--- how a call ends whose words are wrong: nothing is read or run, and the usage line is written
+-- how a call ends whose words are wrong: nothing is read or run, and the usage line is written, unless memory runs out before
 pub record EndsUnread (r : Read) (w : Written) (run : Run) (status : Status) : Type 0 where
   pub unread : IsUnread r
   pub nothing : run ≡ nothing_done
-  pub explained : EndsLined Usage w usage_line status
+  pub explained : EndsLined Usage w usage_line status ⊎ ((status ≡ NoMemory) × Keeps w.before w.now)
 
 -- What is written where the run of a script ended with this status, and its report was this: the picture where all was run,
 -- and the report where it is the line of a bad script. A report for which there is no room in memory has no picture.

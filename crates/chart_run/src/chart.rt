@@ -1,20 +1,20 @@
 //! From the bytes of a script to the bytes of a picture.
-ghost use Rattle.std.specs.Prelude.{◌≡◌, ◌++◌, Some, None, map, IfOk, OnOk};
+ghost use Rattle.std.specs.Prelude.{◌≡◌, ◌++◌, map, IfOk, OnOk};
 ghost use Rattle.std.specs.String.{string_bytes};
 ghost use Rattle.script_read.specs.Asked.{names_made};
 ghost use Rattle.script_read.specs.Sound.{names_in};
 ghost use Rattle.script_run.specs.declared.outcome.Status.TheVariants.{BadScript, Usage};
-ghost use Rattle.script_run.specs.Headline.{IsRun};
+ghost use Rattle.script_run.specs.Headline.{IsRun, nothing_done};
 ghost use Rattle.script_run.specs.Ending.{ending_of, EndsReported, IsComplete};
-ghost use Rattle.chart_run.specs.declared.choices.Choices.{Choices};
-ghost use Rattle.chart_run.specs.Words.{wanted as wanted_by};
+ghost use Rattle.chart_words.specs.declared.Choices.{Choices};
 ghost use Rattle.chart_run.specs.Drawing.{marks_in, drawn, picture_of};
 ghost use Rattle.chart_run.specs.Ending.{usage_line, EndsLined, EndsShown, EndsUnread, EndsDrawn};
+ghost use Rattle.chart_run.specs.Words.{AreOther, AskDraw, EndsAsked};
 
-use crate::choices::{Choices, wanted};
 use chart_captions::tale;
 use chart_marks::{Marks, marks};
 use chart_text::{Window, plain, svg};
+use chart_words::{Choices, Words, read_words};
 use dtx_ports::{MemSink, Sink, Source, write_whole};
 use dtx_values::{Duplicate, Listing, Name, Names};
 use script_read::Command;
@@ -165,11 +165,42 @@ fn run_and_draw<S: Source, K: Sink>(
     Outcome { status, run }
 }
 
+/// Refuses the words: nothing is run, and how the program is called is written.
+fn refuse_words<K: Sink>(alloc: Global, sink: &mut K) -> Outcome
+    ensures nothing { result.run ≡ nothing_done }
+    ensures run { IsRun result.run (ending_of result.status) }
+    ensures explained { EndsLined Usage (record { before = K.written sink.old; now = K.written sink.new; faults_before = K.faults sink.old; faults_now = K.faults sink.new }) usage_line result.status }
+{
+    let run = Run::empty(alloc);
+    let status = explain(sink);
+    Outcome { status, run }
+}
+
+/// Does what the words ask for.
+fn draw_asked<S: Source, K: Sink>(
+    alloc: Global,
+    asked: Words,
+    source: &mut S,
+    sink: &mut K,
+) -> Outcome
+    ensures run { IsRun result.run (ending_of result.status) }
+    ensures ends { EndsAsked asked (record { before = S.left source.old; now = S.left source.new; faults_before = S.faults source.old; faults_now = S.faults source.new })
+        (record { before = K.written sink.old; now = K.written sink.new; faults_before = K.faults sink.old; faults_now = K.faults sink.new }) result.run result.status }
+{
+    match asked {
+        Words::Draw(wanted) => run_and_draw(alloc, wanted, source, sink),
+        Words::Usage => refuse_words(alloc, sink),
+        Words::NoMemory => Outcome {
+            status: Status::NoMemory,
+            run: Run::empty(alloc),
+        },
+    }
+}
+
 /// Reads a script from the source, runs it, and writes the picture of its run to the sink. The words are those of the
-/// command line after the program's name: `--text` for plain text in place of SVG, `--from N` and `--to N` for the commands
-/// from N or to N. For other words the usage line is written, and nothing is read. A bad script has its line written, and no
-/// picture.
-#[tactic(auto, using(crate::proofs::EndingLemmas::completed))]
+/// command line after the program's name, as clap takes them: `--text` for plain text in place of SVG, `--from N` and `--to N`
+/// for the commands from N or to N. For other words the usage line is written, and nothing is read. A bad script has its line
+/// written, and no picture.
 pub fn draw_script<S: Source, K: Sink>(
     alloc: Global,
     words: &Vec<String>,
@@ -180,24 +211,18 @@ pub fn draw_script<S: Source, K: Sink>(
     ensures run { IsRun result.run (ending_of result.status) }
 
     // Each status has its cause, and what is written is the picture of the run.
-    ensures words { wanted_by (map string_bytes words.now.items) ≡ None
+    ensures words { AreOther (map string_bytes words.now.items)
         → EndsUnread (record { before = S.left source.old; now = S.left source.new; faults_before = S.faults source.old; faults_now = S.faults source.new })
         (record { before = K.written sink.old; now = K.written sink.new; faults_before = K.faults sink.old; faults_now = K.faults sink.new }) result.run result.status }
-    ensures drawn { (wanted : Choices) → wanted_by (map string_bytes words.now.items) ≡ Some wanted
+    ensures drawn { (wanted : Choices) → AskDraw wanted (map string_bytes words.now.items)
         → EndsDrawn wanted (record { before = S.left source.old; now = S.left source.new; faults_before = S.faults source.old; faults_now = S.faults source.new })
         (record { before = K.written sink.old; now = K.written sink.new; faults_before = K.faults sink.old; faults_now = K.faults sink.new }) result.run result.status }
 
     // Good words, bytes and ends give the picture, unless memory runs out.
-    ensures complete { (wanted : Choices) → wanted_by (map string_bytes words.now.items) ≡ Some wanted
+    ensures complete { (wanted : Choices) → AskDraw wanted (map string_bytes words.now.items)
         → IsComplete (record { before = S.left source.old; now = S.left source.new; faults_before = S.faults source.old; faults_now = S.faults source.new })
         (record { before = K.written sink.old; now = K.written sink.new; faults_before = K.faults sink.old; faults_now = K.faults sink.new }) result.status }
 {
-    match wanted(words) {
-        Some(wanted) => run_and_draw(alloc, wanted, source, sink),
-        None => {
-            let run = Run::empty(alloc);
-            let status = explain(sink);
-            Outcome { status, run }
-        }
-    }
+    let asked = read_words(alloc, words.as_slice());
+    draw_asked(alloc, asked, source, sink)
 }

@@ -5,14 +5,19 @@
 //! is a function of the words alone (`fault_of`), and so is what it takes them for (`matches_of`).
 #![tactic(auto)]
 
+mod options;
+
 ghost use Rattle.std.specs.Prelude.{◌≡◌, map, IfOk, codes};
 ghost use Rattle.std.specs.String.{string_bytes};
-ghost use Rattle.clap.specs.Words.{FailsBy, fault_of, first_value, found_of, matches_of, rows_of};
+ghost use Rattle.clap.specs.Words.{FailsBy, fault_of, found_of, matches_of, rows_of};
+ghost use Rattle.words.specs.Options.{HoldsNumber};
 ghost use Rattle.words.specs.Table.{Table};
-ghost use Rattle.words.specs.CommandLine.{HoldsNumber, Means, dtx, is_true};
+ghost use Rattle.words.specs.CommandLine.{Means, dtx};
+
+pub use options::{bare, flag, is_flagged, number};
 
 use clap::error::ErrorKind;
-use clap::{Arg, ArgAction, ArgMatches, Command, Error, value_parser};
+use clap::{ArgMatches, Error};
 use std::alloc::Global;
 
 /// What the words ask for.
@@ -32,32 +37,14 @@ pub enum Words {
 fn parsed<'a>(alloc: Global, words: &'a [String]) -> Result<ArgMatches<'a>, Error>
     ensures kinds { FailsBy (fault_of dtx (map string_bytes words.entry.now)) result }
     ensures matches { IfOk result (λ m. rows_of (found_of m) ≡ matches_of dtx (map string_bytes words.entry.now)) }
-    ensures number { IfOk result HoldsNumber }
+    ensures number { IfOk result (HoldsNumber 65535 (codes "make")) }
 {
-    let book = Arg::new(alloc, "book")
-        .long("book")
-        .action(ArgAction::SetTrue);
-    let make = Arg::new(alloc, "make")
-        .long("make")
-        .action(ArgAction::Set)
-        .value_parser(value_parser!(u16).range(1..=65535));
-    Command::new(alloc, "dtx")
-        .no_binary_name(true)
-        .disable_help_flag(true)
-        .disable_version_flag(true)
+    let book = flag(alloc, "book");
+    let make = number(alloc, "make", 65535);
+    bare(alloc, "dtx")
         .arg(book)?
         .arg(make)?
         .try_get_matches_from(words)
-}
-
-// The flag is there.
-fn is_flagged(matches: &ArgMatches<'_>) -> bool
-    ensures { result ≡ is_true (first_value (found_of matches.now) (codes "book")) }
-{
-    match matches.get_str("book") {
-        Some(text) => text == "true",
-        None => false,
-    }
 }
 
 /// What the words after the program's name ask for. They are Usage exactly where clap refuses them, unless memory runs out.
@@ -66,7 +53,7 @@ pub fn read_words<'a>(alloc: Global, words: &'a [String]) -> Words
 {
     match parsed(alloc, words) {
         Ok(matches) => {
-            let book = is_flagged(&matches);
+            let book = is_flagged(&matches, "book");
             match matches.get_one::<u16>("make") {
                 Some(number) => Words::Make { number, book },
                 None => Words::Run { book },
