@@ -14,10 +14,9 @@ ghost use Rattle.words.specs.Options.{HoldsNumber};
 ghost use Rattle.words.specs.Table.{Table};
 ghost use Rattle.words.specs.CommandLine.{Means, dtx};
 
-pub use options::{bare, flag, is_flagged, number};
-
 use clap::error::ErrorKind;
 use clap::{ArgMatches, Error};
+pub use options::{bare, flag, is_flagged, number};
 use std::alloc::Global;
 
 /// What the words ask for.
