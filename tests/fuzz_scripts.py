@@ -16,6 +16,8 @@ KEYS = 4
 class Writer:
     """Writes one script, by its seed."""
 
+    forced = 0.3  # of so many transactions the branches in doubt are forced
+
     def __init__(self, seed):
         self.random = random.Random(seed)
         self.nodes = [f"N{place}" for place in range(1, self.pick([1, 2, 2, 3, 3, 4, 5]) + 1)]
@@ -60,9 +62,11 @@ class Writer:
             parts.append(f"STRENGTH {self.pick([0, 1, 1, 50, 100, 255])}")
         if self.chance(0.2):
             parts.append(f"LINKS {self.pick([1, 2, 4, 64])}")
-        if self.chance(0.2):
-            parts.append(f"UNDO {self.pick([1, 2, 64])}")
-        return " ".join(parts)
+        return " ".join(parts + self.undo())
+
+    def undo(self):
+        """The undo space of a node, where it is said."""
+        return [f"UNDO {self.pick([1, 2, 64])}"] if self.chance(0.2) else []
 
     def prepared(self):
         """A table at most nodes, links between most, and synonyms for what stands behind a link, synonyms among it."""
@@ -103,9 +107,13 @@ class Writer:
         key = self.random.randint(1, KEYS)
         return self.pick(["", f" WHERE K = {key}", f" WHERE K = {key}", f" WHERE K > {key}", f" WHERE V < {key}"])
 
+    def width(self):
+        """How long a text is."""
+        return self.pick([1, 1, 1, 2000, 2001]) if self.chance(0.1) else 1
+
     def change(self, name):
         table, key = self.table(name), self.key()
-        width = self.pick([1, 1, 1, 2000, 2001]) if self.chance(0.1) else 1
+        width = self.width()
         share = self.random.random()
         if share < 0.5:
             return f"INSERT INTO {table} VALUES ({key}, {self.random.randint(0, 9)}, '{'x' * width}')"
@@ -228,7 +236,7 @@ class Writer:
             yield at + self.change(name)
             if self.is_held:
                 yield "PUMP"
-        forced = self.chance(0.3)
+        forced = self.chance(self.forced)
         yield from self.unheard() if forced else [self.disturbance() for _ in range(self.pick([0, 0, 1, 1, 2]))]
         yield at + self.commit()
         if self.is_held:
@@ -271,3 +279,27 @@ class Writer:
         forms = [self.order] * 3 + [self.network] * 2 + [self.delivery] * 3 + [self.shown]
         forms += [lambda: f"STOP {self.node()}"] + [lambda: f"START {self.node()}"] * 4 + [lambda: f"RECO {self.node()}"] * 2
         return self.pick(forms)()
+
+
+class SmallPools(Writer):
+    """Nodes of little undo space, whose rows are long: what is in doubt, or stopped and started, holds it."""
+
+    forced = 0.6
+
+    def undo(self):
+        return [f"UNDO {self.pick([1, 2, 3])}"]
+
+    def width(self):
+        return self.pick([1, 1, 700, 1500, 2000, 2000, 2001])
+
+    def change(self, name):
+        return f"UPDATE {self.table(name)} SET V = V + 1" if self.chance(0.15) else super().change(name)
+
+    def aftermath(self):
+        """Nodes stop and start, and their undo space is asked for behind that, and behind a recovery."""
+        for _ in range(self.pick([0, 1, 2, 4])):
+            name = self.node()
+            yield from self.pick([[f"STOP {name}", f"START {name}"], [f"START {name}"], [f"RECO {name}"]])
+            for _ in range(self.pick([1, 2, 4])):
+                yield f"AT {name} SESSION {self.session()}: {self.change(name)}"
+        yield from super().aftermath()
