@@ -9,6 +9,7 @@ KINDS = (
 BYTES = ["00", "01", "02", "ff", "0101", "0001", "01000000", "0100000001", "01ffffffff", "01" * 40, "00" * 40]
 TABLE = "T"  # each node has a table of this name, mostly
 DBA = 63  # a session that changes no rows
+PROBER = 62  # a session that rolls back what it changes
 TRANSACTIONS = 3  # so many client sessions of a node change rows
 KEYS = 4
 
@@ -287,7 +288,7 @@ class SmallPools(Writer):
     forced = 0.6
 
     def undo(self):
-        return [f"UNDO {self.pick([1, 2, 3])}"]
+        return [f"UNDO {self.pick([1, 1, 2, 3])}"]
 
     def width(self):
         return self.pick([1, 1, 700, 1500, 2000, 2000, 2001])
@@ -295,11 +296,19 @@ class SmallPools(Writer):
     def change(self, name):
         return f"UPDATE {self.table(name)} SET V = V + 1" if self.chance(0.15) else super().change(name)
 
+    def restarted(self):
+        """Nodes stop and start, or recover, and it is tried whether undo space is left behind that."""
+        for name in self.nodes:
+            yield from self.pick([[], [], [f"STOP {name}", f"START {name}"], [f"START {name}"], [f"RECO {name}"]])
+            self.keys += 1
+            for change in f"INSERT INTO {TABLE} VALUES ({self.keys}, 0, '')", self.change(name):
+                yield f"AT {name} SESSION {PROBER}: {change}"
+            yield f"AT {name} SESSION {PROBER}: ROLLBACK"
+
+    def outcomes(self, root):
+        yield from self.restarted()
+        yield from super().outcomes(root)
+
     def aftermath(self):
-        """Nodes stop and start, and their undo space is asked for behind that, and behind a recovery."""
-        for _ in range(self.pick([0, 1, 2, 4])):
-            name = self.node()
-            yield from self.pick([[f"STOP {name}", f"START {name}"], [f"START {name}"], [f"RECO {name}"]])
-            for _ in range(self.pick([1, 2, 4])):
-                yield f"AT {name} SESSION {self.session()}: {self.change(name)}"
+        yield from self.restarted()
         yield from super().aftermath()

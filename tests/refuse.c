@@ -1,9 +1,9 @@
 /* A preload library for refused_memory.py: it lets one call of a program fail.
 
-   REFUSE names the call by its kind and its number, counted from 1: "memory 17" is the 17th time that memory is asked for, "read 2"
-   the 2nd read of standard input, "write 3" the 3rd write of standard output; by "idle 3" that write takes no byte. A read or a
-   write moves at most MOST bytes, so that there are several of them. COUNTS names a file that gets, at the end, how many calls there
-   were of each kind, in the order memory, read, write. */
+   REFUSE names the call by its kind and its number, counted from 1: "memory 17" is the 17th time that memory is asked for,
+   "read 2" the 2nd read of standard input, "write 3" the 3rd write of standard output; by "idle 3" that write takes no byte. A
+   read or a write moves at most MOST bytes, so that there are several of them. COUNTS names a file that gets, at the end, how
+   many calls there were of each kind, in the order memory, read, write. */
 #include <errno.h>
 #include <fcntl.h>
 #include <stdio.h>
