@@ -17,8 +17,8 @@ joined, nothing is held, and all is recovered. Of each run is asked that
     - once all is recovered, no branch is in doubt and none is collecting, and the rows at each node are those that the
       committed changes on its disk leave; they stay so when every node is stopped and started again.
 
-With --small-pools each node has one to three extents of undo and many rows are long, more branches are forced, and nodes stop and
-start more often. Then the second program (model/) runs each script too, and has to print the same: so it is compared which
+With --small-pools each node has one to three extents of undo and many rows are long, more branches are forced, and nodes stop
+and start more often. Then the second program (model/) runs each script too, and has to print the same: so it is compared which
 statements are refused with ORA-30036, and by how many extents.
 
 A script on which something fails is written to fuzz_SEED.dtx, and its line says what. The last line is `N runs, M failed`; the

@@ -2,7 +2,7 @@
 
    REFUSE names the call by its kind and its number, counted from 1: "memory 17" is the 17th time that memory is asked for,
    "read 2" the 2nd read of standard input, "write 3" the 3rd write of standard output; by "idle 3" that write takes no byte. A
-   read or a write moves at most MOST bytes, so that there are several of them. COUNTS names a file that gets, at the end, how
+   read or a write moves at most MOST bytes, which is set at the build, so that there are several of them. COUNTS names a file that gets, at the end, how
    many calls there were of each kind, in the order memory, read, write. */
 #include <errno.h>
 #include <fcntl.h>
@@ -11,8 +11,6 @@
 #include <string.h>
 #include <sys/syscall.h>
 #include <unistd.h>
-
-#define MOST 100
 
 /* glibc's own calls, under the names that no preload library takes over */
 void *__libc_malloc(size_t size);

@@ -3,8 +3,8 @@
 
     tests/refused_memory.py [--all] [PROGRAM]
 
-PROGRAM is the proved program where it is left out. Each story in ../examples is run, with the book behind its report, and also a
-bad script, wrong words and a made script. In each further run one call fails, by refuse.c as a preload library:
+PROGRAM is the proved program where it is left out. Each story in ../examples is run, with the book behind its report, and also
+a bad script, wrong words and a made script. In each further run one call fails, by refuse.c as a preload library:
 
     - of memory: the run ends with status 3 and nothing written, or as if nothing was refused;
     - a read of the script: it ends with status 4 and nothing written;
@@ -13,8 +13,10 @@ bad script, wrong words and a made script. In each further run one call fails, b
 Of the calls of one kind in one story at most 200 fail, spread over the run. With --all at most 3,000 do, which are all of each
 example; that takes some minutes. A read or a write moves at most 100 bytes here, so that there are several of them.
 
+Then a directory is the source, a full disk the sink, or a pipe that nobody reads: they fail by themselves.
+
 Each failure is one line. The last line is `N places, M failed`; the exit status is 1 where one failed. Without a C compiler
-(cc) nothing is refused: the test says so, and passes.
+(cc) no call is refused, and the last line says so.
 """
 
 import os
@@ -28,7 +30,7 @@ from typing import NamedTuple
 
 from runs import TOP, proved
 
-MOST = 100  # bytes that a read or a write moves, as in refuse.c
+MOST = 100  # bytes that a read or a write moves
 PLACES, ALL = 200, 3000  # so many calls of a kind fail in one story, and so many with --all
 
 
@@ -62,13 +64,14 @@ class Refusals:
         self.program = program
         self.library = folder / "refuse.so"
         self.counts = folder / "counts"
-        words = ["cc", "-O2", "-shared", "-fPIC", "-fno-builtin", "-o", self.library, TOP / "tests/refuse.c"]
+        words = ["cc", "-O2", "-shared", "-fPIC", "-fno-builtin", f"-DMOST={MOST}", "-o", self.library, TOP / "tests/refuse.c"]
         subprocess.run(words, check=True)
 
     def end(self, story, **names):
         """How the story ends under the library, which is told these names."""
         environment = {"LD_PRELOAD": str(self.library), **names}
-        done = subprocess.run([self.program, *story.words], input=story.script, capture_output=True, env=environment, timeout=60)
+        words = [self.program, *story.words]
+        done = subprocess.run(words, input=story.script, capture_output=True, env=environment, timeout=60)
         return End(done.returncode, done.stdout)
 
     def whole(self, story):
@@ -95,7 +98,7 @@ def places(count, most):
     return range(1, count + 1) if count <= most else [1 + place * (count - 1) // (most - 1) for place in range(most)]
 
 
-def failures(refusals, pool, story, most):
+def refused(refusals, pool, story, most):
     """The line of each failure in a story, None for each place where there is none."""
     whole, counts = refusals.whole(story)
 
@@ -107,21 +110,36 @@ def failures(refusals, pool, story, most):
     return pool.map(tried, [(kind, number) for kind, count in counts.items() for number in places(count, most)])
 
 
-def main(words):
+def refused_in_each(program, most):
+    """The same of each story."""
     if not shutil.which("cc"):
-        print("there is no C compiler here (cc): nothing was refused")
-        return 0
-    most = ALL if "--all" in words else PLACES
-    programs = [word for word in words if word != "--all"]
-    count, failed = 0, 0
+        return
     with tempfile.TemporaryDirectory() as folder, ThreadPoolExecutor(os.cpu_count()) as pool:
-        refusals = Refusals(programs[0] if programs else proved(), pathlib.Path(folder))
+        refusals = Refusals(program, pathlib.Path(folder))
         for story in stories():
-            lines = list(failures(refusals, pool, story, most))
-            count, failed = count + len(lines), failed + len(lines) - lines.count(None)
-            print(*filter(None, lines), sep="\n", end="\n" * (lines.count(None) < len(lines)), flush=True)
-    print(f"{count} places, {failed} failed")
-    return 1 if failed or not count else 0
+            yield from refused(refusals, pool, story, most)
+
+
+def by_itself(program):
+    """The same of a source and of sinks that fail by themselves."""
+    nobody, pipe = os.pipe()
+    os.close(nobody)
+    script = (TOP / "examples/first.dtx").read_bytes()
+    from_folder = {"stdin": os.open(TOP, os.O_RDONLY), "stdout": subprocess.PIPE}
+    to_full, to_nobody = [{"input": script, "stdout": sink} for sink in (os.open("/dev/full", os.O_WRONLY), pipe)]
+    for due, ends in [(4, from_folder), (5, to_full), (5, to_nobody)]:
+        done = subprocess.run([program], timeout=60, **ends)
+        yield None if done.returncode == due and not done.stdout else f"FAIL where status {due} is due: {done}"
+
+
+def main(words):
+    programs = [word for word in words if word != "--all"]
+    program = programs[0] if programs else proved()
+    lines = [*refused_in_each(program, ALL if "--all" in words else PLACES), *by_itself(program)]
+    failed = [line for line in lines if line]
+    missing = "" if shutil.which("cc") else "; there is no C compiler here (cc), so no call was refused"
+    print(*failed, f"{len(lines)} places, {len(failed)} failed{missing}", sep="\n")
+    return 1 if failed else 0
 
 
 if __name__ == "__main__":

@@ -13,11 +13,11 @@ A case is a folder with the files
     expected    the whole standard output, byte for byte
     status      the exit status
 
-or a pair NAME.dtx and NAME.out, with the status 0, as each example is. A folder with a script, what is expected and an empty file
-`prefixes` is a case for each prefix of the script, which has a command on each line: whole commands are run, and a command that
-is cut makes a bad script. A scenario of tests/plays is a folder with a script and
-what is expected, and has the status 0 too; it asks for the book where the last line is one of the book. Each failure is one
-line. The last line is `N passed, M failed`; the exit status is 1 where one failed.
+or a pair NAME.dtx and NAME.out, with the status 0, as each example is. A folder with a script, what is expected and an empty
+file `prefixes` is a case for each prefix of the script, which has a command on each line: whole commands are run, and a command
+that is cut makes a bad script. A scenario of tests/plays is a folder with a script and what is expected, and has the status 0
+too; it asks for the book where the last line is one of the book. Each failure is one line. The last line is
+`N passed, M failed`; the exit status is 1 where one failed.
 """
 
 import pathlib
