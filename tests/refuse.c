@@ -2,8 +2,8 @@
 
    REFUSE names the call by its kind and its number, counted from 1: "memory 17" is the 17th time that memory is asked for,
    "read 2" the 2nd read of standard input, "write 3" the 3rd write of standard output; by "idle 3" that write takes no byte. A
-   read or a write moves at most MOST bytes, which is set at the build, so that there are several of them. COUNTS names a file that gets, at the end, how
-   many calls there were of each kind, in the order memory, read, write. */
+   read or a write moves at most MOST bytes, which is set where this is built, so that there are several of them. COUNTS names a
+   file that gets, at the end, how many calls there were of each kind, in the order memory, read, write. */
 #include <errno.h>
 #include <fcntl.h>
 #include <stdio.h>
