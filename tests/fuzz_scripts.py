@@ -291,7 +291,7 @@ class SmallPools(Writer):
         return [f"UNDO {self.pick([1, 1, 2, 3])}"]
 
     def width(self):
-        return self.pick([1, 1, 700, 1500, 2000, 2000, 2001])
+        return self.pick([1, 990, 990, 991, 1500, 2000, 2001])  # four changes with 990 letters fill an extent
 
     def change(self, name):
         return f"UPDATE {self.table(name)} SET V = V + 1" if self.chance(0.15) else super().change(name)
