@@ -1,7 +1,7 @@
 #!/usr/bin/env python3
 """Runs random scripts in which anything may happen, and tests what holds of every run.
 
-    tests/fuzz.py [--count N] [--seed S] [--jobs J] [PROGRAM]
+    tests/fuzz.py [--small-pools] [--count N] [--seed S] [--jobs J] [PROGRAM]
 
 N scripts (1,000 where it is left out) are made from seed S on, J at a time, and PROGRAM is the proved program where it is left
 out. fuzz_scripts.py makes them: one to five nodes, transactions over links, and among them disk orders,
@@ -17,6 +17,10 @@ joined, nothing is held, and all is recovered. Of each run is asked that
     - once all is recovered, no branch is in doubt and none is collecting, and the rows at each node are those that the
       committed changes on its disk leave; they stay so when every node is stopped and started again.
 
+With --small-pools each node has one to three extents of undo and many rows are long, more branches are forced, and nodes stop
+and start more often. Then the second program (model/) runs each script too, and has to print the same: so it is compared which
+statements are refused with ORA-30036, and by how many extents.
+
 A script on which something fails is written to fuzz_SEED.dtx, and its line says what. The last line is `N runs, M failed`; the
 exit status is 1 where one failed.
 """
@@ -30,8 +34,11 @@ from collections import defaultdict
 from functools import partial
 
 from disk_records import BOOKED, rows_of
-from fuzz_scripts import DBA, TABLE, Writer
-from runs import Unended, disk_of, proved, records_of, run
+from fuzz_scripts import DBA, TABLE, SmallPools, Writer
+from runs import TOP, Unended, disk_of, proved, records_of, run, script_of, texts_in
+
+sys.path.append(str(TOP / "tests/model"))
+from script import play  # of the second program
 
 ROUNDS = 20  # of recovery: orders of the script may still strike on the way, and a decision may go up and down a deep tree
 
@@ -39,8 +46,7 @@ ROUNDS = 20  # of recovery: orders of the script may still strike on the way, an
 class Plan:
     """The commands of a run, and the numbers of those whose answers are asked for."""
 
-    def __init__(self, seed):
-        writer = Writer(seed)
+    def __init__(self, writer):
         nodes = writer.nodes
         self.nodes = nodes
         self.commands = writer.script()
@@ -179,9 +185,18 @@ def check_pending(plan, ran):
             need(state not in (["prepared"], ["collecting"]), f"after recovery: {row}")
 
 
-def try_seed(program, seed):
+def check_alike(plan, ran):
+    """The second program prints the same under each command."""
+    status, report = play(script_of(plan.commands))
+    due = texts_in(report)
+    need(status == ran.status, f"the second program ends with status {status}")
+    for number, command in enumerate(plan.commands, 1):
+        need(due[number] == ran.texts[number], f"{number} {command}: {ran.texts[number]}, by the second program {due[number]}")
+
+
+def try_seed(program, with_small_pools, seed):
     """Runs the script of a seed. The line of its failure, None where there is none."""
-    plan = Plan(seed)
+    plan = Plan((SmallPools if with_small_pools else Writer)(seed))
     try:
         ran = run(program, plan.commands)
         need(ran.status == 0, f"status {ran.status}")
@@ -191,14 +206,17 @@ def try_seed(program, seed):
         check_disks(plan, ran, book)
         check_pending(plan, ran)
         check_rows(plan, ran)
+        if with_small_pools:
+            check_alike(plan, ran)
     except (Wrong, Unended) as wrong:
-        pathlib.Path(f"fuzz_{seed}.dtx").write_text("".join(f"{command};\n" for command in plan.commands))
+        pathlib.Path(f"fuzz_{seed}.dtx").write_bytes(script_of(plan.commands))
         return f"FAIL {seed}: {wrong}"
     return None
 
 
 def words():
     parser = argparse.ArgumentParser(description=__doc__.splitlines()[0])
+    parser.add_argument("--small-pools", action="store_true")
     parser.add_argument("--count", type=int, default=1000)
     parser.add_argument("--seed", type=int, default=0)
     parser.add_argument("--jobs", type=int, default=os.cpu_count())
@@ -212,7 +230,7 @@ def main(asked):
     failed = 0
     seeds = range(asked.seed, asked.seed + asked.count)
     with multiprocessing.Pool(asked.jobs) as pool:
-        for failure in pool.imap_unordered(partial(try_seed, asked.program), seeds, chunksize=8):
+        for failure in pool.imap_unordered(partial(try_seed, asked.program, asked.small_pools), seeds, chunksize=8):
             if failure:
                 failed += 1
                 print(failure, flush=True)

@@ -9,12 +9,15 @@ KINDS = (
 BYTES = ["00", "01", "02", "ff", "0101", "0001", "01000000", "0100000001", "01ffffffff", "01" * 40, "00" * 40]
 TABLE = "T"  # each node has a table of this name, mostly
 DBA = 63  # a session that changes no rows
+PROBER = 62  # a session that rolls back what it changes
 TRANSACTIONS = 3  # so many client sessions of a node change rows
 KEYS = 4
 
 
 class Writer:
     """Writes one script, by its seed."""
+
+    forced = 0.3  # of so many transactions the branches in doubt are forced
 
     def __init__(self, seed):
         self.random = random.Random(seed)
@@ -60,9 +63,11 @@ class Writer:
             parts.append(f"STRENGTH {self.pick([0, 1, 1, 50, 100, 255])}")
         if self.chance(0.2):
             parts.append(f"LINKS {self.pick([1, 2, 4, 64])}")
-        if self.chance(0.2):
-            parts.append(f"UNDO {self.pick([1, 2, 64])}")
-        return " ".join(parts)
+        return " ".join(parts + self.undo())
+
+    def undo(self):
+        """The undo space of a node, where it is said."""
+        return [f"UNDO {self.pick([1, 2, 64])}"] if self.chance(0.2) else []
 
     def prepared(self):
         """A table at most nodes, links between most, and synonyms for what stands behind a link, synonyms among it."""
@@ -103,9 +108,13 @@ class Writer:
         key = self.random.randint(1, KEYS)
         return self.pick(["", f" WHERE K = {key}", f" WHERE K = {key}", f" WHERE K > {key}", f" WHERE V < {key}"])
 
+    def width(self):
+        """How long a text is."""
+        return self.pick([1, 1, 1, 2000, 2001]) if self.chance(0.1) else 1
+
     def change(self, name):
         table, key = self.table(name), self.key()
-        width = self.pick([1, 1, 1, 2000, 2001]) if self.chance(0.1) else 1
+        width = self.width()
         share = self.random.random()
         if share < 0.5:
             return f"INSERT INTO {table} VALUES ({key}, {self.random.randint(0, 9)}, '{'x' * width}')"
@@ -228,7 +237,7 @@ class Writer:
             yield at + self.change(name)
             if self.is_held:
                 yield "PUMP"
-        forced = self.chance(0.3)
+        forced = self.chance(self.forced)
         yield from self.unheard() if forced else [self.disturbance() for _ in range(self.pick([0, 0, 1, 1, 2]))]
         yield at + self.commit()
         if self.is_held:
@@ -271,3 +280,35 @@ class Writer:
         forms = [self.order] * 3 + [self.network] * 2 + [self.delivery] * 3 + [self.shown]
         forms += [lambda: f"STOP {self.node()}"] + [lambda: f"START {self.node()}"] * 4 + [lambda: f"RECO {self.node()}"] * 2
         return self.pick(forms)()
+
+
+class SmallPools(Writer):
+    """Nodes of little undo space, whose rows are long: what is in doubt, or stopped and started, holds it."""
+
+    forced = 0.6
+
+    def undo(self):
+        return [f"UNDO {self.pick([1, 1, 2, 3])}"]
+
+    def width(self):
+        return self.pick([1, 990, 990, 991, 1500, 2000, 2001])  # four changes with 990 letters fill an extent
+
+    def change(self, name):
+        return f"UPDATE {self.table(name)} SET V = V + 1" if self.chance(0.15) else super().change(name)
+
+    def restarted(self):
+        """Nodes stop and start, or recover, and it is tried whether undo space is left behind that."""
+        for name in self.nodes:
+            yield from self.pick([[], [], [f"STOP {name}", f"START {name}"], [f"START {name}"], [f"RECO {name}"]])
+            self.keys += 1
+            for change in f"INSERT INTO {TABLE} VALUES ({self.keys}, 0, '')", self.change(name):
+                yield f"AT {name} SESSION {PROBER}: {change}"
+            yield f"AT {name} SESSION {PROBER}: ROLLBACK"
+
+    def outcomes(self, root):
+        yield from self.restarted()
+        yield from super().outcomes(root)
+
+    def aftermath(self):
+        yield from self.restarted()
+        yield from super().aftermath()

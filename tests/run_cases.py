@@ -13,9 +13,11 @@ A case is a folder with the files
     expected    the whole standard output, byte for byte
     status      the exit status
 
-or a pair NAME.dtx and NAME.out, with the status 0, as each example is. A scenario of tests/plays is a folder with a script and
-what is expected, and has the status 0 too; it asks for the book where the last line is one of the book. Each failure is one
-line. The last line is `N passed, M failed`; the exit status is 1 where one failed.
+or a pair NAME.dtx and NAME.out, with the status 0, as each example is. A folder with a script, what is expected and an empty
+file `prefixes` is a case for each prefix of the script, which has a command on each line: whole commands are run, and a command
+that is cut makes a bad script. A scenario of tests/plays is a folder with a script and what is expected, and has the status 0
+too; it asks for the book where the last line is one of the book. Each failure is one line. The last line is
+`N passed, M failed`; the exit status is 1 where one failed.
 """
 
 import pathlib
@@ -58,6 +60,19 @@ def book_words(expected):
     return [] if expected.splitlines()[-1][:1].isdigit() else ["--book"]
 
 
+def prefix_cases(folder):
+    """A case for each prefix of a script of one command a line."""
+    script, lines = (folder / "script").read_bytes(), (folder / "expected").read_bytes().splitlines(keepends=True)
+    for length in range(len(script) + 1):
+        prefix, name = script[:length], folder.relative_to(TOP) / f"{length} bytes"
+        if prefix.rpartition(b";")[2].strip():
+            refused = b"line %d: unended command\n" % (prefix.count(b"\n") + 1)
+            yield Case(name, prefix, [], refused, 1)
+        else:
+            printed = [line for line in lines if int(line.split()[0]) <= prefix.count(b";")]
+            yield Case(name, prefix, [], b"".join(printed), 0)
+
+
 def cases():
     """Each case."""
     for status in sorted(TOP.glob("tests/cases/**/status")):
@@ -66,6 +81,8 @@ def cases():
         data = script.read_bytes() if script.exists() else eval(make.read_text(), NAMES)
         expected, number = (folder / "expected").read_bytes(), int(status.read_text())
         yield Case(folder.relative_to(TOP), data, words_of(folder), expected, number)
+    for prefixes in sorted(TOP.glob("tests/cases/**/prefixes")):
+        yield from prefix_cases(prefixes.parent)
     for script in sorted([*TOP.glob("tests/cases/**/*.dtx"), *TOP.glob("examples/*.dtx")]):
         yield Case(script.relative_to(TOP), script.read_bytes(), [], script.with_suffix(".out").read_bytes(), 0)
     for script in sorted(TOP.glob("tests/plays/scenarios/*/*/script")):

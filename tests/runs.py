@@ -28,18 +28,28 @@ class Unended(Exception):
     """The run did not end within its time."""
 
 
+def script_of(commands):
+    """The script of commands, each of which is without its semicolon."""
+    return "".join(f"{command};\n" for command in commands).encode()
+
+
+def texts_in(report):
+    """The texts of a report that stand under the number of each command; those under 0 have none."""
+    texts = defaultdict(list)
+    for line in report.decode(errors="replace").splitlines():
+        number, _, text = line.partition(" ")
+        texts[int(number) if number.isdigit() else 0].append(text)
+    return texts
+
+
 def run(program, commands, seconds=60):
     """Runs the program on commands, each without its semicolon."""
-    script = "".join(f"{command};\n" for command in commands).encode()
+    script = script_of(commands)
     try:
         done = subprocess.run([program], input=script, capture_output=True, timeout=seconds)
     except subprocess.TimeoutExpired:
         raise Unended(f"no end within {seconds} seconds") from None
-    texts = defaultdict(list)
-    for line in done.stdout.decode(errors="replace").splitlines():
-        number, _, text = line.partition(" ")
-        texts[int(number) if number.isdigit() else 0].append(text)
-    return Ran(done.returncode, texts)
+    return Ran(done.returncode, texts_in(done.stdout))
 
 
 def on_one_line(commands):

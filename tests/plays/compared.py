@@ -52,7 +52,7 @@ TOO_LONG = "what the two types compute to is not shown"
 def case_blocks(case):
     """The definitions of a case: its nodes and its script, the lines that are printed, and those that are due."""
     name, run = case.name, f"(played {case.fuel()} {case.name}_places {case.name}_script)"
-    printed = [f"{name}_printed = report (told {run})"]
+    printed = [f"{name}_printed = report (all_lines {run})"]
     if case.book_lines:
         printed[0] += f" ++ book_lines {name}_names {run}.book"
     return [

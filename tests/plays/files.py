@@ -82,7 +82,7 @@ class Plays:
         if member.book_lines:
             return self.play_with_book(member)
         front, own = self.script(member)
-        asked = [f"report (told ({self.played(member)} ({front}", *own]
+        asked = [f"report (all_lines ({self.played(member)} ({front}", *own]
         asked[-1] += ")))"
         return self.answers(member, asked)
 
@@ -90,7 +90,7 @@ class Plays:
         """The lemmas of a scenario whose book is shown behind its answers."""
         script = f"{member.name}_script"
         front, own = self.script(member)
-        asked = [f"report (told ({self.played(member)} {script}))"]
+        asked = [f"report (all_lines ({self.played(member)} {script}))"]
         return [
             f"abbrev {script} : List Command",
             f"{script} = {front}".rstrip(),

@@ -48,7 +48,7 @@ CITED = (
         f"{PROOFS}.Script",
         "place place_within column number_column number_key text_column text_key table link synonym here over"
         " num text repeated literal minus step sum set equal insert rows count commit commit_comment"
-        " node at no_statement crash_keep crash_leave hold let_go pump pump_all played told booked",
+        " node at no_statement crash_keep crash_leave hold let_go pump pump_all played all_lines booked",
     ),
     (f"{PROOFS}.Playing", "playing"),
 )
