@@ -1,0 +1,4 @@
+mod OneMoreLemmas
+mod KeptListLemmas
+mod RowLemmas
+mod SaidLemmas
