@@ -2,3 +2,8 @@ mod OneMoreLemmas
 mod KeptListLemmas
 mod RowLemmas
 mod SaidLemmas
+mod DiskRunLemmas
+mod ShownLemmas
+mod SortLemmas
+mod LiveLemmas
+mod ViewLemmas

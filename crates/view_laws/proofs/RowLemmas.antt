@@ -163,7 +163,7 @@ Fits s _ = Unit {0}
 
 -- ---- the row after a record
 
-same_turned : (c b : BranchId) → same c b ≡ false → same b c ≡ false
+pub same_turned : (c b : BranchId) → same c b ≡ false → same b c ≡ false
 same_turned c b other = by (same b c) refl
   where
     by : (q : Bool) → same b c ≡ q → q ≡ false

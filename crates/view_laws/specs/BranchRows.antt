@@ -119,27 +119,28 @@ pending_first rs None None = []
 abbrev pub pending_recorded : List RedoRecord → BranchId → List Pending
 pending_recorded rs b = if is_shown rs b then pending_first rs (sealed_in rs b) (decided_in rs b) else []
 
--- What is said of a transaction to a live branch: the advice for administrators, and the comment of the COMMIT.
-pub record Remarks : Type 0 where
+-- The columns of a live branch's row that are left open here: its transaction, the advice and the comment.
+pub record OpenColumns : Type 0 where
+  pub root : BranchId
   pub advice : Option Advice
   pub comment : List ℕ
 
 -- the row of a live branch that has asked its children to prepare
-abbrev pub pending_collecting : Remarks → Seen → Pending
-pending_collecting said s = record { me = s.me; root = s.root; state = codes "collecting"; mixed = false; advice = said.advice; comment = said.comment; number = None }
+abbrev pub pending_collecting : OpenColumns → Seen → Pending
+pending_collecting open_ones s = record { me = s.me; root = open_ones.root; state = codes "collecting"; mixed = false; advice = open_ones.advice; comment = open_ones.comment; number = None }
 
 -- whether a branch is live and has asked its children to prepare
 abbrev pub is_collecting : Seen → Bool
 is_collecting s = is_live s && (s.collects && is_some (slice_get s.children 0))
 
 -- the same, of a branch that began, or did not
-abbrev pub pending_seen : Remarks → Option Seen → List Pending
-pending_seen said None = []
-pending_seen said (Some s) = if is_collecting s then pending_collecting said s ∷ [] else []
+abbrev pub pending_seen : OpenColumns → Option Seen → List Pending
+pending_seen open_ones None = []
+pending_seen open_ones (Some s) = if is_collecting s then pending_collecting open_ones s ∷ [] else []
 
 -- the row of a branch at a node, if it has one
-abbrev pub pending_at : Facts → Trail → ℕ → (BranchId → Remarks) → BranchId → List Pending
-pending_at f tr n said b = if b.node == n then pending_seen (said b) (seen_at tr b) ++ pending_recorded (records_at f n) b else []
+abbrev pub pending_at : Facts → Trail → ℕ → (BranchId → OpenColumns) → BranchId → List Pending
+pending_at f tr n open_ones b = if b.node == n then pending_seen (open_ones b) (seen_at tr b) ++ pending_recorded (records_at f n) b else []
 
 -- ---- DBA_2PC_NEIGHBORS
 

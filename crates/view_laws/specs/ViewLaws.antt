@@ -11,11 +11,12 @@ use Rattle.node_rules.specs.NodeState.{NodeState}
 use Rattle.run_rules.specs.Branches.{Trail, is_among}
 use Rattle.run_rules.specs.Data.{Happening}
 use Rattle.run_rules.specs.Data.commands
+use Rattle.run_rules.specs.Data.happenings
 use Rattle.run_rules.specs.Each.{AtEach}
 use Rattle.run_rules.specs.Facts.{Facts, names_in, node_at}
 use Rattle.run_rules.specs.Lawful.{History, IsLawfulRun}
 use Rattle.run_rules.specs.Shown.{shown}
-use Rattle.view_laws.specs.BranchRows.{Remarks, pending_at, neighbors_at}
+use Rattle.view_laws.specs.BranchRows.{OpenColumns, pending_at, neighbors_at}
 
 -- each branch comes before all behind it, in the order of boot, session, seq
 abbrev pub AreAscending : List BranchId → Type 0
@@ -37,11 +38,11 @@ pending_lines names rows = view_lines (codes "LOCAL_TRAN_ID|GLOBAL_TRAN_ID|STATE
 abbrev pub neighbor_lines : List Neighbor → List (List ℕ)
 neighbor_lines rows = view_lines (codes "LOCAL_TRAN_ID|IN_OUT|DATABASE|DBUSER_OWNER|INTERFACE") (map neighbor_text rows)
 
--- SHOW PENDING prints the rows of the branches, with some remarks in those that are collecting.
+-- SHOW PENDING prints the rows of the branches; what stands in the open columns of those that are collecting is not said.
 pub record ShowsPending (places : List Place) (f : Facts) (tr : Trail) (n : ℕ) : Type 0 where
   pub rows : List Pending
-  pub said : BranchId → Remarks
-  pub are : AreRowsOf (pending_at f tr n said) rows
+  pub open_ones : BranchId → OpenColumns
+  pub are : AreRowsOf (pending_at f tr n open_ones) rows
   pub prints : shown places f (commands.ShowPending n) ≡ pending_lines (names_in places) rows
 
 -- SHOW NEIGHBORS prints the rows of their neighbours.
@@ -54,9 +55,14 @@ pub record ShowsNeighbors (places : List Place) (f : Facts) (n : ℕ) : Type 0 w
 abbrev pub ViewsAreRight : List Place → Facts → Trail → Type 0
 ViewsAreRight places f tr = (n : ℕ) (k : NodeState) → node_at f n ≡ Some k → ShowsPending places f tr n × ShowsNeighbors places f n
 
--- and at each moment of a run
+-- where a command begins, so where SHOW PENDING and SHOW NEIGHBORS do
+abbrev pub ViewsWhere : List Place → Facts → Trail → Happening → Type 0
+ViewsWhere places f tr (happenings.Begun c) = ViewsAreRight places f tr
+ViewsWhere places f tr _ = Unit {0}
+
+-- of a whole run
 abbrev pub ViewsOf : History → Type 0
-ViewsOf t = AtEach (λ places f tr h. ViewsAreRight places f tr) t
+ViewsOf t = AtEach ViewsWhere t
 
 -- In every lawful run it is so.
 abbrev pub ViewsAreOfBranches : Type 0
