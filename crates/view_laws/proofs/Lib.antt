@@ -7,3 +7,4 @@ mod ShownLemmas
 mod SortLemmas
 mod LiveLemmas
 mod ViewLemmas
+mod TriedViewLemmas
