@@ -1,0 +1,10 @@
+mod OneMoreLemmas
+mod KeptListLemmas
+mod RowLemmas
+mod SaidLemmas
+mod DiskRunLemmas
+mod ShownLemmas
+mod SortLemmas
+mod LiveLemmas
+mod ViewLemmas
+mod TriedViewLemmas

@@ -1,0 +1,3 @@
+pub mod BranchRows
+pub mod ViewLaws
+pub mod TriedViews

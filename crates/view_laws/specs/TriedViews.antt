@@ -1,0 +1,66 @@
+-- The rows of the views, tried on the run of two nodes. A has asked B to prepare, and then decides. B is prepared; an administrator
+-- forces it to roll back, it meets the commit as mixed, and its row is purged.
+use Rattle.std.specs.Prelude.{◌≡◌, ℕ, true, List, [], ◌∷◌, ◌++◌, map, take, codes, None}
+use Rattle.pending_view.specs.Views.{Pending}
+use Rattle.node_rules.specs.Data.{BranchId}
+use Rattle.node_rules.specs.Data.stmts
+use Rattle.node_rules.specs.Ids.{local_text}
+use Rattle.run_rules.specs.Branches.{Trail, no_trail}
+use Rattle.run_rules.specs.Data.{Turn}
+use Rattle.run_rules.specs.Data.commands
+use Rattle.run_rules.specs.Facts.{Facts, first_facts, facts_of}
+use Rattle.run_rules.specs.Shown.{shown}
+use Rattle.run_rules.specs.Trail.{trail_of}
+use Rattle.run_branch_laws.specs.TriedRun.{names, places, calls, takes, played, coming, a, b}
+use Rattle.view_laws.specs.BranchRows.{OpenColumns, pending_at, neighbors_at}
+use Rattle.view_laws.specs.ViewLaws.{pending_lines, neighbor_lines}
+
+-- the facts when these have come
+abbrev pub facts_when : List (Facts → Turn) → Facts
+facts_when comes = facts_of places [] (first_facts places) (played (first_facts places) comes)
+
+-- and the branch history
+abbrev pub trail_when : List (Facts → Turn) → Trail
+trail_when comes = trail_of places [] (first_facts places) no_trail (played (first_facts places) comes)
+
+-- nothing in the open columns
+abbrev pub blank : BranchId → OpenColumns
+blank g = record { root = g; advice = None; comment = [] }
+
+-- the rows of a branch
+abbrev pub rows_when : List (Facts → Turn) → ℕ → BranchId → List Pending
+rows_when comes n g = pending_at (facts_when comes) (trail_when comes) n blank g
+
+-- and their states
+abbrev pub states_when : List (Facts → Turn) → ℕ → BranchId → List (List ℕ)
+states_when comes n g = map (λ r. r.state) (rows_when comes n g)
+
+-- B was prepared, and A has decided
+abbrev pub prepared : List (Facts → Turn)
+prepared = take 11 coming
+
+-- B was forced to roll back
+abbrev pub forced_back : List (Facts → Turn)
+forced_back = take 12 coming ++ calls 2 (stmts.RollbackForce (local_text b)) ∷ []
+
+-- and met the commit
+abbrev pub met : List (Facts → Turn)
+met = forced_back ++ takes 7 ∷ []
+
+-- and its row was purged
+abbrev pub purged : List (Facts → Turn)
+purged = met ++ calls 2 (stmts.PurgeMixed (local_text b)) ∷ []
+
+-- The states of the rows of A and B, and what the views print of them.
+pub record TheTriedViews : Type 0 where
+  pub working : states_when (take 9 coming) 1 a ≡ []
+  pub collecting : states_when (take 10 coming) 1 a ≡ codes "collecting" ∷ []
+  pub sealed : states_when prepared 2 b ≡ codes "prepared" ∷ []
+  pub decided : states_when (take 12 coming) 1 a ≡ codes "committed" ∷ []
+  pub forced : states_when forced_back 2 b ≡ codes "forced rollback" ∷ []
+  pub mixed : map (λ r. r.mixed) (rows_when met 2 b) ≡ true ∷ []
+  pub hidden : states_when purged 2 b ≡ []
+  pub forgotten : states_when coming 1 a ≡ []
+  pub shows : shown places (facts_when prepared) (commands.ShowPending 2) ≡ pending_lines names (rows_when prepared 2 b)
+  pub neighbors : shown places (facts_when prepared) (commands.ShowNeighbors 2) ≡ neighbor_lines (neighbors_at names (facts_when prepared) 2 b)
+  pub toward : map (λ r. r.to_site) (neighbors_at names (facts_when prepared) 2 b) ≡ true ∷ []
