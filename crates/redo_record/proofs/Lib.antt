@@ -1,3 +1,3 @@
 mod InOrder
 mod Searched
-pub mod OrderKept
+mod OrderKept

@@ -1,4 +1,5 @@
 mod OneMoreLemmas
+mod RowOrderLemmas
 mod KeptListLemmas
 mod RowLemmas
 mod SaidLemmas
