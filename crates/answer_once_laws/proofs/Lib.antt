@@ -1,0 +1,11 @@
+mod SaidLemmas
+mod CallListLemmas
+mod PageLemmas
+mod PageEndLemmas
+mod BetweenLemmas
+mod OwnEndLemmas
+mod PageLessLemmas
+mod OnceStepLemmas
+mod SayLemmas
+mod OnceBeginLemmas
+mod OnceLemmas

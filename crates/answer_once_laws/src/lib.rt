@@ -1,0 +1,13 @@
+//! Each command of a script is answered once: at once, or by `waiting` and later by the end of its call.
+#![tactic(auto)]
+
+ghost use Rattle.answer_once_laws.specs.OnceLaws.{EveryCommandIsAnsweredOnce};
+
+/// In the run of a script each command that was done has one answer of its own in the report: what its call ended with, `ok`, a
+/// refusal, or what it shows. Only a command whose call is pending, with HOLD on, has `waiting` instead; once the call has ended,
+/// in whichever command, there is one answer more, and never two. All other lines with its number are notices: that a point of its
+/// comment was reached, that a node stopped in its course, that messages are left. It is so after each happening, and of all
+/// commands where the script was run to its end.
+pub fn every_command_is_answered_once()
+    ensures { EveryCommandIsAnsweredOnce }
+{}
