@@ -105,7 +105,7 @@ module _ (asked : List Command) (f : Facts) (t : RunReport) where
 
   delivery_ends : (o : Option ℕ) → next_delivery asked f t o ≡ Ends → AllBegun
   delivery_ends None is = give_up_ends t.calls is
-  delivery_ends (Some k) = by (spent t.deliveries)
+  delivery_ends (Some k) is = by (spent t.deliveries) is
     where
       by : (q : Bool) → (if q then next_give_up asked f t.calls else Delivers k false) ≡ Ends → AllBegun
       by true is = give_up_ends t.calls is
@@ -113,7 +113,7 @@ module _ (asked : List Command) (f : Facts) (t : RunReport) where
 
   pumped_ends : (most : ℕ) (o : Option ℕ) → next_pumped asked f t most o ≡ Ends → AllBegun
   pumped_ends most None is = command_ends is
-  pumped_ends most (Some k) = by (nat_lt t.deliveries most)
+  pumped_ends most (Some k) is = by (nat_lt t.deliveries most) is
     where
       by : (q : Bool) → (if q then Delivers k false else next_command asked f) ≡ Ends → AllBegun
       by true is = absurd cc

@@ -1,5 +1,5 @@
 -- The pending calls by their commands: no two are of one session, so one that ends leaves those of all other commands.
-use Rattle.std.proofs.Common.{◌≡◌, ℕ, ◌≤◌, ◌==◌, ◌&&◌, ◌||◌, not, Bool, true, false, if◌then◌else◌, List, [], ◌∷◌, ◌++◌, map, filter, find, Option, Some, None, refl, sym, ap, subst, ◌∙◌, arith}
+use Rattle.std.proofs.Common.{◌≡◌, ℕ, ◌+◌, ◌≤◌, ◌==◌, ◌&&◌, ◌||◌, not, Bool, true, false, if◌then◌else◌, List, [], ◌∷◌, ◌++◌, map, filter, find, Option, Some, None, refl, sym, ap, subst, ◌∙◌, arith}
 use Rattle.std.specs.List.{AllByRecursion, list_any}
 use Rattle.std.proofs.lemmas.Bool.{cond_both, and_from, eqb-true, eq-eqb}
 use Rattle.node_rules.specs.Data.{Stmt}
@@ -29,23 +29,23 @@ module _ {A : Type 0} (P Q : A → Type 0) where
 -- one that is pending is among them
 pub pending_one : (P : Call → Type 0) (d : ℕ) (cs : List Call) → AllByRecursion P cs → pends d cs ≡ true → (c : Call) × P c × (c.command ≡ d)
 pending_one P d [] all is = absurd cc
-pending_one P d (c ∷ cs) all is = by (c.command == d) refl
+pending_one P d (c ∷ cs) all is = by (c.command == d) refl (pending_one P d cs all.1)
   where
-    by : (q : Bool) → (c.command == d) ≡ q → (x : Call) × P x × (x.command ≡ d)
-    by true here = (c, all.0, eqb-true c.command d here)
-    by false other = pending_one P d cs all.1 (sym (ap (λ q. q || pends d cs) other) ∙ is)
+    by : (q : Bool) → (c.command == d) ≡ q → (pends d cs ≡ true → (x : Call) × P x × (x.command ≡ d)) → (x : Call) × P x × (x.command ≡ d)
+    by true here later = (c, all.0, eqb-true c.command d here)
+    by false other later = later (sym (ap (λ q. q || pends d cs) other) ∙ is)
 
 pub found_pends : (p : Call → Bool) (c : Call) (cs : List Call) → find p cs ≡ Some c → pends c.command cs ≡ true
 found_pends p c [] is = absurd cc
-found_pends p c (x ∷ xs) is = by (p x) refl
+found_pends p c (x ∷ xs) is = by (p x) refl (found_pends p c xs)
   where
-    by : (q : Bool) → p x ≡ q → ((x.command == c.command) || pends c.command xs) ≡ true
-    by true here =
+    by : (q : Bool) → p x ≡ q → (find p xs ≡ Some c → pends c.command xs ≡ true) → ((x.command == c.command) || pends c.command xs) ≡ true
+    by true here later =
         let it : Some x ≡ Some c = sym (ap (λ q. if q then Some x else find p xs) here) ∙ is in
         let same : x ≡ c = cc in
         ap (λ q. q || pends c.command xs) (eq-eqb x.command c.command (ap (λ (y : Call). y.command) same))
-    by false other =
-        let rest : pends c.command xs ≡ true = found_pends p c xs (sym (ap (λ q. if q then Some x else find p xs) other) ∙ is) in
+    by false other later =
+        let rest : pends c.command xs ≡ true = later (sym (ap (λ q. if q then Some x else find p xs) other) ∙ is) in
         grind (arith, rest)
 
 at_own : (c : Call) → is_call_at c.node c.session c ≡ true
@@ -112,11 +112,11 @@ module _ (g : Call → Call) where
 
 none_at : (n s : ℕ) (cs : List Call) → find (is_call_at n s) cs ≡ None → AllByRecursion (λ (c : Call). is_call_at n s c ≡ false) cs
 none_at n s [] is = tt
-none_at n s (c ∷ cs) is = by (is_call_at n s c) refl
+none_at n s (c ∷ cs) is = by (is_call_at n s c) refl (none_at n s cs)
   where
-    by : (q : Bool) → is_call_at n s c ≡ q → (is_call_at n s c ≡ false) × AllByRecursion (λ (d : Call). is_call_at n s d ≡ false) cs
-    by true here = let it : find (is_call_at n s) (c ∷ cs) ≡ Some c = ap (λ q. if q then Some c else find (is_call_at n s) cs) here in absurd (cc (it, is))
-    by false other = (other, none_at n s cs (sym (ap (λ q. if q then Some c else find (is_call_at n s) cs) other) ∙ is))
+    by : (q : Bool) → is_call_at n s c ≡ q → (find (is_call_at n s) cs ≡ None → AllByRecursion (λ (d : Call). is_call_at n s d ≡ false) cs) → (is_call_at n s c ≡ false) × AllByRecursion (λ (d : Call). is_call_at n s d ≡ false) cs
+    by true here later = let it : find (is_call_at n s) (c ∷ cs) ≡ Some c = ap (λ q. if q then Some c else find (is_call_at n s) cs) here in absurd (cc (it, is))
+    by false other later = (other, later (sym (ap (λ q. if q then Some c else find (is_call_at n s) cs) other) ∙ is))
 
 last_apart : (cs : List Call) (x c : Call) → AllByRecursion (λ (d : Call). is_call_at c.node c.session d ≡ false) cs → is_call_at c.node c.session x ≡ false → AllByRecursion (λ (d : Call). is_call_at c.node c.session d ≡ false) (cs ++ x ∷ [])
 last_apart [] x c all is = (is, tt)
@@ -176,14 +176,8 @@ module _ (asked : List Command) where
   pub gone_pends : (c : Call) (d : ℕ) (cs : List Call) → AreShaped asked cs → AreApart cs → HasShape asked c → find (is_call_at c.node c.session) cs ≡ Some c
       → pends d (filter (λ x. not (is_call_at c.node c.session x)) cs) ≡ (pends d cs && not (c.command == d))
   gone_pends c d [] shapes apart its is = absurd cc
-  gone_pends c d (x ∷ xs) shapes apart its is = by (is_call_at c.node c.session x) refl
+  gone_pends c d (x ∷ xs) shapes apart its is = by (is_call_at c.node c.session x) refl (gone_pends c d xs shapes.1 apart.1 its)
     where
-      abbrev rest : List Call
-      rest = filter (λ y. not (is_call_at c.node c.session y)) xs
-
-      abbrev Goal : Type 0
-      Goal = pends d (if not (is_call_at c.node c.session x) then x ∷ rest else rest) ≡ (((x.command == d) || pends d xs) && not (c.command == d))
-
       bool_here : (q p : Bool) → (q ≡ true → p ≡ false) → p ≡ ((q || p) && not q)
       bool_here true p none = none refl
       bool_here false true none = refl
@@ -193,21 +187,23 @@ module _ (asked : List Command) where
       bool_later true p q none = ap not (sym (none refl))
       bool_later false p q none = refl
 
-      by : (b : Bool) → is_call_at c.node c.session x ≡ b → Goal
-      by true here =
+      differs : (q : Bool) → (c.command == d) ≡ q → is_call_at c.node c.session x ≡ false → x.command ≡ d → q ≡ false
+      differs false not_so other own = refl
+      differs true is_so other own =
+          let at : is_call_at c.node c.session x ≡ true = one_session c x its shapes.0 (eqb-true c.command d is_so ∙ sym own) in absurd (cc (at, other))
+
+      by : (b : Bool) → is_call_at c.node c.session x ≡ b
+          → (find (is_call_at c.node c.session) xs ≡ Some c → pends d (filter (λ y. not (is_call_at c.node c.session y)) xs) ≡ (pends d xs && not (c.command == d)))
+          → pends d (if not (is_call_at c.node c.session x) then x ∷ filter (λ y. not (is_call_at c.node c.session y)) xs else filter (λ y. not (is_call_at c.node c.session y)) xs) ≡ (((x.command == d) || pends d xs) && not (c.command == d))
+      by true here later =
           let it : Some x ≡ Some c = sym (ap (λ q. if q then Some x else find (is_call_at c.node c.session) xs) here) ∙ is in
           let same : x ≡ c = cc in
           let others : AllByRecursion (λ (y : Call). is_call_at c.node c.session y ≡ false) xs = subst (λ (z : Call). AllByRecursion (λ (y : Call). is_call_at z.node z.session y ≡ false) xs) same apart.0 in
-          let all : rest ≡ xs = filter_all c.node c.session xs others in
-          ap (λ q. pends d (if not q then x ∷ rest else rest)) here ∙ (ap (pends d) all
+          let all : filter (λ y. not (is_call_at c.node c.session y)) xs ≡ xs = filter_all c.node c.session xs others in
+          ap (λ q. pends d (if not q then x ∷ filter (λ y. not (is_call_at c.node c.session y)) xs else filter (λ y. not (is_call_at c.node c.session y)) xs)) here ∙ (ap (pends d) all
           ∙ (bool_here (c.command == d) (pends d xs) (λ own. ap (λ n. pends n xs) (sym (eqb-true c.command d own)) ∙ alone c xs its shapes.1 others)
           ∙ ap (λ (z : Call). ((z.command == d) || pends d xs) && not (c.command == d)) (sym same)))
-      by false other =
-          let later : find (is_call_at c.node c.session) xs ≡ Some c = sym (ap (λ q. if q then Some x else find (is_call_at c.node c.session) xs) other) ∙ is in
-          ap (λ q. pends d (if not q then x ∷ rest else rest)) other ∙ (ap (λ q. (x.command == d) || q) (gone_pends c d xs shapes.1 apart.1 its later)
-          ∙ bool_later (x.command == d) (pends d xs) (c.command == d) (λ own. differs (c.command == d) refl (eqb-true x.command d own)))
-        where
-          differs : (q : Bool) → (c.command == d) ≡ q → x.command ≡ d → q ≡ false
-          differs false no own = refl
-          differs true yes own =
-              let at : is_call_at c.node c.session x ≡ true = one_session c x its shapes.0 (eqb-true c.command d yes ∙ sym own) in absurd (cc (at, other))
+      by false other later =
+          let rest : find (is_call_at c.node c.session) xs ≡ Some c = sym (ap (λ q. if q then Some x else find (is_call_at c.node c.session) xs) other) ∙ is in
+          ap (λ q. pends d (if not q then x ∷ filter (λ y. not (is_call_at c.node c.session y)) xs else filter (λ y. not (is_call_at c.node c.session y)) xs)) other ∙ (ap (λ q. (x.command == d) || q) (later rest)
+          ∙ bool_later (x.command == d) (pends d xs) (c.command == d) (λ own. differs (c.command == d) refl other (eqb-true x.command d own)))

@@ -6,6 +6,10 @@ mod BetweenLemmas
 mod OwnEndLemmas
 mod PageLessLemmas
 mod OnceStepLemmas
+mod OnceTurnLemmas
+mod OnceStopLemmas
 mod SayLemmas
 mod OnceBeginLemmas
 mod OnceLemmas
+mod LaterLemmas
+mod TriedOnceLemmas

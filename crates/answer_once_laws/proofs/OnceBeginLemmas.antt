@@ -52,6 +52,14 @@ module _ (places : List Place) (asked : List Command) (r : ℕ) (f : Facts) (run
       said_all d ∙ ap (λ xs. said_of d t.lines ++ xs) (ap (λ xs. (xs ++ said_of d t.page.others) ++ said_of d (map (line f.command) notices)) (said_others d f.command other t.page.own)
       ∙ (ap (λ xs. said_of d t.page.others ++ xs) (said_others d f.command other notices) ∙ append-nil (said_of d t.page.others)))
 
+  -- in the lines of the command that runs
+  pub said_page : (d : ℕ) → d < r → said_of d (page_lines f t) ≡ said_of d t.page.others
+  said_page d less =
+      let other : (f.command == d) ≡ false = subst (λ n. (n == d) ≡ false) (sym running) (grind (arith, nat_tests, less)) in
+      said_append d (own_lines ++ t.page.others) (map (line f.command) notices) ∙ (ap (λ xs. xs ++ said_of d (map (line f.command) notices)) (said_append d own_lines t.page.others)
+      ∙ (ap (λ xs. (xs ++ said_of d t.page.others) ++ said_of d (map (line f.command) notices)) (said_others d f.command other t.page.own)
+      ∙ (ap (λ xs. said_of d t.page.others ++ xs) (said_others d f.command other notices) ∙ append-nil (said_of d t.page.others))))
+
   -- of the command that runs
   pub said_running : said_of r (all_lines f t) ≡ t.page.own ++ notices
   said_running =
@@ -64,7 +72,7 @@ module _ (places : List Place) (asked : List Command) (r : ℕ) (f : Facts) (run
   -- an earlier command was answered once
   pub earlier_once : (command : Command) {b : Bool} {xs ys : List Said} → EarlierIs places asked r command b xs ys → AnswersOnce places command b (xs ++ ys)
   earlier_once command (Still_waits beside told) = subst (λ xs. AnswersOnce places command true (waiting ∷ xs)) (sym (append-nil beside)) (Waits beside told)
-  earlier_once command (Ended_here beside a after told ends then) = Ends_later beside a after told ends then
+  earlier_once command (Ended_here beside a after told ends last) = Ends_later beside a after told ends last
   earlier_once command (Was_answered xs once) = subst (AnswersOnce places command false) (sym (append-nil xs)) once
 
   all_below : (n : ℕ) → r + 1 ≤ n → AreBelow n (all_lines f t)
@@ -88,11 +96,19 @@ module _ (t : History) (p : Past) (now : OnceSo t p) (between : IsBetweenCommand
   settled = between_so t.commands p between
 
   -- no call of the command that runs is silent
+  abbrev ItsCall : Type 0
+  ItsCall = (x : Call) × (HasShape t.commands x × (call_at told x.node x.session ≡ Some x)) × (x.command ≡ f.command)
+
+  its_call : pends f.command told.calls ≡ true → ItsCall
+  its_call pending =
+      pending_one (λ (x : Call). HasShape t.commands x × (call_at told x.node x.session ≡ Some x)) f.command told.calls
+      (all_both (HasShape t.commands) (λ (x : Call). call_at told x.node x.session ≡ Some x) told.calls now.pages.shapes (apart_found told.calls now.pages.apart)) pending
+
   not_silent : pends f.command told.calls ≡ true → told.page.own ≡ [] → ⊥
   not_silent pending empty = by (now.silent pending empty)
     where
-      abbrev c : (x : Call) × (HasShape t.commands x × (call_at told x.node x.session ≡ Some x)) × (x.command ≡ f.command)
-      c = pending_one (λ (x : Call). HasShape t.commands x × (call_at told x.node x.session ≡ Some x)) f.command told.calls (all_both (HasShape t.commands) (λ (x : Call). call_at told x.node x.session ≡ Some x) told.calls now.pages.shapes (apart_found told.calls now.pages.apart)) pending
+      c : ItsCall
+      c = its_call pending
 
       act_is : act_of f told (command_at t.commands f.command) ≡ Some (Pends c.0)
       act_is =
@@ -123,7 +139,7 @@ module _ (t : History) (p : Past) (now : OnceSo t p) (between : IsBetweenCommand
       let s = now.starts one none empty in
       let act_is : act_of f told (command_at t.commands f.command) ≡ Some (Starts s.node) = ap (act_of f told) s.starts ∙ ap (λ q. if_due (not q) (Starts s.node)) s.off in
       elim (settled.act s.fresh) [
-        | inl no ↦ cc (no, act_is)
+        | inl none_due ↦ cc (none_due, act_is)
         | inr some ↦ (let it : Some some.0 ≡ Some (Starts s.node) = sym some.1 ∙ act_is in let same : some.0 ≡ Starts s.node = cc in subst IsBetweenCommands same some.2)
       ]
 
@@ -168,12 +184,12 @@ module _ (t : History) (p : Past) (now : OnceSo t p) (between : IsBetweenCommand
   calls_before : CallsSo told.calls
   calls_before = (now.pages.apart, all_weaker (λ (x : Call). x.command ≤ f.command) (λ (x : Call). x.command ≤ c) (λ x low. omega (arith, low, next)) told.calls now.pages.past, (λ d other. refl))
 
+  abbrev new_call : ℕ → ℕ → Option Stmt → Call
+  new_call node session text = call_of c node session text (has_transaction (node_at f node) session)
+
   calls_so : (x : Command) → CallsSo (calls_after f told c x)
   calls_so (commands.At node session text) = by (is_up f node && not (has_call told node session)) refl
     where
-      abbrev new : Call
-      new = call_of c node session text (has_transaction (node_at f node) session)
-
       made : (o : Option Stmt) (has : Bool) → let x : Call = call_of c node session o has in (x.command ≡ c) × (x.node ≡ node) × (x.session ≡ session)
       made None has = (refl, refl, refl)
       made (Some s) has = cond_both (commits_first s && has) _ _ (λ (d : Call). (d.command ≡ c) × (d.node ≡ node) × (d.session ≡ session)) (λ first. (refl, refl, refl)) (λ alone. (refl, refl, refl))
@@ -182,16 +198,16 @@ module _ (t : History) (p : Past) (now : OnceSo t p) (between : IsBetweenCommand
       free None is = refl
       free (Some x) is = absurd cc
 
-      by : (q : Bool) → (is_up f node && not (has_call told node session)) ≡ q → CallsSo (if is_up f node && not (has_call told node session) then told.calls ++ new ∷ [] else told.calls)
-      by false is = subst (λ q. CallsSo (if q then told.calls ++ new ∷ [] else told.calls)) (sym is) calls_before
+      by : (q : Bool) → (is_up f node && not (has_call told node session)) ≡ q → CallsSo (if is_up f node && not (has_call told node session) then told.calls ++ new_call node session text ∷ [] else told.calls)
+      by false is = subst (λ q. CallsSo (if q then told.calls ++ new_call node session text ∷ [] else told.calls)) (sym is) calls_before
       by true is =
           let its = made text (has_transaction (node_at f node) session) in
           let none : call_at told node session ≡ None = free (call_at told node session) (not_true (has_call told node session) (and_parts (is_up f node) (not (has_call told node session)) is).1) in
-          let alone : find (is_call_at new.node new.session) told.calls ≡ None = subst (λ n. find (is_call_at n new.session) told.calls ≡ None) (sym its.1) (subst (λ s. find (is_call_at node s) told.calls ≡ None) (sym its.2) none) in
-          subst (λ q. CallsSo (if q then told.calls ++ new ∷ [] else told.calls)) (sym is) (
-            more_apart told.calls new alone now.pages.apart,
-            all_append (λ (x : Call). x.command ≤ c) told.calls (new ∷ []) calls_before.1 (omega (arith, its.0), tt),
-            λ d other. more_pends d told.calls new ∙ (ap (λ q. pends d told.calls || q) (other_number new.command d (subst (λ n. (d == n) ≡ false) (sym its.0) other)) ∙ or_false (pends d told.calls)),
+          let alone : find (is_call_at (new_call node session text).node (new_call node session text).session) told.calls ≡ None = subst (λ n. find (is_call_at n (new_call node session text).session) told.calls ≡ None) (sym its.1) (subst (λ s. find (is_call_at node s) told.calls ≡ None) (sym its.2) none) in
+          subst (λ q. CallsSo (if q then told.calls ++ new_call node session text ∷ [] else told.calls)) (sym is) (
+            more_apart told.calls (new_call node session text) alone now.pages.apart,
+            all_append (λ (x : Call). x.command ≤ c) told.calls (new_call node session text ∷ []) calls_before.1 (omega (arith, its.0), tt),
+            λ d other. more_pends d told.calls (new_call node session text) ∙ (ap (λ q. pends d told.calls || q) (other_number (new_call node session text).command d (subst (λ n. (d == n) ≡ false) (sym its.0) other)) ∙ or_false (pends d told.calls)),
           )
         where
           not_true : (b : Bool) → not b ≡ true → b ≡ false
@@ -205,6 +221,9 @@ module _ (t : History) (p : Past) (now : OnceSo t p) (between : IsBetweenCommand
           or_false true = refl
           or_false false = refl
   calls_so _ = calls_before
+
+  pub calls_kept : (d : ℕ) → (d == c) ≡ false → pends d cs ≡ pends d told.calls
+  calls_kept d other = (calls_so command).2 d other
 
   abbrev begun : RunReport
   begun = begins t.places f told c command

@@ -5,7 +5,7 @@ use Rattle.std.proofs.lemmas.Bool.Decides.{nat_tests}
 use Rattle.run_rules.specs.Data.{Happening}
 use Rattle.run_rules.specs.Data.happenings
 use Rattle.run_rules.specs.Due.{Due, Begins, Ends, due_of, happens, comes_next}
-use Rattle.run_rules.specs.Facts.{Facts, facts_after}
+use Rattle.run_rules.specs.Facts.{Facts, command_at, facts_after}
 use Rattle.run_rules.specs.Lawful.{History}
 use Rattle.run_rules.specs.Lines.{all_lines}
 use Rattle.run_rules.specs.Past.{report_after, next, past}
@@ -13,31 +13,34 @@ use Rattle.run_rules.specs.Reported.{IsBetweenCommands, past_of}
 use Rattle.run_rules.specs.RunReport.{Past, start}
 use Rattle.run_rules.specs.Scripts.{IsTheRunOf}
 use Rattle.run_claims.specs.Places.{past_upto, reported_of}
+use Rattle.answer_origin_laws.proofs.CallAtLemmas.{AreShaped}
 use Rattle.answer_origin_laws.proofs.CallTurnLemmas.{all_so}
 use Rattle.answer_origin_laws.proofs.ComeLemmas.{due_there}
 use Rattle.answer_origin_laws.proofs.UptoLemmas.{due_at, next_is, none_more, one_more}
 use Rattle.commit_course_laws.proofs.DueLemmas.{begins_is}
-use Rattle.answer_once_laws.specs.OnceLaws.{AnswersOnce, said_of, WasDone, EachIsAnsweredOnce, AllAreAnsweredOnce, EveryCommandIsAnsweredOnce}
+use Rattle.answer_once_laws.specs.OnceLaws.{AnswersOnce, said_of, WasDone, EachIsAnsweredOnce, AllAreAnsweredOnce}
 use Rattle.answer_once_laws.proofs.BetweenLemmas.{ends_over}
 use Rattle.answer_once_laws.proofs.CallListLemmas.{pends}
 use Rattle.answer_once_laws.proofs.OnceBeginLemmas.{begun_so, each_once, said_earlier, earlier_once}
-use Rattle.answer_once_laws.proofs.OnceStepLemmas.{OnceSo, turn_so, started_so, stopped_so, rest_so}
+use Rattle.answer_once_laws.proofs.OnceStepLemmas.{OnceSo, started_so, rest_so}
+use Rattle.answer_once_laws.proofs.OnceStopLemmas.{stopped_so}
+use Rattle.answer_once_laws.proofs.OnceTurnLemmas.{turn_so}
 use Rattle.answer_once_laws.proofs.PageLemmas.{PagesOf}
 
 module _ (t : History) (run : IsTheRunOf t) where
   -- ---- each moment
 
   module _ (i : ℕ) (now : OnceSo t (past_upto t i)) where
-    abbrev f : Facts
+    abbrev pub f : Facts
     f = (past_upto t i).facts
 
-    begins_so : (c : ℕ) → slice_get t.trace i ≡ Some (happenings.Begun c) → IsBetweenCommands (due_of t.commands (past_upto t i))
+    pub begins_so : (c : ℕ) → slice_get t.trace i ≡ Some (happenings.Begun c) → IsBetweenCommands (due_of t.commands (past_upto t i))
     begins_so c there = subst IsBetweenCommands (sym (begins_is t.places t.commands (past_upto t i) (due_of t.commands (past_upto t i)) c (due_at t run i (happenings.Begun c) there))) tt
 
-    abbrev After : Happening → Past
+    abbrev pub After : Happening → Past
     After h = record { facts = facts_after t.places t.commands f h; run_report = report_after t.places t.commands f (past_upto t i).run_report h }
 
-    after_is : (h : Happening) → slice_get t.trace i ≡ Some h → past_upto t (i + 1) ≡ After h
+    pub after_is : (h : Happening) → slice_get t.trace i ≡ Some h → past_upto t (i + 1) ≡ After h
     after_is h there = one_more t i h there ∙ next_is t.places t.commands (past_upto t i) h
 
     happens_so : (h : Happening) → slice_get t.trace i ≡ Some h → OnceSo t (After h)
@@ -47,7 +50,7 @@ module _ (t : History) (run : IsTheRunOf t) where
     happens_so (happenings.Stopped n) there = stopped_so t run i now n there
     happens_so (happenings.Begun c) there =
         begun_so t (past_upto t i) now (begins_so c there) c (due_there t run i (all_so t run i) (happenings.Begun c) there).2
-        (ap_shapes (after_is (happenings.Begun c) there)) (facts_after t.places t.commands f (happenings.Begun c)) refl (λ n. refl)
+        (subst (λ (q : Past). AreShaped t.commands q.run_report.calls) (after_is (happenings.Begun c) there) (all_so t run (i + 1)).shapes) (facts_after t.places t.commands f (happenings.Begun c)) refl (λ n. refl)
     happens_so (happenings.Cut a b) there = rest_so t run i now (happenings.Cut a b) there tt (due_there t run i (all_so t run i) (happenings.Cut a b) there).0 (facts_after t.places t.commands f (happenings.Cut a b)) refl refl
     happens_so (happenings.Join a b) there = rest_so t run i now (happenings.Join a b) there tt (due_there t run i (all_so t run i) (happenings.Join a b) there).0 (facts_after t.places t.commands f (happenings.Join a b)) refl refl
     happens_so (happenings.Lost k) there = rest_so t run i now (happenings.Lost k) there tt (due_there t run i (all_so t run i) (happenings.Lost k) there) (facts_after t.places t.commands f (happenings.Lost k)) refl refl
@@ -106,7 +109,4 @@ module _ (t : History) (run : IsTheRunOf t) where
       let all : length t.commands ≤ p.facts.command = ends_over t.commands p its_end in
       let between : IsBetweenCommands (due_of t.commands p) = subst IsBetweenCommands (sym its_end) tt in
       let once = each_once t p (once_at i) between (omega (arith, one, low, all)) c one (omega (arith, low, all)) in
-      (pends c p.run_report.calls, subst (λ (q : Past). AnswersOnce t.places _ (pends c p.run_report.calls) (said_of c (all_lines q.facts q.run_report))) whole_is once)
-
-pub every_command_is_answered_once : EveryCommandIsAnsweredOnce
-every_command_is_answered_once t run = (each_is_answered_once t run, all_are_answered_once t run)
+      (pends c p.run_report.calls, subst (λ (q : Past). AnswersOnce t.places (command_at t.commands c) (pends c p.run_report.calls) (said_of c (all_lines q.facts q.run_report))) whole_is once)

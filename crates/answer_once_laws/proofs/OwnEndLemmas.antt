@@ -12,10 +12,12 @@ use Rattle.node_rules.specs.Data.inputs
 use Rattle.node_rules.specs.declared.session.Finished.{Finished}
 use Rattle.node_rules.specs.declared.session.Session.{Session}
 use Rattle.node_rules.specs.Calls.{answer_ends}
+use Rattle.node_rules.specs.Commit.{next_turn}
 use Rattle.node_rules.specs.Inputs.{Came, Brings, Commit_came, Rollback_came, Rolled_back_came}
-use Rattle.node_rules.specs.NodeState.{NodeState, TurnDraft}
+use Rattle.node_rules.specs.NodeState.{Branch, NodeState, TurnDraft, TurnOutput}
 use Rattle.node_rules.specs.Prepare.{abandon_ends, is_alone, act_turn}
 use Rattle.node_rules.specs.Sessions.{commit_is_pending, commit_answer}
+use Rattle.node_rules.specs.Statement.{ran, after_run}
 use Rattle.node_rules.specs.Turn.{turn_of, heard, draft_of}
 use Rattle.node_rules.proofs.Steps as steps
 use Rattle.node_rules.proofs.Steps.{Step, Asked, Acting, Collects, Answers, Doing}
@@ -29,7 +31,6 @@ use Rattle.run_rules.specs.Data.pending
 use Rattle.run_rules.specs.Each.{facts_upto}
 use Rattle.run_rules.specs.Facts.{node_at, place_at, served, outcome_at}
 use Rattle.run_rules.specs.Lawful.{History, IsLawfulRun}
-use Rattle.node_rules.specs.NodeState.{TurnOutput}
 use Rattle.tree_laws.proofs.AtTurn.{at_turn}
 use Rattle.tree_laws.proofs.PrefixLemmas.{f_at}
 use Rattle.tree_laws.proofs.TimeLemmas.{may_of}
@@ -79,7 +80,7 @@ module _ {input : Input} {n : ℕ} {st : Option Stmt} (call : input ≡ inputs.C
   same_session m s other = let both : inputs.Call m s ≡ inputs.Call n st = sym other ∙ call in cc
 
   -- the branch that the call is about is the session's
-  asked_session : {k : NodeState} {x : steps.Branch} {s : Stmt} {given : ℕ} → SessionsFit k → Asked k input x s given → x.live.me.session ≡ n
+  asked_session : {k : NodeState} {x : Branch} {s : Stmt} {given : ℕ} → SessionsFit k → Asked k input x s given → x.live.me.session ≡ n
   asked_session fit (steps.By_call m x s its rows has code live) = fit.roots.each m x.live.me has ∙ same_session m (Some s) its
   asked_session fit (steps.By_exec x from number given advice s came live runs) = absurd (no_message call came)
 
@@ -102,23 +103,23 @@ module _ {input : Input} {n : ℕ} {st : Option Stmt} (call : input ≡ inputs.C
 
   doing_rests : {clock : ℕ} {s : KeptRow} {from : BranchId} {next : Next} → Doing clock input s from next → next ≡ nexts.Rest
   doing_rests steps.Stays = refl
-  doing_rests (steps.Ends_so d brings toward open sealed met) = absurd (brings_none brings)
-  doing_rests (steps.Meets_so d brings toward open sealed committed met) = absurd (brings_none brings)
+  doing_rests (steps.Ends_so d brings toward unknown sealed met) = absurd (brings_none brings)
+  doing_rests (steps.Meets_so d brings toward unknown sealed committed met) = absurd (brings_none brings)
   doing_rests (steps.Acks_again i m came toward knows all) = absurd (no_message call came)
   doing_rests (steps.Acks_on came knows forgot all toward) = absurd (no_message call came)
   doing_rests (steps.Forgets_first came knows forgot all toward) = absurd (no_message call came)
   doing_rests (steps.Forgets_after came knows toward forgot) = absurd (no_message call came)
   doing_rests (steps.Has_forgotten came knows forgot) = absurd (no_message call came)
 
-  next_own : (k : NodeState) (s : KeptRow) (from : BranchId) (next : Next) → next ≡ nexts.Rest → CompletesOwn n (steps.next_turn k s from next).ended
-  next_own k s from next is = subst (λ x. CompletesOwn n (steps.next_turn k s from x).ended) (sym is) tt
+  next_own : (k : NodeState) (s : KeptRow) (from : BranchId) (next : Next) → next ≡ nexts.Rest → CompletesOwn n (next_turn k s from next).ended
+  next_own k s from next is = subst (λ x. CompletesOwn n (next_turn k s from x).ended) (sym is) tt
 
 own_on : (p : Place) (input : Input) (n : ℕ) (st : Option Stmt) → input ≡ inputs.Call n st → {k : NodeState} {d : TurnDraft} → Step p input k d → SessionsFit k → CompletesOwn n d.ended
 own_on p input n st call (steps.Begins {k = k} m s its rows range none step) fit = own_on p input n st call step (begun_so k fit p m)
 own_on p input n st call (steps.Pends {k = k} m l given its has live code step) fit = own_on p input n st call step (pends_so k fit m pending.Commit)
 own_on p input n st call (steps.Lets_reads_go l comment site_below live begins step) fit = own_on p input n st call step (record { roots = fit.roots; above = fit.above })
 own_on p input n st call (steps.Counts_ack s from kept came counts step) fit = own_on p input n st call step (record { roots = fit.roots; above = fit.above })
-own_on p input n st call (steps.Runs {k = k} x s given t asked way) fit = answer_own k.sessions n _ _ x.live.parent (asked_session call fit asked)
+own_on p input n st call (steps.Runs {k = k} x s given t asked way) fit = answer_own k.sessions n (after_run x.live (ran p k x.live.me s t)) _ x.live.parent (asked_session call fit asked)
 own_on p input n st call (steps.Goes_nowhere {k = k} x s given r asked way) fit = answer_own k.sessions n x.live _ x.live.parent (asked_session call fit asked)
 own_on p input n st call (steps.Hears_reply {k = k} x weight count a i e answered) fit = absurd (no_message call answered.came)
 own_on p input n st call (steps.Acts {k = k} l site_below a why) fit = act_own k l site_below a n (acting_session call fit why)

@@ -139,7 +139,7 @@ module _ (places : List Place) (asked : List Command) (r : ℕ) where
   -- ---- a START
 
   -- it has no call
-  start_calls_nothing : (t : RunReport) → So t → IsStart (command_at asked r) → pends r t.calls ≡ false
+  pub start_calls_nothing : (t : RunReport) → So t → IsStart (command_at asked r) → pends r t.calls ≡ false
   start_calls_nothing t is starts = by (pends r t.calls) refl
     where
       no_call : (c : Call) → HasShape asked c → c.command ≡ r → ⊥

@@ -40,13 +40,13 @@ two_put : (command : ℕ) (s v : Said) (xs : List AnswerLine) → AreSorted xs �
 two_put command s v xs sorted =
     let ys : List AnswerLine = put_line xs (line command s) in
     let first : Puts command (s ∷ []) xs ys = one_put command s xs sorted in
-    let then : Puts command (v ∷ []) ys (put_line ys (line command v)) = one_put command v ys first.sorted in
+    let second : Puts command (v ∷ []) ys (put_line ys (line command v)) = one_put command v ys first.sorted in
     record {
-      said = λ d. then.said d ∙ (ap (λ zs. zs ++ said_of d (line command v ∷ [])) (first.said d)
+      said = λ d. second.said d ∙ (ap (λ zs. zs ++ said_of d (line command v ∷ [])) (first.said d)
           ∙ (append_assoc (said_of d xs) (said_of d (line command s ∷ [])) (said_of d (line command v ∷ []))
           ∙ ap (λ zs. said_of d xs ++ zs) (sym (said_append d (line command s ∷ []) (line command v ∷ [])))));
-      below = λ r all low. then.below r (first.below r all low) low;
-      sorted = then.sorted;
+      below = λ r all low. second.below r (first.below r all low) low;
+      sorted = second.sorted;
     }
 
 -- ---- what the answer of a call tells
@@ -127,14 +127,14 @@ module _ (places : List Place) (asked : List Command) (r : ℕ) where
 
   -- ---- a call that ends
 
-  ends_own : {own : List Said} (b : Bool) (a : Said) (after : List Said) → b ≡ true → OwnIs b own → EndsCall places a → AreNotices places after → AnswersOnce places (command_at asked r) false (own ++ a ∷ after)
-  ends_own false a after is so ends beside = absurd cc
-  ends_own true a after is (inl none) ends beside = subst (λ xs. AnswersOnce places (command_at asked r) false (xs ++ a ∷ after)) (sym none) (At_once a after (Ends_call a ends) beside)
-  ends_own true a after is (inr waits) ends beside = subst (λ xs. AnswersOnce places (command_at asked r) false (xs ++ a ∷ after)) (sym waits) (Ends_later [] a after tt ends beside)
+  ends_own : (own : List Said) (b : Bool) (a : Said) (after : List Said) → b ≡ true → OwnIs b own → EndsCall places a → AreNotices places after → AnswersOnce places (command_at asked r) false (own ++ a ∷ after)
+  ends_own own false a after is so ends beside = absurd cc
+  ends_own own true a after is (inl none) ends beside = subst (λ xs. AnswersOnce places (command_at asked r) false (xs ++ a ∷ after)) (sym none) (At_once a after (Ends_call a ends) beside)
+  ends_own own true a after is (inr waits) ends beside = subst (λ xs. AnswersOnce places (command_at asked r) false (xs ++ a ∷ after)) (sym waits) (Ends_later [] a after tt ends beside)
 
-  ends_earlier : (command : Command) (b : Bool) {xs ys : List Said} (a : Said) (after : List Said) → b ≡ true → EarlierIs command b xs ys → EndsCall places a → AreNotices places after → EarlierIs command false xs (ys ++ a ∷ after)
-  ends_earlier command true a after is (Still_waits beside notices) ends told = Ended_here beside a after notices ends told
-  ends_earlier command false a after is so ends told = absurd cc
+  ends_earlier : (command : Command) (b : Bool) (xs ys : List Said) (a : Said) (after : List Said) → b ≡ true → EarlierIs command b xs ys → EndsCall places a → AreNotices places after → EarlierIs command false xs (ys ++ a ∷ after)
+  ends_earlier command true xs ys a after is (Still_waits beside notices) ends told = Ended_here beside a after notices ends told
+  ends_earlier command false xs ys a after is so ends told = absurd cc
 
   module _ (t : RunReport) (is : PagesSo t) (c : Call) (at : call_at t c.node c.session ≡ Some c) (s : Said) (ends : EndsCall places s) where
     abbrev pub w : RunReport
@@ -211,7 +211,7 @@ module _ (places : List Place) (asked : List Command) (r : ℕ) where
               (subst (λ ls. EarlierIs (command_at asked d) (pends d t.calls) (said_of d t.lines) (said_of d ls)) (sym page.1) (is.each d one less)));
           own = λ one.
               subst (λ q. OwnIs q u.page.own) (sym (pends_own r (eq-eqb c.command r (sym same))))
-              (inr (subst (AnswersOnce places (command_at asked r) false) (sym page.0) (ends_own (pends r t.calls) s (beside_of point) (subst (λ n. pends n t.calls ≡ true) (sym same) was_pending) (is.own one) ends (beside_notices places point))));
+              (inr (subst (AnswersOnce places (command_at asked r) false) (sym page.0) (ends_own t.page.own (pends r t.calls) s (beside_of point) (subst (λ n. pends n t.calls ≡ true) (sym same) was_pending) (is.own one) ends (beside_notices places point))));
         }
 
     -- of an earlier one
@@ -244,7 +244,7 @@ module _ (places : List Place) (asked : List Command) (r : ℕ) where
             let page : said_of d u.page.others ≡ said_of d t.page.others ++ says = puts.said d ∙ ap (λ zs. said_of d t.page.others ++ zs) (subst (λ n. said_of d (map (line n) says) ≡ says) (sym same) (said_lines d says)) in
             subst (λ q. EarlierIs (command_at asked d) q (said_of d t.lines) (said_of d u.page.others)) (sym (pends_own d own))
             (subst (EarlierIs (command_at asked d) false (said_of d t.lines)) (sym page)
-            (ends_earlier (command_at asked d) (pends d t.calls) s (beside_of point) (subst (λ n. pends n t.calls ≡ true) same was_pending) (is.each d one under) ends (beside_notices places point)))
+            (ends_earlier (command_at asked d) (pends d t.calls) (said_of d t.lines) (said_of d t.page.others) s (beside_of point) (subst (λ n. pends n t.calls ≡ true) same was_pending) (is.each d one under) ends (beside_notices places point)))
         each puts d one under false other =
             let page : said_of d u.page.others ≡ said_of d t.page.others = puts.said d ∙ (ap (λ zs. said_of d t.page.others ++ zs) (said_others d c.command other says) ∙ append-nil (said_of d t.page.others)) in
             subst (λ q. EarlierIs (command_at asked d) q (said_of d t.lines) (said_of d u.page.others)) (sym (pends_other d other)) (subst (EarlierIs (command_at asked d) (pends d t.calls) (said_of d t.lines)) (sym page) (is.each d one under))

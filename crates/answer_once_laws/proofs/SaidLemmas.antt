@@ -1,10 +1,10 @@
 -- The lines of one command among others, and what they say.
-use Rattle.std.proofs.Common.{◌≡◌, ◌≢◌, ℕ, ◌+◌, ◌<◌, ◌≤◌, ◌==◌, Bool, true, false, if◌then◌else◌, List, [], ◌∷◌, ◌++◌, map, filter, refl, sym, ap, subst, ◌∙◌, arith, map-append, append-nil}
+use Rattle.std.proofs.Common.{◌≡◌, ◌≢◌, ℕ, ◌+◌, ◌<◌, ◌≤◌, ◌==◌, Bool, true, false, if◌then◌else◌, List, [], ◌∷◌, ◌++◌, map, filter, refl, sym, ap, subst, ◌∙◌, arith, append-nil}
 use Rattle.std.specs.Prelude.{nat_lt}
 use Rattle.std.specs.List.{AllByRecursion}
 use Rattle.std.proofs.lemmas.Bool.{cond_both, eqb-true, eq-eqb}
 use Rattle.std.proofs.lemmas.Bool.Decides.{nat_tests}
-use Rattle.std.proofs.lemmas.List.{append_assoc}
+use Rattle.std.proofs.lemmas.List.{append_assoc, map-append}
 use Rattle.std.proofs.lemmas.List.Elements.{filter-append}
 use Rattle.node_rules.specs.Data.{Place}
 use Rattle.run_rules.specs.Data.{AnswerLine, Command, Said}
@@ -75,27 +75,28 @@ module _ (l : AnswerLine) where
   -- a line is put behind those of its command
   pub said_put : (d : ℕ) (xs : List AnswerLine) → AreSorted xs → said_of d (put_line xs l) ≡ said_of d xs ++ said_of d (l ∷ [])
   said_put d [] all = refl
-  said_put d (x ∷ xs) all = by (l.command == d) (nat_lt l.command x.command) refl refl
+  said_put d (x ∷ xs) all = by (l.command == d) (nat_lt l.command x.command) refl refl (said_put d xs all.1)
     where
       above : (n : ℕ) → d < n → (ys : List AnswerLine) → AllByRecursion (λ (y : AnswerLine). n ≤ y.command) ys → said_of d ys ≡ []
       above n high [] all = refl
       above n high (y ∷ ys) all = said_other d y ys (let it : n ≤ y.command = all.0 in grind (arith, nat_tests, it, high)) ∙ above n high ys all.1
 
-      by : (q w : Bool) → (l.command == d) ≡ q → nat_lt l.command x.command ≡ w → said_of d (if nat_lt l.command x.command then l ∷ x ∷ xs else x ∷ put_line xs l) ≡ said_of d (x ∷ xs) ++ said_of d (l ∷ [])
-      by true true own first =
+      so : (b : Bool) → (x.command == d) ≡ b → said_of d (put_line xs l) ≡ said_of d xs ++ said_of d (l ∷ []) → said_of d (x ∷ put_line xs l) ≡ said_of d (x ∷ xs) ++ said_of d (l ∷ [])
+      so true is rest = said_own d x (put_line xs l) is ∙ (ap (λ ys. x.said ∷ ys) rest ∙ ap (λ ys. ys ++ said_of d (l ∷ [])) (sym (said_own d x xs is)))
+      so false is rest = said_other d x (put_line xs l) is ∙ (rest ∙ ap (λ ys. ys ++ said_of d (l ∷ [])) (sym (said_other d x xs is)))
+
+      by : (q w : Bool) → (l.command == d) ≡ q → nat_lt l.command x.command ≡ w → said_of d (put_line xs l) ≡ said_of d xs ++ said_of d (l ∷ [])
+          → said_of d (if nat_lt l.command x.command then l ∷ x ∷ xs else x ∷ put_line xs l) ≡ said_of d (x ∷ xs) ++ said_of d (l ∷ [])
+      by true true own first rest =
           let here : l.command ≡ d = eqb-true l.command d own in
           let high : d < x.command = (let it : l.command < x.command = grind (arith, nat_tests, first) in subst (λ i. i < x.command) here it) in
           let other : (x.command == d) ≡ false = grind (arith, nat_tests, high) in
           let none : said_of d (x ∷ xs) ≡ [] = said_other d x xs other ∙ above x.command high xs all.0 in
           ap (λ q. said_of d (if q then l ∷ x ∷ xs else x ∷ put_line xs l)) first ∙ (said_own d l (x ∷ xs) own ∙ (ap (λ ys. l.said ∷ ys) none ∙ (sym (said_own d l [] own) ∙ ap (λ ys. ys ++ said_of d (l ∷ [])) (sym none))))
-      by false true other first =
+      by false true other first rest =
           ap (λ q. said_of d (if q then l ∷ x ∷ xs else x ∷ put_line xs l)) first ∙ (said_other d l (x ∷ xs) other
           ∙ (sym (append-nil (said_of d (x ∷ xs))) ∙ ap (λ ys. said_of d (x ∷ xs) ++ ys) (sym (said_other d l [] other))))
-      by q false any later = ap (λ q. said_of d (if q then l ∷ x ∷ xs else x ∷ put_line xs l)) later ∙ so (x.command == d) refl
-        where
-          so : (b : Bool) → (x.command == d) ≡ b → said_of d (x ∷ put_line xs l) ≡ said_of d (x ∷ xs) ++ said_of d (l ∷ [])
-          so true is = said_own d x (put_line xs l) is ∙ (ap (λ ys. x.said ∷ ys) (said_put d xs all.1) ∙ ap (λ ys. ys ++ said_of d (l ∷ [])) (sym (said_own d x xs is)))
-          so false is = said_other d x (put_line xs l) is ∙ (said_put d xs all.1 ∙ ap (λ ys. ys ++ said_of d (l ∷ [])) (sym (said_other d x xs is)))
+      by q false any later rest = ap (λ q. said_of d (if q then l ∷ x ∷ xs else x ∷ put_line xs l)) later ∙ so (x.command == d) refl rest
 
 -- ---- answers
 

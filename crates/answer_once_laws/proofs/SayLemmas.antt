@@ -101,16 +101,16 @@ module _ (t : History) (f : Facts) (told : RunReport) (r c : ℕ) (past : AllByR
     up_ok_or n true says = up_or command named n ok calls says Is_fine
     up_ok_or n false says = up_or command named n (refuses_with (dtx number words)) calls says (Is_refused number words other)
 
+  abbrev up_already : ℕ → Said
+  up_already n = refuses_with (dtx 13 (one (node_name t.places n)))
+
   say_start : (n : ℕ) → command_at t.commands c ≡ commands.Start n → SaysSo (commands.Start n)
   say_start n named = by (is_up f n) refl
     where
-      abbrev refusal : Said
-      refusal = refuses_with (dtx 13 (one (node_name t.places n)))
-
       by : (q : Bool) → is_up f n ≡ q → SaysSo (commands.Start n)
-      by true up = at_once (commands.Start n) named refusal refl (ap (λ b. if b then refusal ∷ [] else []) up) (Is_refused 13 (one (node_name t.places n)) (λ is. cc))
+      by true up = at_once (commands.Start n) named (up_already n) refl (ap (λ b. if b then up_already n ∷ [] else []) up) (Is_refused 13 (one (node_name t.places n)) (λ is. cc))
       by false down =
-          let says : says_at_once t.places f told (commands.Start n) ≡ [] = ap (λ b. if b then refusal ∷ [] else []) down in
+          let says : says_at_once t.places f told (commands.Start n) ≡ [] = ap (λ b. if b then up_already n ∷ [] else []) down in
           record {
             own = subst (λ q. OwnIs t.places t.commands c q (says_at_once t.places f told (commands.Start n))) (sym none_pends) (inl (says, subst IsStart (sym named) tt));
             starts = λ none empty. (n, refl, down);

@@ -89,11 +89,35 @@ WasDone t i command =
 abbrev pub EachIsAnsweredOnce : History → Type 0
 EachIsAnsweredOnce t = (i command : ℕ) → WasDone t i command → AnswersOnce t.places (command_at t.commands command) (is_pending t i command) (said_of command (report_upto t i))
 
--- So does the whole report, where the script was run to its end: all its commands are.
+-- So it is of all commands in the whole report, where the script was run to its end.
 abbrev pub AllAreAnsweredOnce : History → Type 0
 AllAreAnsweredOnce t = due_of t.commands (past_of t) ≡ Ends → (command : ℕ) → 1 ≤ command → command ≤ length t.commands
     → (pending : Bool) × AnswersOnce t.places (command_at t.commands command) pending (said_of command (reported_of t))
 
+-- ---- the later answer
+
+-- the lines of the commands before the one that runs
+abbrev pub lines_before : History → ℕ → List AnswerLine
+lines_before t i = (past_upto t i).run_report.lines
+
+-- The pending call of an earlier command ended in this happening: the commands before the one that runs told nothing of its
+-- answer, which is told in the lines of the command that runs.
+pub record EndsInThisCommand (t : History) (i command : ℕ) : Type 0 where
+  pub beside : List Said
+  pub notices : AreNotices t.places beside
+  pub before : said_of command (lines_before t i) ≡ waiting ∷ beside
+  pub here : List AnswerLine
+  pub page : report_upto t (i + 1) ≡ lines_before t i ++ here
+  pub answer : Said
+  pub ends : EndsCall t.places answer
+  pub after : List Said
+  pub after_notices : AreNotices t.places after
+  pub says : said_of command here ≡ answer ∷ after
+
+-- So the answer that comes later stands with the command in whose course the call ended.
+abbrev pub LaterAnswersStandWhereCallsEnd : History → Type 0
+LaterAnswersStandWhereCallsEnd t = (i command : ℕ) → 1 ≤ command → command < (past_upto t i).facts.command → is_pending t i command ≡ true → is_pending t (i + 1) command ≡ false → EndsInThisCommand t i command
+
 -- In the run of a script it is so.
 abbrev pub EveryCommandIsAnsweredOnce : Type 0
-EveryCommandIsAnsweredOnce = (t : History) → IsTheRunOf t → EachIsAnsweredOnce t × AllAreAnsweredOnce t
+EveryCommandIsAnsweredOnce = (t : History) → IsTheRunOf t → EachIsAnsweredOnce t × AllAreAnsweredOnce t × LaterAnswersStandWhereCallsEnd t
