@@ -59,7 +59,7 @@ module _ (places : List Place) (asked : List Command) (p : Past) where
   no_begin : (g : Happening) (c : ℕ) → IsNoBegin g → Some g ≡ Some (happenings.Begun c) → ⊥
   no_begin g c so is = subst IsNoBegin (let it : g ≡ happenings.Begun c = cc in it) so
 
-  begins_is : (d : Due) (c : ℕ) → happens places p d ≡ Some (happenings.Begun c) → d ≡ Begins c
+  pub begins_is : (d : Due) (c : ℕ) → happens places p d ≡ Some (happenings.Begun c) → d ≡ Begins c
   begins_is (Begins m) c is = ap Begins (let it : Some (happenings.Begun m) ≡ Some (happenings.Begun c) = is in let same : m ≡ c = cc in same)
   begins_is (Tells k) c is = absurd (no_begin (happenings.Lost k) c tt is)
   begins_is (Falls n) c is = absurd (no_begin (happenings.Stopped n) c tt is)

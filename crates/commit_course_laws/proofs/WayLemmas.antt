@@ -76,7 +76,7 @@ module _ (running : ℕ) where
       cond_both (c.command == running) (waits t) t (SameWay t)
       (λ own. cond_both (t.hold && is_none t.next_call) _ t (SameWay t) (λ on. record { hold = refl; deliveries = refl; start = refl }) (λ off. same_way t)) (λ other. same_way t)
 
-  input_way : (t : RunReport) (node : ℕ) (input : Input) → SameWay t (after_input running t node input)
+  pub input_way : (t : RunReport) (node : ℕ) (input : Input) → SameWay t (after_input running t node input)
   input_way t node (inputs.Call session s) = waits_way t (call_at t node session)
   input_way t node (inputs.GiveUp session) = same_way t
   input_way t node (inputs.Message m) = same_way t

@@ -1,0 +1,15 @@
+mod SaidLemmas
+mod CallListLemmas
+mod PageLemmas
+mod PageEndLemmas
+mod BetweenLemmas
+mod OwnEndLemmas
+mod PageLessLemmas
+mod OnceStepLemmas
+mod OnceTurnLemmas
+mod OnceStopLemmas
+mod SayLemmas
+mod OnceBeginLemmas
+mod OnceLemmas
+mod LaterLemmas
+mod TriedOnceLemmas
