@@ -26,6 +26,8 @@ use Rattle.run_claims.specs.ReportedDone.{DoneIsReported}
 use Rattle.run_claims.specs.CommitCourse.{QuietCommitsAreComplete}
 use Rattle.commit_answer_laws.specs.CommitLines.{CommitsAnswerTruly}
 use Rattle.commit_obey_laws.specs.ObeyLaws.{EveryDecisionIsObeyed}
+use Rattle.view_laws.specs.ViewLaws.{ViewsAreOfBranches}
+use Rattle.answer_once_laws.specs.OnceLaws.{EveryCommandIsAnsweredOnce}
 use Rattle.world.specs.Ran.{IsRan, as_ending}
 
 -- the run that these lists tell
@@ -45,7 +47,7 @@ empty_report : IsReported (history_of nothing_done no_script) [] All_run
 unfolding past due_of
 empty_report = (refl, tt)
 
-module _ (lawful : TheRunIsLawful) (knows : EveryTurnKnows) (meant : EveryRunIsMeant) (comes : EveryAnswerHasItsPlace) (tells : DoneIsReported) (commits : CommitsAnswerTruly) (completes : QuietCommitsAreComplete) (obeys : EveryDecisionIsObeyed) (sites : EverySiteDecides) (covers : EveryDecisionCovers) (agrees : EveryBookAgrees) (marked : EveryMixedIsMarked) (later : EveryScnIsLater) where
+module _ (lawful : TheRunIsLawful) (once : EveryCommandIsAnsweredOnce) (views : ViewsAreOfBranches) (knows : EveryTurnKnows) (meant : EveryRunIsMeant) (comes : EveryAnswerHasItsPlace) (tells : DoneIsReported) (commits : CommitsAnswerTruly) (completes : QuietCommitsAreComplete) (obeys : EveryDecisionIsObeyed) (sites : EverySiteDecides) (covers : EveryDecisionCovers) (agrees : EveryBookAgrees) (marked : EveryMixedIsMarked) (later : EveryScnIsLater) where
   -- by the laws, of what is due and told
   by_laws : (run : Run) (ending : Ending) (script : AreOfAScript (places_of run.commands) run.commands)
       → IsTheRun (places_of run.commands) run.commands (start (places_of run.commands)) run.trace → run.book ≡ book_of run.trace
@@ -59,6 +61,8 @@ module _ (lawful : TheRunIsLawful) (knows : EveryTurnKnows) (meant : EveryRunIsM
         lawful = may;
         booked = booked;
         answered = told;
+        once = once t due;
+        views = views t may;
         knows = knows t may;
         meant = meant t may;
         come = comes t due;
@@ -100,6 +104,8 @@ stands_too run is = record {
   lawful = is.lawful;
   booked = is.booked;
   answered = inr (between _ is.answered.0, is.answered.1);
+  once = is.once;
+  views = is.views;
   knows = is.knows;
   meant = is.meant;
   come = is.come;

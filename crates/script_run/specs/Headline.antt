@@ -13,6 +13,8 @@ use Rattle.run_claims.specs.ReportedDone.{ReportsWhatIsDone}
 use Rattle.run_claims.specs.CommitCourse.{QuietCommitsAreDone}
 use Rattle.commit_answer_laws.specs.CommitLines.{CommitAnswersAreTrue}
 use Rattle.commit_obey_laws.specs.ObeyLaws.{Obedience}
+use Rattle.view_laws.specs.ViewLaws.{ViewsOf}
+use Rattle.answer_once_laws.specs.OnceLaws.{EachIsAnsweredOnce, AllAreAnsweredOnce, LaterAnswersStandWhereCallsEnd}
 use Rattle.script_run.specs.declared.outcome.Run.{Run}
 
 -- a run over the nodes that its script makes, as the laws of runs have it
@@ -22,25 +24,31 @@ history_of run script = record { places = places_of run.commands; commands = run
 -- Each happening is the one that is due, with the record and the messages that the rules give, and so it may come where it
 -- came: no message comes twice unless it is repeated, over no cut pair, to no node that is down. The book has the entries of
 -- the records that were written. The lines answer the commands in order: each is the one that the rules give at its
--- happening, and SHOW DISK shows bytes that stand for the records so far. Each record of a turn, and each Exec, Abort, ReadOnly
--- and Committed, has its cause in what came to its branch and what happened before. Where a node runs a query, it answers the
--- query's meaning over the rows that the book leaves there, with the changes of the asking branch, and examines no key in
--- doubt; a change counts the rows that it means; what a client is answered is what such a run answered, at the table to which
--- the names in its statement lead. What a client is told is created, set, forced or purged is on the disk, and such a record
--- is written for no other call. What a client is told of a COMMIT is true: by Commit complete its transaction is decided in
--- the book, or none of its session tree had changes, or the session had no transaction; by ORA-02050 no branch of it is ever
--- decided; by ORA-02053 one is. A COMMIT that nothing disturbs is answered Commit complete, its sealed branches end with
--- commit, and no node keeps a branch of it. A decision that comes to a sealed branch from its neighbour on the way to the
--- commit point site is written at once: the branch ends with it, or notes how it met it, if it was forced. Each decision is made by the commit point site of its session tree,
--- once every other branch with changes on it or below it is sealed; a branch is sealed or decided with the changes that its
--- own statements made, and a seal names the neighbour on the way to the site. Branches end as their site decided, mixed
--- outcomes are marked, and the SCN law holds.
+-- happening, and SHOW DISK shows bytes that stand for the records so far. Each command that was done has one answer, or
+-- `waiting` and one answer more once its call has ended, with the command in whose course it ended; what else has its number
+-- is a notice. SHOW PENDING and SHOW NEIGHBORS show just the branches that by the records are prepared, committed or forced
+-- there, and SHOW PENDING those that are collecting.
+-- Each record of a turn, and each Exec, Abort, ReadOnly and Committed, has its cause in what came to its branch and what
+-- happened before. Where a node runs a query, it answers the query's meaning over the rows that the book leaves there, with the
+-- changes of the asking branch, and examines no key in doubt; a change counts the rows that it means; what a client is
+-- answered is what such a run answered, at the table to which the names in its statement lead. What a client is told is
+-- created, set, forced or purged is on the disk, and such a record is written for no other call.
+-- What a client is told of a COMMIT is true: by Commit complete its transaction is decided in the book, or none of its session
+-- tree had changes, or the session had no transaction; by ORA-02050 no branch of it is ever decided; by ORA-02053 one is. A
+-- COMMIT that nothing disturbs, that of a CREATE too, is answered Commit complete, its site has decided, its sealed branches
+-- end with commit, and no node keeps a branch of it. A decision that comes to a sealed branch from its neighbour on the way to
+-- the commit point site is written at once: the branch ends with it, or notes how it met it, if it was forced.
+-- Each decision is made by the commit point site of its session tree, once every other branch with changes on it or below it is
+-- sealed; a branch is sealed or decided with the changes that its own statements made, and a seal names the neighbour on the
+-- way to the site. Branches end as their site decided, mixed outcomes are marked, and the SCN law holds.
 pub record IsRun (run : Run) (ending : Ending) : Type 0 where
   pub script : AreOfAScript (places_of run.commands) run.commands
   pub due : IsTheRunOf (history_of run script)
   pub lawful : IsLawfulRun (history_of run script)
   pub booked : run.book ≡ book_of run.trace
   pub answered : IsReported (history_of run script) run.answers ending
+  pub once : EachIsAnsweredOnce (history_of run script) × AllAreAnsweredOnce (history_of run script) × LaterAnswersStandWhereCallsEnd (history_of run script)
+  pub views : ViewsOf (history_of run script)
   pub knows : Knowledge (history_of run script)
   pub meant : RunsAreMeant (history_of run script)
   pub come : AnswersHavePlaces (history_of run script)

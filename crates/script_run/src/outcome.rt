@@ -8,12 +8,15 @@ ghost use Rattle.run_claims.specs.ReportedDone.{DoneIsReported};
 ghost use Rattle.run_claims.specs.CommitCourse.{QuietCommitsAreComplete};
 ghost use Rattle.commit_answer_laws.specs.CommitLines.{CommitsAnswerTruly};
 ghost use Rattle.commit_obey_laws.specs.ObeyLaws.{EveryDecisionIsObeyed};
+ghost use Rattle.view_laws.specs.ViewLaws.{ViewsAreOfBranches};
+ghost use Rattle.answer_once_laws.specs.OnceLaws.{EveryCommandIsAnsweredOnce};
 ghost use Rattle.world.specs.Ran.{IsRan, as_ending};
 ghost use Rattle.script_run.specs.Headline.{IsRun, nothing_done};
 ghost use Rattle.script_run.specs.Ending.{status_code};
 
 use answer_done_laws::done_is_reported;
 use answer_laws::every_answer_has_its_place;
+use answer_once_laws::every_command_is_answered_once;
 use book::{AnswerLines, Book, Trace};
 use book_laws::every_scn_is_later;
 use commit_answer_laws::commits_answer_truly;
@@ -28,6 +31,7 @@ use std::alloc::Global;
 use tree_cover_laws::every_decision_covers;
 use tree_laws::every_book_agrees;
 use tree_trail_laws::{every_run_is_meant, every_site_decides};
+use view_laws::views_are_of_branches;
 use world::EndedRun;
 
 /// How a run of the program ends.
@@ -82,6 +86,8 @@ pub struct Run {
 // What holds of every lawful run, and that the run of a script is one.
 fn laws_of_runs()
     ensures lawful { TheRunIsLawful }
+    ensures once { EveryCommandIsAnsweredOnce }
+    ensures views { ViewsAreOfBranches }
     ensures knows { EveryTurnKnows }
     ensures meant { EveryRunIsMeant }
     ensures comes { EveryAnswerHasItsPlace }
@@ -96,6 +102,8 @@ fn laws_of_runs()
     ensures later { EveryScnIsLater }
 {
     the_run_is_lawful();
+    every_command_is_answered_once();
+    views_are_of_branches();
     every_turn_knows();
     every_run_is_meant();
     every_answer_has_its_place();
