@@ -1,5 +1,5 @@
 -- The COMMIT of a CREATE that is quiet is undisturbed, it is complete when its command is done, and the CREATE itself has come.
-use Rattle.std.proofs.Common.{◌≡◌, ℕ, ◌+◌, ◌<◌, ◌==◌, ◌&&◌, ◌⊎◌, Bool, true, false, if◌then◌else◌, List, [], ◌∷◌, ◌++◌, filter, length, Option, Some, None, inl, inr, refl, sym, ap, subst, ◌∙◌, append-nil}
+use Rattle.std.proofs.Common.{◌≡◌, ℕ, ◌+◌, ◌<◌, ◌==◌, ◌&&◌, ◌⊎◌, Bool, true, false, if◌then◌else◌, List, [], ◌∷◌, ◌++◌, filter, length, Option, Some, None, inl, inr, refl, sym, ap, subst, ◌∙◌, append-nil, arith}
 use Rattle.std.specs.List.{AllByRecursion}
 use Rattle.std.proofs.lemmas.Bool.{eq-eqb}
 use Rattle.std.proofs.lemmas.List.{append_assoc}
@@ -55,13 +55,13 @@ more_stage node session s A B f told t (Created it none alone) = Created (f it) 
 more_stage node session s A B f told t (Refused a others is incomplete none alone) = Refused a others is incomplete none alone
 
 -- a turn that comes is whole
-whole_next : {node session : ℕ} {q : Past} (h : Happening) → ComesNext node session q h → IsWholeTurn h
-whole_next h (Goes_on _ alone comes) = by h comes
+whole_next : (node session : ℕ) (q : Past) (h : Happening) → ComesNext node session q h → IsWholeTurn h
+whole_next node session q h (Goes_on _ alone comes) = by h comes
   where
-    by : {q : Past} (g : Happening) → Comes node session q g → IsWholeTurn g
+    by : (g : Happening) → Comes node session q g → IsWholeTurn g
     by _ (Delivery k u at few other whole took) = whole
     by _ (Give_up u x xs calls why other whole) = whole
-whole_next _ (Second u c at here input k up whole) = whole
+whole_next node session q _ (Second u c at here input k up whole) = whole
 
 module _ (complete : UndisturbedCommitsAreComplete) (law : DeliveriesStayBelow) (t : History) (run : IsTheRunOf t) (front later : List Happening) (c : Commit t.places t.commands front) (s : Stmt) (goes : CreateIsUnderWay t front later c s)
     (lawful : IsLawfulRun t) (calm : StaysCalm t front c) (done : IsBetweenCommands (due_of t.commands (past_by t.places t.commands front))) where
@@ -211,11 +211,12 @@ module _ (complete : UndisturbedCommitsAreComplete) (law : DeliveriesStayBelow) 
   unfolding IsTheRun
   whole_all [] rest q runs it well = tt
   whole_all (happenings.Turn u ∷ hs) rest q runs it well =
-      let whole : u.cut ≡ false = whole_next (happenings.Turn u) (what_comes n m t.places t.commands q runs (happenings.Turn u) well.0 it.0) in
+      let whole : u.cut ≡ false = whole_next n m q (happenings.Turn u) (what_comes n m t.places t.commands q runs (happenings.Turn u) well.0 it.0) in
       (whole, whole_all hs rest (next t.places t.commands q (happenings.Turn u)) (runs_turn n m t.places t.commands q u runs.off runs.stands whole) it.1 well.1)
-  whole_all (h ∷ hs) rest q runs it well = absurd (whole_next h (what_comes n m t.places t.commands q runs h well.0 it.0))
+  whole_all (h ∷ hs) rest q runs it well = absurd (whole_next n m q h (what_comes n m t.places t.commands q runs h well.0 it.0))
 
   whole_during : AllByRecursion IsWholeTurn c.during
+  unfolding past
   whole_during = whole_all c.during later q1 first_status.runs (first_run t run front later c g) goes.well
 
   -- ---- one happening more
@@ -231,18 +232,20 @@ module _ (complete : UndisturbedCommitsAreComplete) (law : DeliveriesStayBelow) 
     few =
         let below : deliveries_in mid < 4096 = few_sooner complete t lawful front later goes.within c goes.whole whole_during calm mid rest is law now.course in
         let count : (at_past mid).run_report.deliveries ≡ q1.run_report.deliveries + deliveries_in mid = counted t.places t.commands q1 mid (all_front IsWholeTurn mid rest (subst (AllByRecursion IsWholeTurn) (sym is) whole_during)) in
-        not_spent (at_past mid).run_report.deliveries (deliveries_in mid) (count ∙ ap (λ i. i + deliveries_in mid) (first_none t run front later c g fresh)) below
+        let none : q1.run_report.deliveries ≡ 0 = first_none t run front later c g fresh in
+        let is_so : (at_past mid).run_report.deliveries ≡ deliveries_in mid = omega (arith, count, none) in
+        not_spent (at_past mid).run_report.deliveries (deliveries_in mid) is_so below
 
     -- so no call is given up
     none_given_up : (x : Call) (xs : List Call) → (at_past mid).run_report.calls ≡ x ∷ xs → (at_past mid).run_report.next_call ≡ None → (first_flying (at_past mid).facts.net ≡ None) ⊎ (spent (at_past mid).run_report.deliveries ≡ true) → ⊥
-    none_given_up x xs calls none (inr all) = (let no = few in cc (no, all))
+    none_given_up x xs calls none (inr all) = (let unspent = few in cc (unspent, all))
     none_given_up x xs calls none (inl still) = by now.stage (answered still)
       where
         by : Stage n m s (Came mid) (told mid) (at_past mid).run_report → told mid ≡ commit_complete ∷ [] → ⊥
-        by (Commits y at second all no unsaid) is_said = (let both : [] ≡ commit_complete ∷ [] = sym unsaid ∙ is_said in cc)
+        by (Commits y at second all alone unsaid) is_said = (let both : [] ≡ commit_complete ∷ [] = sym unsaid ∙ is_said in cc)
         by (Follows y at create all) is_said = cc (at, none)
-        by (Created it gone no) is_said = (subst (AllByRecursion IsNoCall) calls gone).0
-        by (Refused a others at incomplete gone no) is_said = (subst (AllByRecursion IsNoCall) calls gone).0
+        by (Created it gone alone) is_said = (subst (AllByRecursion IsNoCall) calls gone).0
+        by (Refused a others at incomplete gone alone) is_said = (subst (AllByRecursion IsNoCall) calls gone).0
 
     -- a turn that is not the CREATE's
     other_turn : (u : Turn) → u.cut ≡ false → is_create u.input ≡ false → (at_past mid).run_report.next_call ≡ None → IsInCourse (happenings.Turn u) → Status (mid ++ happenings.Turn u ∷ [])
@@ -316,7 +319,7 @@ module _ (complete : UndisturbedCommitsAreComplete) (law : DeliveriesStayBelow) 
   over : (first_flying (at_past c.during).facts.net ≡ None) × ((at_past c.during).run_report.next_call ≡ None)
   over =
       let it = what_is_over n m t.places t.commands (at_past c.during) last.runs (subst (λ q. IsBetweenCommands (due_of t.commands q)) (end_is t run front later c g) done) in
-      (elim it.1 [ inl still ↦ still | inr all ↦ (let no = few c.during [] (append-nil c.during) last in absurd (cc (no, all))) ], it.0)
+      (elim it.1 [ inl still ↦ still | inr all ↦ (let unspent = few c.during [] (append-nil c.during) last in absurd (cc (unspent, all))) ], it.0)
 
   undisturbed : Undisturbed t.places t.commands front c
   undisturbed = record {

@@ -125,7 +125,7 @@ module _ (node session : ℕ) where
 
         pending_finished : (t : RunReport) (fs : List Finished) → call_at t node session ≡ Some c → AllByRecursion (IsOf c.command) t.calls → t.next_call ≡ None → Stage came (answers_of fs) (finished running t node fs)
         pending_finished t [] at all none = Commits c at follows all none refl
-        pending_finished t (f ∷ fs) at all none = by (f.session == session) refl
+        pending_finished t (f ∷ fs) at all none = by (f.session == session) refl (pending_finished t fs at all none)
           where
             its_parts : (xs : List Call) → find (is_call_at node session) xs ≡ Some c → (c.node ≡ node) × (c.session ≡ session)
             its_parts [] found = absurd cc
@@ -135,16 +135,16 @@ module _ (node session : ℕ) where
                 one true here is rest = (let it : Some x ≡ Some c = is in let same : x ≡ c = cc in at_parts node session c (subst (λ y. is_call_at node session y ≡ true) same here))
                 one false here is rest = rest is
 
-            by : (q : Bool) → (f.session == session) ≡ q → Stage came (map (λ (x : Finished). x.answer) (if q then f ∷ filter (λ (x : Finished). x.session == session) fs else filter (λ (x : Finished). x.session == session) fs)) (finished running t node (f ∷ fs))
-            by true its =
+            by : (q : Bool) → (f.session == session) ≡ q → Stage came (answers_of fs) (finished running t node fs) → Stage came (map (λ (x : Finished). x.answer) (if q then f ∷ filter (λ (x : Finished). x.session == session) fs else filter (λ (x : Finished). x.session == session) fs)) (finished running t node (f ∷ fs))
+            by true its rest =
                 let parts = its_parts t.calls at in
                 let found : call_at t node f.session ≡ Some c = ap (call_at t node) (eqb-true f.session session its) ∙ at in
                 let is : finished_call running t f (call_at t node f.session) ≡ (if is_complete f.answer then call_follows t (second_of c s) else call_ends running t c f) = ap (finished_call running t f) found ∙ ap (ends_or_follows running t c f) follows in
                 subst (λ v. Stage came (f.answer ∷ answers_of fs) (finished running v node fs)) (sym is) (pending_ends t f fs parts.0 parts.1 all none (is_complete f.answer) refl)
-            by false other =
+            by false other rest =
                 let none_here : call_at t node f.session ≡ None = none_other c.command node f.session (ap (λ q. (node == node) && q) other ∙ and_false (node == node)) t.calls all in
                 let is : finished_call running t f (call_at t node f.session) ≡ t = ap (finished_call running t f) none_here in
-                subst (λ v. Stage came (answers_of fs) (finished running v node fs)) (sym is) (pending_finished t fs at all none)
+                subst (λ v. Stage came (answers_of fs) (finished running v node fs)) (sym is) rest
               where
                 and_false : (q : Bool) → (q && false) ≡ false
                 and_false true = refl

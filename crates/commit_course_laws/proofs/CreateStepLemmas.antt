@@ -126,7 +126,7 @@ module _ (node session : ℕ) where
       what_is_over is = by f.losses_to_report refl
         where
           next_by : (o : Option Call) → t.next_call ≡ o → f.losses_to_report ≡ [] → (t.next_call ≡ None) × ((first_flying f.net ≡ None) ⊎ (spent t.deliveries ≡ true)) × (t.calls ≡ [])
-          next_by None alone told = (alone, delivery_between node session places asked p (first_flying f.net) refl (subst IsBetweenCommands (flow_due places asked p told runs.upright runs.stands alone runs.acted runs.off) is))
+          next_by None alone told = (let it = delivery_between node session places asked p (first_flying f.net) refl (subst IsBetweenCommands (flow_due places asked p told runs.upright runs.stands alone runs.acted runs.off) is) in (alone, it.0, it.1))
           next_by (Some c) at told = absurd (subst IsBetweenCommands (second_due told c at) is)
 
           by : (ks : List ℕ) → f.losses_to_report ≡ ks → (t.next_call ≡ None) × ((first_flying f.net ≡ None) ⊎ (spent t.deliveries ≡ true)) × (t.calls ≡ [])

@@ -73,7 +73,7 @@ module _ (node session : ℕ) where
     one_finished m t [] one = one
     one_finished m t (f ∷ fs) one = one_finished m (finished_call running t f (call_at t m f.session)) fs (one_ends m t f one)
 
-    one_after : (t : RunReport) (u : Turn) (cut : Bool) (o : Option TurnOutput) → HasOne t → HasOne (ends_calls running t u cut o)
+    pub one_after : (t : RunReport) (u : Turn) (cut : Bool) (o : Option TurnOutput) → HasOne t → HasOne (ends_calls running t u cut o)
     one_after t u true o one = one
     one_after t u false None one = one
     one_after t u false (Some o) one =

@@ -14,4 +14,3 @@ pub mod CreateStepLemmas
 pub mod CreateCourseLemmas
 pub mod QuietLemmas
 mod TriedCourseLemmas
-mod TriedQuietLemmas

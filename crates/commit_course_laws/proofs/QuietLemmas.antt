@@ -1,6 +1,6 @@
 -- A quiet COMMIT is undisturbed, and complete when its command is done: at the first moment at which nothing is in flight it has
 -- been answered, so no call is given up, and nothing comes but the next command.
-use Rattle.std.proofs.Common.{◌≡◌, ℕ, ◌+◌, ◌<◌, true, false, List, [], ◌∷◌, ◌++◌, Some, None, inl, inr, refl, sym, ap, subst, ◌∙◌}
+use Rattle.std.proofs.Common.{◌≡◌, ℕ, ◌+◌, ◌<◌, true, false, List, [], ◌∷◌, ◌++◌, Some, None, inl, inr, refl, sym, ap, subst, ◌∙◌, arith}
 use Rattle.std.specs.List.{AllByRecursion}
 use Rattle.node_rules.specs.Data.{Place}
 use Rattle.node_rules.specs.Data.stmts
@@ -113,7 +113,8 @@ module _ (complete : UndisturbedCommitsAreComplete) (law : DeliveriesStayBelow) 
           let below : deliveries_in done < 4096 = few_sooner complete t lawful front later goes.within c goes.whole way.whole calm done rest is law (in_course delivers) in
           let count : (past t.places t.commands p done).run_report.deliveries ≡ p.run_report.deliveries + deliveries_in done = counted t.places t.commands p done (all_front IsWholeTurn done rest (subst (AllByRecursion IsWholeTurn) (sym is) way.whole)) in
           let none : p.run_report.deliveries ≡ 0 = first_none t run front later c g (fresh t run front later c goes) in
-          not_spent (past t.places t.commands p done).run_report.deliveries (deliveries_in done) (count ∙ ap (λ n. n + deliveries_in done) none) below
+          let is_so : (past t.places t.commands p done).run_report.deliveries ≡ deliveries_in done = omega (arith, count, none) in
+          not_spent (past t.places t.commands p done).run_report.deliveries (deliveries_in done) is_so below
 
     -- ---- the end of the command
 

@@ -5,6 +5,7 @@ use Rattle.std.specs.List.{list_any}
 use Rattle.std.proofs.lemmas.List.{append_assoc}
 use Rattle.tran_ids.proofs.BranchLemmas.{equal_from_same, same_from_equal}
 use Rattle.tran_ids.proofs.ListedLemmas.{item_is}
+use Rattle.agreement.specs.Events as exits
 use Rattle.agreement.specs.Events.{Exit, Dropped, exit}
 use Rattle.node_rules.specs.Data.{BranchId, Input, Kind, Live, RedoRecord}
 use Rattle.node_rules.specs.Data.inputs
@@ -138,12 +139,12 @@ module _ (t : History) (whole : IsLawfulRun t) (c : Commit t.places t.commands t
     unwritten None wrote e at = absurd cc
     unwritten (Some (records.Sealed x)) wrote e at = by (same x.me r) refl at
       where
-        by : (q : Bool) → same x.me r ≡ q → (if q then Some _ else None) ≡ Some e → ⊥
+        by : (q : Bool) → same x.me r ≡ q → (if q then Some (exits.Sealed x.scn) else None) ≡ Some e → ⊥
         by true own some = drop.seal_not t whole c u all it w fine.is fine.uncut fine refl x wrote (equal_from_same x.me r own)
         by false own some = absurd cc
     unwritten (Some (records.Decided x)) wrote e at = by (same x.me r) refl at
       where
-        by : (q : Bool) → same x.me r ≡ q → (if q then Some _ else None) ≡ Some e → ⊥
+        by : (q : Bool) → same x.me r ≡ q → (if q then Some (exits.Decided x.scn) else None) ≡ Some e → ⊥
         by true own some = drop.decision_not t whole c u all it w fine.is fine.uncut fine refl x wrote (equal_from_same x.me r own)
         by false own some = absurd cc
     unwritten (Some _) wrote e at = absurd cc

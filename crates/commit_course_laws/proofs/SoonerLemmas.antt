@@ -71,7 +71,7 @@ same_answers places asked f node session (happenings.Started n boot ∷ hs) none
 
 -- ---- a quiet COMMIT
 
-module _ (complete : UndisturbedCommitsAreComplete) (t : History) (lawful : IsLawfulRun t) (front later : List Happening) (within : front ++ later ≡ t.trace) (c : Commit t.places t.commands front) (whole_call : c.call.cut ≡ false) (whole : AllByRecursion IsWholeTurn c.during) (quiet : StaysCalm t front c) where
+module _ (complete : UndisturbedCommitsAreComplete) (t : History) (lawful : IsLawfulRun t) (front later : List Happening) (joined : front ++ later ≡ t.trace) (c : Commit t.places t.commands front) (whole_call : c.call.cut ≡ false) (whole : AllByRecursion IsWholeTurn c.during) (quiet : StaysCalm t front c) where
   -- ---- an earlier moment
 
   module _ (done rest : List Happening) (is : done ++ rest ≡ c.during) where
@@ -85,7 +85,7 @@ module _ (complete : UndisturbedCommitsAreComplete) (t : History) (lawful : IsLa
     all_is = append_assoc c.before (happenings.Turn c.call ∷ done) rest ∙ (ap (λ hs. c.before ++ happenings.Turn c.call ∷ hs) is ∙ c.is)
 
     trace_is : sooner ++ (rest ++ later) ≡ t.trace
-    trace_is = sym (append_assoc sooner rest later) ∙ (ap (λ hs. hs ++ later) all_is ∙ within)
+    trace_is = sym (append_assoc sooner rest later) ∙ (ap (λ hs. hs ++ later) all_is ∙ joined)
 
     whole_both : AllByRecursion IsWholeTurn (done ++ rest)
     whole_both = subst (AllByRecursion IsWholeTurn) (sym is) whole

@@ -1,4 +1,3 @@
 pub mod CompleteLaws
 pub mod CommandCalls
 pub mod TriedCourse
-pub mod TriedQuiet

@@ -244,12 +244,12 @@ module _ (t : History) (whole : IsLawfulRun t) (c : Commit t.places t.commands t
   walk mid [] is all now = subst Status (sym (append-nil mid) ∙ is) now
   walk mid (happenings.Turn h ∷ rest) is all now =
       walk (mid ++ happenings.Turn h ∷ []) rest (append_assoc mid (happenings.Turn h ∷ []) rest ∙ is) all.1 (elim all.0 [ inl delivery ↦ status_next mid h rest is delivery.0 now (inl delivery) | inr create ↦ status_next mid h rest is create.0 now (inr create.1) ])
-  walk mid (happenings.Begun n ∷ rest) is all now = absurd (elim all.0 [ inl no ↦ no | inr no ↦ no ])
-  walk mid (happenings.Cut a b ∷ rest) is all now = absurd (elim all.0 [ inl no ↦ no | inr no ↦ no ])
-  walk mid (happenings.Join a b ∷ rest) is all now = absurd (elim all.0 [ inl no ↦ no | inr no ↦ no ])
-  walk mid (happenings.Lost n ∷ rest) is all now = absurd (elim all.0 [ inl no ↦ no | inr no ↦ no ])
-  walk mid (happenings.Stopped n ∷ rest) is all now = absurd (elim all.0 [ inl no ↦ no | inr no ↦ no ])
-  walk mid (happenings.Started n boot ∷ rest) is all now = absurd (elim all.0 [ inl no ↦ no | inr no ↦ no ])
+  walk mid (happenings.Begun n ∷ rest) is all now = absurd (elim all.0 [ inl never ↦ never | inr never ↦ never ])
+  walk mid (happenings.Cut a b ∷ rest) is all now = absurd (elim all.0 [ inl never ↦ never | inr never ↦ never ])
+  walk mid (happenings.Join a b ∷ rest) is all now = absurd (elim all.0 [ inl never ↦ never | inr never ↦ never ])
+  walk mid (happenings.Lost n ∷ rest) is all now = absurd (elim all.0 [ inl never ↦ never | inr never ↦ never ])
+  walk mid (happenings.Stopped n ∷ rest) is all now = absurd (elim all.0 [ inl never ↦ never | inr never ↦ never ])
+  walk mid (happenings.Started n boot ∷ rest) is all now = absurd (elim all.0 [ inl never ↦ never | inr never ↦ never ])
 
   last : Status c.during
   last = walk [] c.during refl u.course status_first

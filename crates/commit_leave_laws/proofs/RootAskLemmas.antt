@@ -116,12 +116,12 @@ module _ (t : History) (whole : IsLawfulRun t) (c : Commit t.places t.commands t
       walk (mid ++ happenings.Turn h ∷ []) rest (append_assoc mid (happenings.Turn h ∷ []) rest ∙ is) all.1
       (λ j. subst (λ xs. opens_at xs j ≡ opens_at c.before j) (append_assoc after mid (happenings.Turn h ∷ []))
       (no_open (after ++ mid) h rest all_is since calm j ∙ now j)) i
-  walk mid (happenings.Begun n ∷ rest) is all now i = absurd (elim all.0 [ inl no ↦ no | inr no ↦ no ])
-  walk mid (happenings.Cut a b ∷ rest) is all now i = absurd (elim all.0 [ inl no ↦ no | inr no ↦ no ])
-  walk mid (happenings.Join a b ∷ rest) is all now i = absurd (elim all.0 [ inl no ↦ no | inr no ↦ no ])
-  walk mid (happenings.Lost n ∷ rest) is all now i = absurd (elim all.0 [ inl no ↦ no | inr no ↦ no ])
-  walk mid (happenings.Stopped n ∷ rest) is all now i = absurd (elim all.0 [ inl no ↦ no | inr no ↦ no ])
-  walk mid (happenings.Started n boot ∷ rest) is all now i = absurd (elim all.0 [ inl no ↦ no | inr no ↦ no ])
+  walk mid (happenings.Begun n ∷ rest) is all now i = absurd (elim all.0 [ inl never ↦ never | inr never ↦ never ])
+  walk mid (happenings.Cut a b ∷ rest) is all now i = absurd (elim all.0 [ inl never ↦ never | inr never ↦ never ])
+  walk mid (happenings.Join a b ∷ rest) is all now i = absurd (elim all.0 [ inl never ↦ never | inr never ↦ never ])
+  walk mid (happenings.Lost n ∷ rest) is all now i = absurd (elim all.0 [ inl never ↦ never | inr never ↦ never ])
+  walk mid (happenings.Stopped n ∷ rest) is all now i = absurd (elim all.0 [ inl never ↦ never | inr never ↦ never ])
+  walk mid (happenings.Started n boot ∷ rest) is all now i = absurd (elim all.0 [ inl never ↦ never | inr never ↦ never ])
 
   same_opens : (i : ℕ) → opens_at t.trace i ≡ opens_at c.before i
   same_opens i =

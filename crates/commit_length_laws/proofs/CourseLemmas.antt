@@ -214,12 +214,12 @@ module _ (t : History) (whole : IsLawfulRun t) (c : Commit t.places t.commands t
           )
           | inr create ↦ (create_less hs h rest is v create.0 create.1 may.0 may.1 now, create_flies hs h rest is v create.0 create.1 may.0 may.1 now)
         ])
-    one_more hs h rest is (happenings.Begun n) turn it now = absurd (elim it [ inl no ↦ no | inr no ↦ no ])
-    one_more hs h rest is (happenings.Cut a b) turn it now = absurd (elim it [ inl no ↦ no | inr no ↦ no ])
-    one_more hs h rest is (happenings.Join a b) turn it now = absurd (elim it [ inl no ↦ no | inr no ↦ no ])
-    one_more hs h rest is (happenings.Lost n) turn it now = absurd (elim it [ inl no ↦ no | inr no ↦ no ])
-    one_more hs h rest is (happenings.Stopped n) turn it now = absurd (elim it [ inl no ↦ no | inr no ↦ no ])
-    one_more hs h rest is (happenings.Started n boot) turn it now = absurd (elim it [ inl no ↦ no | inr no ↦ no ])
+    one_more hs h rest is (happenings.Begun n) turn it now = absurd (elim it [ inl never ↦ never | inr never ↦ never ])
+    one_more hs h rest is (happenings.Cut a b) turn it now = absurd (elim it [ inl never ↦ never | inr never ↦ never ])
+    one_more hs h rest is (happenings.Join a b) turn it now = absurd (elim it [ inl never ↦ never | inr never ↦ never ])
+    one_more hs h rest is (happenings.Lost n) turn it now = absurd (elim it [ inl never ↦ never | inr never ↦ never ])
+    one_more hs h rest is (happenings.Stopped n) turn it now = absurd (elim it [ inl never ↦ never | inr never ↦ never ])
+    one_more hs h rest is (happenings.Started n boot) turn it now = absurd (elim it [ inl never ↦ never | inr never ↦ never ])
 
     -- so they are few
     pub few_more : (hs mid : List Happening) → hs ++ mid ≡ t.trace → AllByRecursion IsInCourse mid → AllFly Course (f_at t hs).net → deliveries_in mid ≤ all_worth g far (f_at t hs)

@@ -1,7 +1,8 @@
 -- The course of a COMMIT in the run of a script: with HOLD off its messages are delivered one after the other, in order of
 -- number, until none is in flight; then the call has been answered, and the next command begins. So an administrator sees
--- that a COMMIT that nothing disturbs is complete in its own command. (Database Administrator's Guide, "Distributed
--- Transactions Concepts": two-phase commit mechanism.)
+-- that a COMMIT that nothing disturbs is complete in its own command. A CREATE in a transaction commits it first: its command
+-- goes on the same way, and the CREATE itself comes right after the turn in which its COMMIT is complete. (Database
+-- Administrator's Guide, "Distributed Transactions Concepts": two-phase commit mechanism.)
 use Rattle.std.specs.Prelude.{◌≡◌, ℕ, ◌∷◌, ◌++◌, true, false, List, [], slice_get, Some, None}
 use Rattle.std.specs.List.{AllByRecursion}
 use Rattle.node_rules.specs.Data.{Place, Stmt}

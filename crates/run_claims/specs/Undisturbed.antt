@@ -74,7 +74,7 @@ abbrev pub IsCreateTurn : Happening → Type 0
 IsCreateTurn (happenings.Turn u) = (u.cut ≡ false) × (is_create u.input ≡ true)
 IsCreateTurn _ = ⊥
 
--- what happens in the course of an undisturbed COMMIT: a delivery, or a CREATE itself, once its COMMIT has been answered
+-- what happens in the course of an undisturbed COMMIT: deliveries, and CREATEs themselves
 abbrev pub IsInCourse : Happening → Type 0
 IsInCourse h = IsFirstDelivery h ⊎ IsCreateTurn h
 
@@ -109,8 +109,8 @@ NoneComesIn bs (happenings.Turn u) = is_disturbed bs u.input ≡ false
 NoneComesIn bs _ = Unit {0}
 
 -- A COMMIT is undisturbed: no statement of its transaction asks for a rollback; nothing is in flight when it is called;
--- from then on there are whole turns alone, deliveries as they come while HOLD is off and a CREATE itself whose COMMIT it is,
--- until nothing is in flight; none
+-- from then on there are whole turns alone, of deliveries, as they come while HOLD is off, and of CREATEs themselves, as they
+-- come after the COMMIT that they make first, until nothing is in flight; none
 -- of the transaction's messages was lost; no node of its branches has stopped since they began; and neither a rollback nor
 -- a question of the recoverer came to any of them.
 pub record Undisturbed (places : List Place) (asked : List Command) (trace : List Happening) (c : Commit places asked trace) : Type 0 where
