@@ -9,9 +9,8 @@ use Rattle.run_rules.specs.Calls.{call_at}
 use Rattle.run_rules.specs.Commands.{is_enabled}
 use Rattle.run_rules.specs.Data.{Command, Happening}
 use Rattle.run_rules.specs.Data.commands
-use Rattle.run_rules.specs.Data.happenings
-use Rattle.run_rules.specs.Disks.{Strike, struck}
-use Rattle.run_rules.specs.Due.{Due, Tells, Falls, Pends, Gives_up, Delivers, Recovers, Loses, Stops, Starts, Begins, Ends, if_due, call_due, act_of, next_command, next_give_up, next_delivery, most_of, next_pumped, flows, acts_first, acts_once, follows_first, falls_first, first_losses, due_of, start_by, happens, comes_next}
+use Rattle.run_rules.specs.Disks.{struck}
+use Rattle.run_rules.specs.Due.{Due, Pends, Gives_up, Delivers, Recovers, Loses, Stops, Starts, Begins, Ends, if_due, call_due, act_of, next_command, next_give_up, next_delivery, most_of, next_pumped, flows, acts_first, acts_once, follows_first, falls_first, first_losses, due_of, start_by, happens, comes_next}
 use Rattle.run_rules.specs.Facts.{Facts, command_at, is_up, node_at}
 use Rattle.run_rules.specs.Lawful.{NothingComesFirst}
 use Rattle.run_rules.specs.Lines.{spent}

@@ -1,14 +1,13 @@
 -- The pending calls by their commands: no two are of one session, so one that ends leaves those of all other commands.
-use Rattle.std.proofs.Common.{◌≡◌, ℕ, ◌+◌, ◌≤◌, ◌==◌, ◌&&◌, ◌||◌, not, Bool, true, false, if◌then◌else◌, List, [], ◌∷◌, ◌++◌, map, filter, find, Option, Some, None, refl, sym, ap, subst, ◌∙◌, arith}
+use Rattle.std.proofs.Common.{◌≡◌, ℕ, ◌+◌, ◌≤◌, ◌==◌, ◌&&◌, ◌||◌, not, Bool, true, false, if◌then◌else◌, List, [], ◌∷◌, ◌++◌, map, filter, find, Some, None, refl, sym, ap, subst, ◌∙◌, arith}
 use Rattle.std.specs.List.{AllByRecursion, list_any}
 use Rattle.std.proofs.lemmas.Bool.{cond_both, and_from, eqb-true, eq-eqb}
-use Rattle.node_rules.specs.Data.{Stmt}
 use Rattle.run_rules.specs.Calls.{is_call_at}
 use Rattle.run_rules.specs.Data.{Command}
 use Rattle.run_rules.specs.Data.commands
 use Rattle.run_rules.specs.Facts.{command_at}
 use Rattle.run_rules.specs.RunReport.{Call}
-use Rattle.run_rules.proofs.ListLemmas.{all_filter, all_map, all_weaker}
+use Rattle.run_rules.proofs.ListLemmas.{all_filter, all_weaker}
 use Rattle.run_ready_laws.proofs.PendingLemmas.{at_parts}
 use Rattle.answer_origin_laws.proofs.CallAtLemmas.{HasShape, AreShaped, named_so}
 

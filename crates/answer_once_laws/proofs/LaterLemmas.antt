@@ -1,20 +1,20 @@
 -- The answer of a call that was waiting stands with the command in whose course the call ended.
-use Rattle.std.proofs.Common.{◌≡◌, ℕ, ◌+◌, ◌<◌, ◌≤◌, ◌==◌, ◌⊎◌, Bool, true, false, if◌then◌else◌, List, [], ◌∷◌, ◌++◌, map, slice_get, Option, Some, None, inl, inr, refl, sym, ap, subst, ◌∙◌, arith, append-nil}
+use Rattle.std.proofs.Common.{◌≡◌, ℕ, ◌+◌, ◌<◌, ◌≤◌, ◌==◌, Bool, true, false, List, [], ◌∷◌, ◌++◌, slice_get, Option, Some, None, refl, sym, ap, subst, ◌∙◌, arith}
 use Rattle.std.proofs.lemmas.Bool.{cond_both, eqb-true}
 use Rattle.node_rules.specs.Data.{Place, Refusal}
 use Rattle.node_rules.specs.Ids.{decimal}
 use Rattle.node_rules.specs.Refusals.{ora, dtx}
 use Rattle.node_rules.specs.Words.{one}
 use Rattle.node_rules.specs.NodeState.{TurnOutput}
-use Rattle.run_rules.specs.Calls.{after_input, finished, stopped_calls}
-use Rattle.run_rules.specs.Data.{AnswerLine, Command, Happening, Said, Turn}
+use Rattle.run_rules.specs.Calls.{finished, stopped_calls}
+use Rattle.run_rules.specs.Data.{Command, Happening, Said, Turn}
 use Rattle.run_rules.specs.Data.happenings
 use Rattle.run_rules.specs.Data.notices
 use Rattle.run_rules.specs.Data.said
 use Rattle.run_rules.specs.Facts.{Facts, command_at, facts_after, outcome_at}
 use Rattle.run_rules.specs.Lawful.{History}
 use Rattle.run_rules.specs.Lines.{page_lines}
-use Rattle.run_rules.specs.Past.{failed_start, start_refused, is_stop_of, stop_line, ends_calls, report_after}
+use Rattle.run_rules.specs.Past.{failed_start, start_refused, is_stop_of, ends_calls, report_after}
 use Rattle.run_rules.specs.RunReport.{Past, RunReport, node_name}
 use Rattle.run_rules.specs.Scripts.{IsTheRunOf}
 use Rattle.run_claims.specs.Places.{past_upto}

@@ -1,30 +1,29 @@
 -- As a command begins the one before was answered once, and the report has its lines; and a new command says what it is answered
 -- at once, or has a pending call, or is a START.
-use Rattle.std.proofs.Common.{◌≡◌, ◌≢◌, ℕ, ◌+◌, ◌<◌, ◌≤◌, ◌==◌, ◌&&◌, ◌||◌, ◌⊎◌, not, Bool, true, false, if◌then◌else◌, List, [], ◌∷◌, ◌++◌, map, find, slice_get, Option, Some, None, inl, inr, refl, sym, ap, subst, ◌∙◌, arith, append-nil}
+use Rattle.std.proofs.Common.{◌≡◌, ℕ, ◌+◌, ◌<◌, ◌≤◌, ◌==◌, ◌&&◌, ◌||◌, not, Bool, true, false, if◌then◌else◌, List, [], ◌∷◌, ◌++◌, map, find, Option, Some, None, inl, inr, refl, sym, ap, subst, ◌∙◌, arith, append-nil}
 use Rattle.std.specs.Prelude.{is_some}
 use Rattle.std.specs.List.{AllByRecursion}
 use Rattle.std.proofs.lemmas.Bool.{cond_both, and_parts, eqb-true, eq-eqb}
 use Rattle.std.proofs.lemmas.Bool.Decides.{nat_tests}
-use Rattle.std.proofs.lemmas.List.{append_assoc}
 use Rattle.node_rules.specs.Data.{Place, Stmt}
-use Rattle.net_bag.specs.Net.{first_flying, may_deliver, may_repeat}
+use Rattle.net_bag.specs.Net.{first_flying}
 use Rattle.run_rules.specs.Calls.{is_call_at, call_at}
 use Rattle.run_rules.specs.Commands.{has_call, has_transaction, call_of, calls_after, commits_first, begins}
 use Rattle.run_rules.specs.Data.{AnswerLine, Command, Said}
 use Rattle.run_rules.specs.Data.commands
-use Rattle.run_rules.specs.Due.{Due, Pends, Starts, act_of, if_due, call_due, due_of}
+use Rattle.run_rules.specs.Due.{Pends, Starts, act_of, if_due, call_due, due_of}
 use Rattle.run_rules.specs.Facts.{Facts, command_at, is_up, node_at}
-use Rattle.run_rules.specs.Lines.{is_down, line, spent, over_line, page_lines, all_lines}
+use Rattle.run_rules.specs.Lines.{line, spent, over_line, page_lines, all_lines}
 use Rattle.run_rules.specs.Reported.{IsBetweenCommands}
 use Rattle.run_rules.specs.RunReport.{Call, Past, RunReport}
 use Rattle.run_rules.proofs.ListLemmas.{all_append, all_weaker}
-use Rattle.answer_once_laws.specs.OnceLaws.{EndsPendingCall, Node_is_down, IsAnswer, Ends_pending_call, Is_fine, Is_refused, Is_shown, IsNotice, Messages_are_left, AreNotices, AnswersOnce, At_once, Waits, Ends_later, waiting, said_of}
+use Rattle.answer_once_laws.specs.OnceLaws.{IsNotice, Messages_are_left, AreNotices, AnswersOnce, Waits, Ends_later, waiting, said_of}
 use Rattle.answer_once_laws.proofs.BetweenLemmas.{IsSettled, between_so}
-use Rattle.answer_once_laws.proofs.CallListLemmas.{pends, AreApart, pending_one, apart_found, more_apart, more_pends, past_pends, all_both}
-use Rattle.answer_once_laws.proofs.OnceStepLemmas.{IsUnsettled, Has_begun, Is_free, Follows_on, Falls_with, StartsNext, OnceSo}
-use Rattle.answer_once_laws.proofs.PageLemmas.{IsStart, OwnIs, EarlierIs, Still_waits, Ended_here, Was_answered, PagesOf, PagesSo}
+use Rattle.answer_once_laws.proofs.CallListLemmas.{pends, AreApart, pending_one, apart_found, more_apart, more_pends, all_both}
+use Rattle.answer_once_laws.proofs.OnceStepLemmas.{IsUnsettled, Has_begun, Is_free, Follows_on, Falls_with, OnceSo}
+use Rattle.answer_once_laws.proofs.PageLemmas.{OwnIs, EarlierIs, Still_waits, Ended_here, Was_answered, PagesSo}
 use Rattle.answer_once_laws.proofs.SayLemmas.{SaysSo, says_so}
-use Rattle.answer_once_laws.proofs.SaidLemmas.{said_append, said_lines, said_others, AreBelow, none_below, notices_more, some_said}
+use Rattle.answer_once_laws.proofs.SaidLemmas.{said_append, said_lines, said_others, AreBelow, none_below, notices_more}
 use Rattle.run_rules.specs.Lawful.{History}
 use Rattle.answer_origin_laws.proofs.CallAtLemmas.{HasShape, AreShaped, named_so}
 

@@ -1,31 +1,29 @@
 -- In the run of a script each command is answered once.
-use Rattle.std.proofs.Common.{◌≡◌, ◌⊎◌, ℕ, zero, suc, ◌+◌, ◌<◌, ◌≤◌, Bool, true, false, if◌then◌else◌, List, [], ◌∷◌, ◌++◌, length, slice_get, Option, Some, None, inl, inr, refl, sym, ap, subst, ◌∙◌, arith}
-use Rattle.std.specs.Prelude.{nat_lt, take}
-use Rattle.std.proofs.lemmas.Bool.Decides.{nat_tests}
+use Rattle.std.proofs.Common.{◌≡◌, ℕ, zero, suc, ◌+◌, ◌≤◌, List, [], ◌∷◌, length, slice_get, Option, Some, None, inl, inr, refl, sym, ap, subst, ◌∙◌, arith}
+use Rattle.std.specs.Prelude.{take}
 use Rattle.run_rules.specs.Data.{Happening}
 use Rattle.run_rules.specs.Data.happenings
-use Rattle.run_rules.specs.Due.{Due, Begins, Ends, due_of, happens, comes_next}
+use Rattle.run_rules.specs.Due.{Ends, due_of}
 use Rattle.run_rules.specs.Facts.{Facts, command_at, facts_after}
 use Rattle.run_rules.specs.Lawful.{History}
 use Rattle.run_rules.specs.Lines.{all_lines}
-use Rattle.run_rules.specs.Past.{report_after, next, past}
+use Rattle.run_rules.specs.Past.{report_after, past}
 use Rattle.run_rules.specs.Reported.{IsBetweenCommands, past_of}
 use Rattle.run_rules.specs.RunReport.{Past, start}
 use Rattle.run_rules.specs.Scripts.{IsTheRunOf}
-use Rattle.run_claims.specs.Places.{past_upto, reported_of}
+use Rattle.run_claims.specs.Places.{past_upto}
 use Rattle.answer_origin_laws.proofs.CallAtLemmas.{AreShaped}
 use Rattle.answer_origin_laws.proofs.CallTurnLemmas.{all_so}
 use Rattle.answer_origin_laws.proofs.ComeLemmas.{due_there}
 use Rattle.answer_origin_laws.proofs.UptoLemmas.{due_at, next_is, none_more, one_more}
 use Rattle.commit_course_laws.proofs.DueLemmas.{begins_is}
-use Rattle.answer_once_laws.specs.OnceLaws.{AnswersOnce, said_of, WasDone, EachIsAnsweredOnce, AllAreAnsweredOnce}
+use Rattle.answer_once_laws.specs.OnceLaws.{AnswersOnce, said_of, EachIsAnsweredOnce, AllAreAnsweredOnce}
 use Rattle.answer_once_laws.proofs.BetweenLemmas.{ends_over}
 use Rattle.answer_once_laws.proofs.CallListLemmas.{pends}
 use Rattle.answer_once_laws.proofs.OnceBeginLemmas.{begun_so, each_once, said_earlier, earlier_once}
 use Rattle.answer_once_laws.proofs.OnceStepLemmas.{OnceSo, started_so, rest_so}
 use Rattle.answer_once_laws.proofs.OnceStopLemmas.{stopped_so}
 use Rattle.answer_once_laws.proofs.OnceTurnLemmas.{turn_so}
-use Rattle.answer_once_laws.proofs.PageLemmas.{PagesOf}
 
 module _ (t : History) (run : IsTheRunOf t) where
   -- ---- each moment

@@ -1,49 +1,31 @@
 -- What is told so far stays so through a turn: the calls that it ends are answered, and the call that came in it is told to wait
 -- where HOLD is on.
-use Rattle.std.proofs.Common.{◌≡◌, ◌≢◌, ℕ, ◌+◌, ◌<◌, ◌≤◌, ◌==◌, ◌&&◌, ◌||◌, ◌⊎◌, not, Bool, true, false, if◌then◌else◌, List, [], ◌∷◌, ◌++◌, find, is_none, length, slice_get, IfSome, Option, Some, None, inl, inr, refl, sym, ap, subst, ◌∙◌, arith}
-use Rattle.std.specs.Prelude.{is_some}
-use Rattle.std.specs.List.{AllByRecursion}
-use Rattle.std.proofs.lemmas.Bool.{cond_both, and_parts, and_from, eqb-true, eq-eqb}
-use Rattle.node_rules.specs.Data.{Input, Stmt}
-use Rattle.node_rules.specs.Data.inputs
-use Rattle.node_rules.specs.NodeState.{NodeState, TurnOutput}
-use Rattle.run_rules.specs.Calls.{is_call_at, call_at, after_input, finished, stopped_calls}
-use Rattle.run_rules.specs.Data.{Command, Happening, Said, Turn}
-use Rattle.run_rules.specs.Data.commands
+use Rattle.std.proofs.Common.{◌≡◌, ℕ, ◌≤◌, ◌&&◌, ◌⊎◌, Bool, true, false, if◌then◌else◌, List, [], ◌∷◌, find, is_none, slice_get, Option, Some, None, inl, inr, refl, sym, ap, subst, ◌∙◌}
+use Rattle.node_rules.specs.NodeState.{TurnOutput}
+use Rattle.run_rules.specs.Calls.{is_call_at, call_at, after_input, finished}
+use Rattle.run_rules.specs.Data.{Happening, Said, Turn}
 use Rattle.run_rules.specs.Data.happenings
-use Rattle.run_rules.specs.Disks.{Strike, struck}
-use Rattle.run_rules.specs.Due.{start_by}
-use Rattle.run_rules.specs.Each.{facts_upto}
-use Rattle.run_rules.specs.Facts.{Facts, command_at, facts_after, is_up, node_at, outcome_at, place_at, served}
-use Rattle.run_rules.specs.Lawful.{History, MayStop}
-use Rattle.run_rules.specs.Lines.{fine, is_down, with_own, with_stop}
-use Rattle.run_rules.specs.Past.{acts, failed_start, start_refused, started_says, is_stop_of, stop_line, report_stopped, report_started, ends_calls, report_turned, report_after}
-use Rattle.run_rules.specs.RunReport.{Call, CommandOutput, Past, RunReport, orders_at}
+use Rattle.run_rules.specs.Facts.{Facts, facts_after, node_at, outcome_at, place_at, served}
+use Rattle.run_rules.specs.Lawful.{History}
+use Rattle.run_rules.specs.Past.{acts, ends_calls, report_after}
+use Rattle.run_rules.specs.RunReport.{Call, CommandOutput, Past, RunReport}
 use Rattle.run_rules.specs.Scripts.{IsTheRunOf}
-use Rattle.run_rules.specs.Cuts.{appends}
 use Rattle.run_claims.specs.Places.{past_upto}
-use Rattle.run_ready_laws.proofs.OtherStandLemmas.{IsQuiet}
-use Rattle.run_ready_laws.proofs.PendingLemmas.{at_parts, follows_at}
+use Rattle.run_ready_laws.proofs.PendingLemmas.{at_parts}
 use Rattle.run_rules.proofs.ListLemmas.{all_weaker}
 use Rattle.run_ready_laws.proofs.RunLawfulLemmas.{the_run_is_lawful}
-use Rattle.run_ready_laws.proofs.StandCallLemmas.{is_own, is_fresh, CallsStand}
-use Rattle.answer_origin_laws.specs.CallTurns.{TurnOf}
 use Rattle.answer_origin_laws.proofs.CallAtLemmas.{HasShape, found_at}
-use Rattle.answer_origin_laws.proofs.CallTurnLemmas.{all_so}
-use Rattle.answer_origin_laws.proofs.ComeLemmas.{CallsSo, input_same, due_there, its_turn, before_end, before_so}
+use Rattle.answer_origin_laws.proofs.ComeLemmas.{input_same, due_there, its_turn, before_end, before_so}
 use Rattle.answer_origin_laws.proofs.DueCallLemmas.{ComesNow, DueIs}
 use Rattle.answer_origin_laws.proofs.SameToldLemmas.{ToldBefore}
-use Rattle.answer_origin_laws.proofs.UptoLemmas.{facts_there, due_at, stand_at, may_at, next_is, one_more}
-use Rattle.answer_done_laws.proofs.LineStayLemmas.{Has, found_has, Grows, finished_grows, stopped_grows}
-use Rattle.commit_course_laws.proofs.WayLemmas.{finished_way, stopped_way, input_way, turn_before}
-use Rattle.answer_once_laws.specs.OnceLaws.{IsAnswer, Ends_pending_call, Node_is_down, Is_fine, AnswersOnce}
-use Rattle.answer_once_laws.proofs.BetweenLemmas.{start_comes}
-use Rattle.answer_once_laws.proofs.CallListLemmas.{pends, pending_one, all_both, apart_found, found_pends, one_session}
+use Rattle.answer_origin_laws.proofs.UptoLemmas.{facts_there, may_at}
+use Rattle.answer_done_laws.proofs.LineStayLemmas.{Has, finished_grows}
+use Rattle.commit_course_laws.proofs.WayLemmas.{finished_way, input_way, turn_before}
+use Rattle.answer_once_laws.proofs.CallListLemmas.{pends, pending_one, all_both, apart_found, one_session}
 use Rattle.answer_once_laws.proofs.OwnEndLemmas.{completes_own}
-use Rattle.answer_once_laws.proofs.PageEndLemmas.{finished_pages, input_pages, stopped_pages, stop_pages, start_calls_nothing, start_pages}
-use Rattle.answer_once_laws.proofs.PageLemmas.{IsStart, OwnIs, PagesSo, pages_same}
-use Rattle.answer_once_laws.proofs.PageLessLemmas.{IsRunning, finished_less, finished_next, Unsaid, unsaid, stopped_less, stopped_gone}
-use Rattle.answer_once_laws.proofs.SaidLemmas.{some_said}
+use Rattle.answer_once_laws.proofs.PageEndLemmas.{finished_pages, input_pages}
+use Rattle.answer_once_laws.proofs.PageLemmas.{PagesSo, pages_same}
+use Rattle.answer_once_laws.proofs.PageLessLemmas.{IsRunning, finished_less, finished_next, Unsaid, unsaid}
 use Rattle.answer_once_laws.proofs.OnceStepLemmas.{OnceSo, IsUnsettled, Has_begun, Is_free, Follows_on, Falls_with, StartsNext, calls, stand, fresh_first, start_or_stop, was_start}
 
 -- it is no turn

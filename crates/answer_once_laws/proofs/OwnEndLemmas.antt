@@ -1,5 +1,5 @@
 -- A turn that a client's call comes to completes no call but that one: all others that it ends are refused.
-use Rattle.std.proofs.Common.{◌≡◌, ℕ, zero, suc, ◌&&◌, Bool, true, false, if◌then◌else◌, List, [], ◌∷◌, ◌++◌, length, IfSome, Option, Some, None, refl, sym, ap, subst, ◌∙◌}
+use Rattle.std.proofs.Common.{◌≡◌, ℕ, Bool, true, false, if◌then◌else◌, List, [], ◌∷◌, ◌++◌, IfSome, Option, Some, None, refl, sym, ap, subst, ◌∙◌}
 use Rattle.std.specs.Prelude.{slice_get, take}
 use Rattle.std.specs.List.{AllByRecursion}
 use Rattle.std.proofs.lemmas.Bool.{cond_both}
@@ -7,7 +7,6 @@ use Rattle.commit_forget.specs.declared.next.Next.TheVariants as nexts
 use Rattle.node_rules.specs.Data.{Act, Answer, BranchId, Decision, Input, KeptRow, Kind, Live, Next, Place, Refusal, Stmt}
 use Rattle.node_rules.specs.Data.acts
 use Rattle.node_rules.specs.Data.answers
-use Rattle.node_rules.specs.Data.decisions
 use Rattle.node_rules.specs.Data.inputs
 use Rattle.node_rules.specs.declared.session.Finished.{Finished}
 use Rattle.node_rules.specs.declared.session.Session.{Session}
@@ -20,7 +19,7 @@ use Rattle.node_rules.specs.Sessions.{commit_is_pending, commit_answer}
 use Rattle.node_rules.specs.Statement.{ran, after_run}
 use Rattle.node_rules.specs.Turn.{turn_of, heard, draft_of}
 use Rattle.node_rules.proofs.Steps as steps
-use Rattle.node_rules.proofs.Steps.{Step, Asked, Acting, Collects, Answers, Doing}
+use Rattle.node_rules.proofs.Steps.{Step, Asked, Acting, Collects, Doing}
 use Rattle.run_base_laws.proofs.LawfulLemmas.{serves}
 use Rattle.run_base_laws.proofs.RestRunLemmas.{NodeRests, heard_rests, run_roots}
 use Rattle.run_base_laws.proofs.RootLemmas.{SessionsFit, begun_so, pends_so}
@@ -29,11 +28,10 @@ use Rattle.run_rules.specs.Data.{Happening, Turn}
 use Rattle.run_rules.specs.Data.happenings
 use Rattle.run_rules.specs.Data.pending
 use Rattle.run_rules.specs.Each.{facts_upto}
-use Rattle.run_rules.specs.Facts.{node_at, place_at, served, outcome_at}
+use Rattle.run_rules.specs.Facts.{place_at, served, outcome_at}
 use Rattle.run_rules.specs.Lawful.{History, IsLawfulRun}
 use Rattle.tree_laws.proofs.AtTurn.{at_turn}
 use Rattle.tree_laws.proofs.PrefixLemmas.{f_at}
-use Rattle.tree_laws.proofs.TimeLemmas.{may_of}
 use Rattle.answer_origin_laws.proofs.PartLemmas.{split_at}
 use Rattle.answer_origin_laws.proofs.ReplyRunLemmas.{prefix}
 

@@ -1,22 +1,20 @@
 -- The pages so far, through the calls that a turn ends, a call that waits, a stop, and a start.
-use Rattle.std.proofs.Common.{◌≡◌, ◌≢◌, ℕ, ◌+◌, ◌<◌, ◌≤◌, ◌==◌, ◌&&◌, ◌⊎◌, not, Bool, true, false, if◌then◌else◌, List, [], ◌∷◌, ◌++◌, map, filter, find, is_none, Option, Some, None, inl, inr, refl, sym, ap, subst, ◌∙◌, arith}
+use Rattle.std.proofs.Common.{◌≡◌, ℕ, ◌==◌, ◌&&◌, Bool, true, false, List, [], ◌∷◌, is_none, Option, Some, None, inr, refl, sym, ap, subst, ◌∙◌}
 use Rattle.std.specs.List.{AllByRecursion}
-use Rattle.std.proofs.lemmas.Bool.{cond_both, eqb-true, eq-eqb}
+use Rattle.std.proofs.lemmas.Bool.{cond_both, eqb-true}
 use Rattle.node_rules.specs.Data.{Input, Place, Stmt}
 use Rattle.node_rules.specs.Data.inputs
 use Rattle.node_rules.specs.declared.session.Finished.{Finished}
 use Rattle.run_rules.specs.Calls.{is_call_at, call_at, without_call, change_call, is_complete, second_of, call_follows, call_ends, ends_or_follows, finished_call, finished, stopped_calls, waits, waits_if_pending, after_input}
 use Rattle.run_rules.specs.Data.{Command, Said}
-use Rattle.run_rules.specs.Data.commands
 use Rattle.run_rules.specs.Facts.{command_at}
 use Rattle.run_rules.specs.Lines.{says_node, is_down, call_line, with_own, with_stop}
 use Rattle.run_rules.specs.RunReport.{Call, RunReport}
 use Rattle.run_rules.proofs.ListLemmas.{all_append, all_weaker}
-use Rattle.run_ready_laws.proofs.PendingLemmas.{at_parts}
 use Rattle.answer_origin_laws.proofs.CallAtLemmas.{HasShape, AreShaped, named_so, found_at, one_command, changed_shapes}
-use Rattle.answer_once_laws.specs.OnceLaws.{IsAnswer, By_node, Node_is_down, IsNotice, Node_stopped, AreNotices, AnswersOnce, At_once, waiting, said_of}
+use Rattle.answer_once_laws.specs.OnceLaws.{IsAnswer, By_node, Node_is_down, IsNotice, Node_stopped, At_once, waiting, said_of}
 use Rattle.answer_once_laws.proofs.CallListLemmas.{pends, AreApart, all_both, found_pends, pending_one, apart_found, IsSame, AreSame, apart_map, pends_map, past_map}
-use Rattle.answer_once_laws.proofs.PageLemmas.{IsStart, OwnIs, EarlierIs, PagesOf, PagesSo, pages_same, ends_so, ends_left}
+use Rattle.answer_once_laws.proofs.PageLemmas.{IsStart, OwnIs, EarlierIs, PagesSo, ends_so, ends_left}
 
 module _ (places : List Place) (asked : List Command) (r : ℕ) where
   abbrev So : RunReport → Type 0

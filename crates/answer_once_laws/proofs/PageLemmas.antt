@@ -1,29 +1,27 @@
 -- What is told so far answers each earlier command once: `waiting` while its call is pending, and one answer where it is not.
 -- What a call that ends, a call that waits and a stop add keeps it so.
-use Rattle.std.proofs.Common.{◌≡◌, ◌≢◌, ℕ, ◌+◌, ◌<◌, ◌≤◌, ◌==◌, ◌&&◌, ◌⊎◌, not, Bool, true, false, if◌then◌else◌, List, [], ◌∷◌, ◌++◌, map, filter, find, is_none, Option, Some, None, inl, inr, refl, sym, ap, subst, ◌∙◌, arith, append-nil}
+use Rattle.std.proofs.Common.{◌≡◌, ℕ, ◌+◌, ◌<◌, ◌≤◌, ◌==◌, ◌&&◌, ◌⊎◌, not, Bool, true, false, if◌then◌else◌, List, [], ◌∷◌, ◌++◌, map, find, Option, Some, None, inl, inr, refl, sym, ap, subst, ◌∙◌, arith, append-nil}
 use Rattle.std.specs.List.{AllByRecursion}
-use Rattle.std.proofs.lemmas.Bool.{cond_both, eqb-true, eq-eqb}
+use Rattle.std.proofs.lemmas.Bool.{eqb-true, eq-eqb}
 use Rattle.std.proofs.lemmas.Bool.Decides.{nat_tests}
 use Rattle.std.proofs.lemmas.List.{append_assoc}
-use Rattle.node_rules.specs.Data.{Input, Place, Stmt}
-use Rattle.node_rules.specs.Data.inputs
-use Rattle.node_rules.specs.declared.session.Finished.{Finished}
+use Rattle.node_rules.specs.Data.{Place}
 use Rattle.node_rules.specs.Points.{Point}
 use Rattle.node_rules.specs.Refusals.{ora}
 use Rattle.node_rules.specs.Words.{one}
 use Rattle.node_rules.specs.Ids.{decimal}
-use Rattle.run_rules.specs.Calls.{is_call_at, call_at, without_call, change_call, is_complete, second_of, call_follows, call_ends, ends_or_follows, finished_call, finished, stopped_calls, waits, waits_if_pending, after_input}
+use Rattle.run_rules.specs.Calls.{is_call_at, call_at, without_call, waits}
 use Rattle.run_rules.specs.Data.{AnswerLine, Command, Said}
 use Rattle.run_rules.specs.Data.commands
 use Rattle.run_rules.specs.Facts.{command_at}
-use Rattle.run_rules.specs.Lines.{is_reached, says_node, refuses_with, line, put_line, with_own, with_other, call_line_of, reached_line, call_line}
+use Rattle.run_rules.specs.Lines.{is_reached, refuses_with, line, put_line, with_own, with_other, call_line_of, reached_line, call_line}
 use Rattle.run_rules.specs.RunReport.{Call, CommandOutput, RunReport}
 use Rattle.run_rules.proofs.ListLemmas.{all_filter}
 use Rattle.run_ready_laws.proofs.PendingLemmas.{at_parts, found_so, line_same}
-use Rattle.answer_origin_laws.proofs.CallAtLemmas.{HasShape, AreShaped, named_so, found_at, find_kept, one_command, changed_shapes}
-use Rattle.answer_once_laws.specs.OnceLaws.{EndsPendingCall, By_node, Node_is_down, Ends_pending_call, IsNotice, Point_is_reached, AreNotices, AnswersOnce, At_once, Ends_later, waiting, said_of}
-use Rattle.answer_once_laws.proofs.SaidLemmas.{said_append, said_own, said_lines, said_others, AreBelow, AreSorted, put_below, put_sorted, said_put}
-use Rattle.answer_once_laws.proofs.CallListLemmas.{pends, AreApart, found_pends, apart_found, apart_filter, IsSame, apart_map, pends_map, past_map, gone_pends}
+use Rattle.answer_origin_laws.proofs.CallAtLemmas.{HasShape, AreShaped, found_at, find_kept}
+use Rattle.answer_once_laws.specs.OnceLaws.{EndsPendingCall, Ends_pending_call, Point_is_reached, AreNotices, AnswersOnce, At_once, Ends_later, waiting, said_of}
+use Rattle.answer_once_laws.proofs.SaidLemmas.{said_append, said_lines, said_others, AreBelow, AreSorted, put_below, put_sorted, said_put}
+use Rattle.answer_once_laws.proofs.CallListLemmas.{pends, AreApart, found_pends, apart_filter, gone_pends}
 
 -- ---- lines put for an earlier command
 

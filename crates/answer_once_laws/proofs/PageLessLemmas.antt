@@ -1,8 +1,8 @@
 -- What becomes of the pending calls as a turn's calls end and a node stops: no command gets one; a second call that follows is
 -- of the command whose session the turn's call is of; and no call of the node that stops is left.
-use Rattle.std.proofs.Common.{◌≡◌, ℕ, ◌==◌, ◌&&◌, ◌⊎◌, not, Bool, true, false, if◌then◌else◌, List, [], ◌∷◌, map, filter, find, is_none, Option, Some, None, inl, inr, refl, sym, ap, subst, ◌∙◌, arith}
+use Rattle.std.proofs.Common.{◌≡◌, ℕ, ◌==◌, ◌&&◌, ◌⊎◌, not, Bool, true, false, if◌then◌else◌, List, [], ◌∷◌, map, is_none, Option, Some, None, inl, inr, refl, sym, ap, subst, ◌∙◌}
 use Rattle.std.specs.List.{AllByRecursion}
-use Rattle.std.proofs.lemmas.Bool.{cond_both, and_parts, eqb-true, eq-eqb}
+use Rattle.std.proofs.lemmas.Bool.{cond_both, and_parts, eq-eqb}
 use Rattle.node_rules.specs.Data.{Input, Place, Stmt}
 use Rattle.node_rules.specs.Data.inputs
 use Rattle.node_rules.specs.declared.session.Finished.{Finished}
@@ -12,13 +12,13 @@ use Rattle.run_rules.specs.Lines.{says_node, is_down, call_line, with_own}
 use Rattle.run_rules.specs.RunReport.{Call, RunReport}
 use Rattle.run_rules.proofs.ListLemmas.{all_filter, all_weaker}
 use Rattle.run_ready_laws.proofs.PendingLemmas.{found_so, line_same}
-use Rattle.answer_origin_laws.proofs.CallAtLemmas.{AreShaped, found_at}
+use Rattle.answer_origin_laws.proofs.CallAtLemmas.{found_at}
 use Rattle.answer_done_laws.proofs.LineStayLemmas.{Has}
 use Rattle.answer_once_laws.specs.OnceLaws.{EndsPendingCall, By_node, Node_is_down, waiting}
-use Rattle.answer_once_laws.proofs.CallListLemmas.{pends, AreApart, all_both, apart_found, IsSame, AreSame, pends_map}
+use Rattle.answer_once_laws.proofs.CallListLemmas.{pends, AreApart, all_both, apart_found, AreSame, pends_map}
 use Rattle.answer_once_laws.proofs.OwnEndLemmas.{CompletesOwn}
 use Rattle.answer_once_laws.proofs.PageLemmas.{PagesSo, ends_so, ends_left, pends_now, pends_own}
-use Rattle.answer_once_laws.proofs.PageEndLemmas.{its_own, follows_same, follows_pages, one_pages, call_pages}
+use Rattle.answer_once_laws.proofs.PageEndLemmas.{its_own, follows_same, one_pages}
 
 and_first : (a b : Bool) → (a && b) ≡ true → a ≡ true
 and_first a b is = (and_parts a b is).0

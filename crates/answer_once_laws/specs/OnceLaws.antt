@@ -1,7 +1,7 @@
 -- Each command is answered once: its lines in the report are its answer, or `waiting` and later the answer with which its
 -- pending call ended, and notices of what happened beside. (Database Administrator's Guide, "Distributed Transactions
 -- Concepts": the session that waits for its call.)
-use Rattle.std.specs.Prelude.{◌≡◌, ◌≢◌, ◌⊎◌, ℕ, ◌+◌, ◌<◌, ◌≤◌, ◌==◌, Bool, true, false, List, [], ◌∷◌, ◌++◌, map, filter, length, codes, slice_get}
+use Rattle.std.specs.Prelude.{◌≡◌, ◌≢◌, ◌⊎◌, ℕ, ◌+◌, ◌<◌, ◌≤◌, ◌==◌, Bool, true, false, List, [], ◌∷◌, ◌++◌, map, filter, length, codes}
 use Rattle.std.specs.List.{AllByRecursion, list_any}
 use Rattle.node_rules.specs.Data.{Answer, Place}
 use Rattle.node_rules.specs.Words.{one}
@@ -9,7 +9,6 @@ use Rattle.node_rules.specs.Ids.{decimal}
 use Rattle.node_rules.specs.Refusals.{ora, dtx}
 use Rattle.run_rules.specs.Data.{AnswerLine, Command, Said}
 use Rattle.run_rules.specs.Data.commands
-use Rattle.run_rules.specs.Data.happenings
 use Rattle.run_rules.specs.Data.notices
 use Rattle.run_rules.specs.Data.said
 use Rattle.run_rules.specs.Due.{Ends, due_of}
