@@ -255,7 +255,7 @@ module _ (t : History) (whole : IsLawfulRun t) (hs : List Happening) (u : Turn) 
       by_knows n (inr learnt) = (let sealed = (inv_at t whole hs part).learned_sealed g (decisions.Commit n) learnt in let yes = sealed_prepared s0 lawful g sealed.0 sealed.1 in absurd (cc (yes, none)))
 
       sealed_row : (s : KeptRow) → kept_row_at k g ≡ Some s → s.decision ≡ None → ⊥
-      sealed_row s there no = (let known : IsKnown e s None = subst (IsKnown e s) no (row_of s there).known in
+      sealed_row s there unknown = (let known : IsKnown e s None = subst (IsKnown e s) unknown (row_of s there).known in
           let yes = sealed_prepared s0 lawful g s.scn (subst (λ c. exit e c ≡ Some (exits.Sealed s.scn)) (row_me s there) known.0) in absurd (cc (yes, none)))
 
       by : Holds k.lives k.stored.durable.kept g → Ends (tran_refusal 2050 g)
@@ -263,7 +263,7 @@ module _ (t : History) (whole : IsLawfulRun t) (hs : List Happening) (u : Turn) 
           by_given given (tran_refusal 2050 g) (Some live.0) live.1
           (subst (λ i. EndsCall (record { session = g.session; answer = tran_refusal 2050 g }) (commit_answer k.sessions i (tran_refusal 2050 g))) (sym (item_is live_id k.lives g live.0 live.1))
           (own_ends k.sessions g pending_it.root pending_it.call (tran_refusal 2050 g)))
-      by (inr kept) = absurd (well_row kept.0 kept.2 (λ at no fresh. sealed_row kept.0 kept.1 no)
+      by (inr kept) = absurd (well_row kept.0 kept.2 (λ at unknown fresh. sealed_row kept.0 kept.1 unknown)
           (λ n at known fresh. by_knows n (subst (λ c. Knows e c n) (row_me kept.0 kept.1) (subst (IsKnown e kept.0) known (row_of kept.0 kept.1).known))))
 
   pub given_in_doubt : IsInDoubt f.book g → IsGivenUp g u.input → Ends (tran_refusal 2054 g)

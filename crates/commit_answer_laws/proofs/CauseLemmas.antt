@@ -98,8 +98,8 @@ pub forces_so : (t : History) (whole : IsLawfulRun t) (hs : List Happening) (u :
 forces_so t whole hs u rest is uncut k up b d given wrote = (owed_by u.cut uncut (turn_of_node t.places (f_at t hs) u k t.commands (may_of t whole hs (happenings.Turn u) rest is) up).owed, force)
   where
     owed_by : (cut : Bool) → cut ≡ false → IsOwed (place_at t.places u.node) k u.input u.wrote u.sent cut → u.wrote ≡ (turn_of (place_at t.places u.node) k u.input).wrote
-    owed_by true no owed = absurd cc
-    owed_by false no owed = owed.0
+    owed_by true uncut_so owed = absurd cc
+    owed_by false uncut_so owed = owed.0
 
     knows : TurnKnows t.places (f_at t hs) (tr_at t hs) u k
     knows = at_moment t KnowsEnough (every_turn_knows t whole) hs (happenings.Turn u) rest is k up

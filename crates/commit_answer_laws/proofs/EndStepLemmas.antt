@@ -190,7 +190,7 @@ module _ (k0 : NodeState) (input : Input) (g : BranchId) (a : Answer) where
 
     module _ (k : NodeState) (now : Known k) where
       alone_ends : (here : Bool) (l : Live) → EndsCall its (if here then commit_answer k.sessions l.me commit_complete else []) → (here ≡ true) × (l.me ≡ g) × (a ≡ commit_complete)
-      alone_ends true l is = (refl, commit_its k.sessions now.root l.me commit_complete is)
+      alone_ends true l is = (let one = commit_its k.sessions now.root l.me commit_complete is in (refl, one.0, one.1))
       alone_ends false l none = absurd none
 
       -- a root without neighbours decides

@@ -299,7 +299,7 @@ module _ (t : History) (whole : IsLawfulRun t) (g : BranchId) (a : Answer) (it :
   -- ---- each end
 
   undecided : a ≡ tran_refusal 2050 g → StepEnd k u.input o.after o.wrote o.sent g a → (b : BranchId) (n : ℕ) → exit (events_of t) b ≡ Some (exits.Decided n) → p.root b ≡ g → ⊥
-  undecided asked (Has_decided r l live wrote its none is) = absurd (not_complete g (sym asked ∙ is))
+  undecided asked (Has_decided r l live wrote its alone is) = absurd (not_complete g (sym asked ∙ is))
   undecided asked (Has_no_site leaves top_is ends is) = absurd (not_complete g (sym asked ∙ is))
   undecided asked (Has_forgotten s row wrote is) = absurd (not_complete g (sym asked ∙ is))
   undecided asked (Hears_abort from sb came leaves answers is) = drop_undecided leaves
@@ -381,7 +381,7 @@ module _ (t : History) (whole : IsLawfulRun t) (g : BranchId) (a : Answer) (it :
       in_book g r.scn last (root_is born.0 born.1)
 
   known_ends : a ≡ tran_refusal 2053 g → StepEnd k u.input o.after o.wrote o.sent g a → IsDecided t g
-  known_ends asked (Has_decided r y live wrote its none is) = decided_in_book r y live wrote its
+  known_ends asked (Has_decided r y live wrote its alone is) = decided_in_book r y live wrote its
   known_ends asked (Has_no_site leaves top_is ends is) = absurd (not_complete_known g (sym asked ∙ is))
   known_ends asked (Has_forgotten s row wrote is) = forgot_in_book s row wrote
   known_ends asked (Hears_abort from sb came leaves answers is) = absurd (not_known g (sym is ∙ asked))
@@ -396,7 +396,7 @@ module _ (t : History) (whole : IsLawfulRun t) (g : BranchId) (a : Answer) (it :
   known_decided asked = known_ends asked end
 
   complete_ends : a ≡ commit_complete → StepEnd k u.input o.after o.wrote o.sent g a → IsDecided t g ⊎ (LeavesUnrecorded k o.after o.wrote o.sent g × HadNoSite t g × IsUndecided t g)
-  complete_ends asked (Has_decided r y live wrote its none is) = inl (decided_in_book r y live wrote its)
+  complete_ends asked (Has_decided r y live wrote its alone is) = inl (decided_in_book r y live wrote its)
   complete_ends asked (Has_no_site leaves top_is ends is) = inr (leaves, had_no_site t whole hs u it.later it.is k up g leaves.live (l_me leaves) leaves.there top_is ends, undecided_book (drop_undecided leaves))
   complete_ends asked (Has_forgotten s row wrote is) = inl (forgot_in_book s row wrote)
   complete_ends asked (Hears_abort from sb came leaves answers is) = absurd (not_complete g (sym is ∙ asked))
