@@ -218,9 +218,9 @@ module _ (t : History) (whole : IsLawfulRun t) (g : BranchId) (a : Answer) (it :
       agrees_by (On_answer from v sb answers other all nowhere) = record {
         last = inl (subst (λ c. IsLastVote tr c u.input) me (last_of from v sb answers all));
         unaborted = λ abort. (let m : Msg = abort.1 in
-          let came : Some answers.kind ≡ Some m.kind = sym (ap kind_in answers.came.is) ∙ ap kind_in abort.2.came in
-          let kind : answers.kind ≡ m.kind = cc in
-          other (vote_abort v (answers.is_vote ∙ ap Some (kind ∙ abort.3))));
+            let came : Some answers.kind ≡ Some m.kind = sym (ap kind_in answers.came.is) ∙ ap kind_in abort.2.came in
+            let kind : answers.kind ≡ m.kind = cc in
+            other (vote_abort v (answers.is_vote ∙ ap Some (kind ∙ abort.3))));
       }
       agrees_by (At_once n given call root code none nowhere) =
           let may : MayTurn t.places f u k = its_turn t whole g a it in

@@ -261,10 +261,10 @@ module _ (p : Place) (input : Input) where
     prepared = call_prepares (begun_by p k n None) call;
     way = λ none. absurd (none n s call rows);
     free = λ m st other of_rows commits. (let y : Session = record (session_at k.sessions n) { seq = (new_root p k n).seq; root = Some (new_root p k n) } in
-      elim (session_or_before k.sessions n m y) [
-        | inl still ↦ now.free m st other of_rows (sym (ap (λ (x : Session). x.call) still) ∙ commits)
-        | inr new ↦ now.free m st other of_rows (ap (λ i. (session_at k.sessions i).call) (sym new.0) ∙ (sym (ap (λ (x : Session). x.call) new.1) ∙ commits))
-      ]);
+        elim (session_or_before k.sessions n m y) [
+          | inl still ↦ now.free m st other of_rows (sym (ap (λ (x : Session). x.call) still) ∙ commits)
+          | inr new ↦ now.free m st other of_rows (ap (λ i. (session_at k.sessions i).call) (sym new.0) ∙ (sym (ap (λ (x : Session). x.call) new.1) ∙ commits))
+        ]);
     alone = λ none. absurd (none n s call rows);
   }
 

@@ -35,9 +35,9 @@ module _ (ss : List Session) (m : ℕ) where
   set_same n s root call b has commits = elim (session_or_before ss n m s) [
     | inl still ↦ (sym (ap (λ (x : Session). x.root) still) ∙ has, sym (ap (λ (x : Session). x.call) still) ∙ commits)
     | inr new ↦ (
-        ap (λ i. (session_at ss i).root) (sym new.0) ∙ (sym root ∙ (sym (ap (λ (x : Session). x.root) new.1) ∙ has)),
-        ap (λ i. (session_at ss i).call) (sym new.0) ∙ (sym call ∙ (sym (ap (λ (x : Session). x.call) new.1) ∙ commits)),
-      )
+      ap (λ i. (session_at ss i).root) (sym new.0) ∙ (sym root ∙ (sym (ap (λ (x : Session). x.root) new.1) ∙ has)),
+      ap (λ i. (session_at ss i).call) (sym new.0) ∙ (sym call ∙ (sym (ap (λ (x : Session). x.call) new.1) ∙ commits)),
+    )
   ]
 
   -- a session with a transaction is there
@@ -52,9 +52,9 @@ module _ (ss : List Session) (m : ℕ) where
         was.0,
         was.1,
         λ same. (let at : n ≡ m = sym (fit.each n c root) ∙ (ap (λ (x : BranchId). x.session) (sym same) ∙ fit.each m b was.0) in
-          let gone : (session_at (set_numbered ss n (no_transaction (session_at ss n))) n).root ≡ None = ap (λ (s : Session). s.root) (cleared n (numbered ss n) refl c root) in
-          let none : (session_at (set_numbered ss n (no_transaction (session_at ss n))) m).root ≡ None = subst (λ i. (session_at (set_numbered ss n (no_transaction (session_at ss n))) i).root ≡ None) at gone in
-          absurd (cc (none, has))),
+            let gone : (session_at (set_numbered ss n (no_transaction (session_at ss n))) n).root ≡ None = ap (λ (s : Session). s.root) (cleared n (numbered ss n) refl c root) in
+            let none : (session_at (set_numbered ss n (no_transaction (session_at ss n))) m).root ≡ None = subst (λ i. (session_at (set_numbered ss n (no_transaction (session_at ss n))) i).root ≡ None) at gone in
+            absurd (cc (none, has))),
       )
 
   pub ended_less : RootsFit ss → (c : BranchId) → Less c (commit_ended ss c)
