@@ -3,7 +3,6 @@ use Rattle.std.proofs.Common.{◌≡◌, ℕ, zero, suc, ◌+◌, ◌<◌, ◌�
 use Rattle.std.specs.Prelude.{◌⊎◌, true, slice_get, take}
 use Rattle.tran_ids.proofs.ListedLemmas.{item_is}
 use Rattle.node_rules.specs.Data.{Answer, BranchId, Stmt}
-use Rattle.node_rules.specs.Data.answers
 use Rattle.node_rules.specs.Data.inputs
 use Rattle.node_rules.specs.Data.stmts
 use Rattle.node_rules.specs.declared.session.Finished.{Finished}
@@ -21,6 +20,7 @@ use Rattle.run_rules.specs.Each.{facts_upto, trail_upto}
 use Rattle.run_rules.specs.Facts.{command_at, node_at, outcome_at, place_at, served}
 use Rattle.run_rules.specs.Lawful.{History, IsLawfulRun, MayTurn}
 use Rattle.run_rules.specs.Scripts.{IsTheRunOf}
+use Rattle.run_rules.specs.Trail.{trail_after}
 use Rattle.run_claims.specs.Places.{past_upto}
 use Rattle.run_claims.specs.ReportedDone.{ComesIn, CameTo}
 use Rattle.run_base_laws.proofs.RootLemmas.{SessionsFit}
@@ -41,7 +41,9 @@ use Rattle.answer_origin_laws.proofs.ReplyRunLemmas.{prefix}
 use Rattle.answer_origin_laws.proofs.ToldTurnLemmas.{lines_come_from_turns}
 use Rattle.answer_origin_laws.proofs.UptoLemmas.{facts_there, may_at}
 use Rattle.commit_answer_laws.specs.CommitEndLaws.{EndsCall, CommitPends}
-use Rattle.commit_answer_laws.specs.CommitLines.{IsTrueOf, Had_none, Is_decided, Had_no_changes, Is_rolled_back, Is_committed, Is_in_doubt, Must_roll_back, AnswersTruly, CommitsAnswerTruly}
+use Rattle.commit_answer_laws.specs.CommitCauses.{AnswerCause, Has_none, Needs_rollback, Ends_for}
+use Rattle.commit_answer_laws.specs.CommitLines.{IsTrueOf, Had_none, Is_decided, Had_no_changes, Is_rolled_back, Is_committed, Is_in_doubt, Must_roll_back, AnswersTruly, CommitsAnswerTruly, transaction_at}
+use Rattle.commit_answer_laws.proofs.CauseLemmas.{its_cause}
 use Rattle.commit_answer_laws.proofs.EndRunLemmas.{ends_for}
 use Rattle.commit_answer_laws.proofs.EndStepLemmas as ends
 use Rattle.commit_answer_laws.proofs.EndStepLemmas.{StepEnd}
@@ -67,15 +69,15 @@ module _ (t : History) (whole : IsLawfulRun t) (g : BranchId) (a : Answer) (it :
     where
       by : StepEnd it.kept it.turn.input (turn_of (place_at t.places it.turn.node) it.kept it.turn.input).after (turn_of (place_at t.places it.turn.node) it.kept it.turn.input).wrote (turn_of (place_at t.places it.turn.node) it.kept it.turn.input).sent g a
           → IsTrueOf t (Some g) a
-      by (ends.Has_decided r l live wrote me is) = complete_is is
+      by (ends.Has_decided r l live wrote me none is) = complete_is is
       by (ends.Has_no_site leaves top found is) = complete_is is
       by (ends.Has_forgotten s row wrote is) = complete_is is
-      by (ends.Hears_abort from came leaves is) = refused_is is
+      by (ends.Hears_abort from sb came leaves answers is) = refused_is is
       by (ends.Is_given_up given leaves is) = refused_is is
       by (ends.Ends_back wrote is) = refused_is is
-      by (ends.Meets_back mixed wrote is) = refused_is is
+      by (ends.Meets_back mixed call wrote is) = refused_is is
       by (ends.Is_known given gone knows is) = Is_committed g refl is (known_decided t whole g a it is)
-      by (ends.Is_in_doubt given gone doubt is) = Is_in_doubt g refl is
+      by (ends.Is_in_doubt given call gone doubt is) = Is_in_doubt g refl is
       by (ends.Is_forced d given wrote is) = Is_in_doubt g refl is
 
 -- ---- calls that end
@@ -200,12 +202,19 @@ module _ (t : History) (run : IsTheRunOf t) (command node session : ℕ) (commen
   rests : SessionsFit k
   rests = (let it : NodeRests k = subst (λ q. IfSome q NodeRests) up (run_roots (so_far t split.0) (part_lawful t whole split.0 (part_of t whole split.0 (happenings.Turn e.turn) split.1 split.2)) e.turn.node) in it.0)
 
+  -- true of the transaction, and for a cause
+  abbrev Because : Option BranchId → Type 0
+  Because r = AnswerCause (f_at t split.0) (tr_at t split.0) (trail_after t.places (f_at t split.0) (tr_at t split.0) (happenings.Turn e.turn)) e.turn r a
+
+  abbrev SaysOf : Option BranchId → Type 0
+  SaysOf r = IsTrueOf t r a × Because r
+
   abbrev Says : Type 0
-  Says = IsTrueOf t (session_at first.0.sessions e.session).root a
+  Says = SaysOf (session_at first.0.sessions e.session).root
 
   -- it ended for a reason
-  ends_so : (g : BranchId) → (session_at k.sessions e.session).root ≡ Some g → StepEnd k e.turn.input o.after o.wrote o.sent g a → IsTrueOf t (Some g) a
-  ends_so g root end = end_is_true t whole g a (record {
+  abbrev ends_as : (g : BranchId) → (session_at k.sessions e.session).root ≡ Some g → StepEnd k e.turn.input o.after o.wrote o.sent g a → EndsAs t g a
+  ends_as g root end = record {
     before = split.0;
     turn = e.turn;
     later = split.1;
@@ -215,7 +224,10 @@ module _ (t : History) (run : IsTheRunOf t) (command node session : ℕ) (commen
     up = up;
     root = subst (λ i. (session_at k.sessions i).root ≡ Some g) (sym (rests.roots.each e.session g root)) root;
     end = end;
-  })
+  }
+
+  ends_so : (g : BranchId) → (session_at k.sessions e.session).root ≡ Some g → StepEnd k e.turn.input o.after o.wrote o.sent g a → SaysOf (Some g)
+  ends_so g root end = (end_is_true t whole g a (ends_as g root end), Ends_for g refl (its_cause t whole g a (ends_as g root end)))
 
   -- later than it came
   says_later : came.moment < e.ended → Says
@@ -229,7 +241,7 @@ module _ (t : History) (run : IsTheRunOf t) (command node session : ℕ) (commen
         call = subst (λ i. (session_at k.sessions i).call ≡ pending.Commit) (sym same) commits;
       } in
       let there : EndsCall (record { session = g.session; answer = a }) o.ended = subst (λ i. EndsCall (record { session = i; answer = a }) o.ended) (sym same) ended in
-      subst (λ r. IsTrueOf t r a) (sym keeps.was) (ends_so g keeps.stays (ends_for t whole split.0 e.turn split.1 split.2 k up g a pends there))
+      subst SaysOf (sym keeps.was) (ends_so g keeps.stays (ends_for t whole split.0 e.turn split.1 split.2 k up g a pends there))
 
   -- in its own turn
   module _ (now : came.moment ≡ e.ended) where
@@ -255,10 +267,10 @@ module _ (t : History) (run : IsTheRunOf t) (command node session : ℕ) (commen
 
     by_end : OwnEnd k rests e.session comment a (commit_call k e.session comment) → Says
     unfolding turn_of
-    by_end (own_ends.Has_no_root none is) = Had_none (no_live_root none) is
-    by_end (own_ends.Must_roll_back g code root is) = Must_roll_back g code (root_is ∙ root) is
+    by_end (own_ends.Has_no_root none is) = (Had_none (no_live_root none) is, Has_none (no_live_root none) is)
+    by_end (own_ends.Must_roll_back g code root is) = (Must_roll_back g code (root_is ∙ root) is, Needs_rollback g code (root_is ∙ root) is)
     by_end (own_ends.Ends_at_once g root end) =
-        subst (λ r. IsTrueOf t r a) (sym (root_is ∙ root))
+        subst SaysOf (sym (root_is ∙ root))
         (ends_so g root (subst (λ i. StepEnd k i (turn_of (place_at t.places e.turn.node) k i).after (turn_of (place_at t.places e.turn.node) k i).wrote (turn_of (place_at t.places e.turn.node) k i).sent g a) (sym call) end))
 
     says_now : Says
@@ -278,7 +290,17 @@ module _ (t : History) (run : IsTheRunOf t) (command node session : ℕ) (commen
       call = call0 ∙ ap (λ i. inputs.Call i (Some (stmts.Commit comment))) session_is;
       running = inl running;
     };
-    says = subst (λ r. IsTrueOf t r a) (sym told) says;
+    says = subst (λ r. IsTrueOf t r a) (sym told) says.0;
+    why = record {
+      moment = e.ended;
+      later = omega (arith, came.before);
+      turn = e.turn;
+      there = e.there;
+      here = node_is;
+      uncut = e.uncut;
+      cause = subst (λ xs. AnswerCause (f_at t xs) (tr_at t xs) (trail_after t.places (f_at t xs) (tr_at t xs) (happenings.Turn e.turn)) e.turn (transaction_at t came.moment node session) a) (sym upto)
+          (subst Because (sym told) says.1);
+    };
   }
 
 -- ---- lines

@@ -16,6 +16,7 @@ use Rattle.node_rules.specs.Data.decisions
 use Rattle.node_rules.specs.Data.inputs
 use Rattle.node_rules.specs.Data.kinds
 use Rattle.node_rules.specs.Data.stmts
+use Rattle.node_rules.specs.Data.votes
 use Rattle.node_rules.specs.Data.records
 use Rattle.node_rules.specs.declared.session.Finished.{Finished}
 use Rattle.node_rules.specs.declared.session.Session.{Session}
@@ -26,19 +27,21 @@ use Rattle.node_rules.specs.Client.{new_root, begun_by, given_up_code, commit_gi
 use Rattle.node_rules.specs.Commit.{decision_answers, acked_by}
 use Rattle.node_rules.specs.Inputs.{Came}
 use Rattle.node_rules.specs.NodeState.{NodeState, Branch, TurnDraft, live_id, live_at, branch_at, kept_row_id, kept_row_at, with_kept_row}
-use Rattle.node_rules.specs.Prepare.{abandon_ends, is_alone, act_turn, voted}
+use Rattle.node_rules.specs.Prepare.{abandon_ends, is_alone, act_turn, decided_of, own_changes, voted}
 use Rattle.node_rules.specs.Sessions.{session_at, is_commit, commit_is_pending, commit_answer, commit_complete, tran_refusal}
 use Rattle.node_rules.specs.Statement.{ran, after_run}
 use Rattle.node_rules.proofs.StandLemmas.{live_so}
 use Rattle.node_rules.proofs.StepLemmas.{branch_found, IsLive, acting_live}
 use Rattle.node_rules.proofs.Steps as steps
-use Rattle.node_rules.proofs.Steps.{Step, Asked, Acting, Collects, Collected}
-use Rattle.run_branch_laws.proofs.QuietLemmas.{NoRows, acting_apart}
+use Rattle.node_rules.proofs.Steps.{Step, Answers, Asked, Acting, Collects, Collected}
+use Rattle.run_branch_laws.proofs.QuietLemmas.{NoRows, acting_apart, came_apart}
 use Rattle.run_base_laws.proofs.RootLemmas.{SessionsFit, session_or_before, begun_so, pends_so}
 use Rattle.answer_laws.proofs.WhyEndsLemmas.{ExecsBelow}
 use Rattle.tree_laws.proofs.TopStepLemmas.{Finishes, On_answer}
+use Rattle.run_claims.specs.Knowledge.{neighbors_of}
 use Rattle.commit_answer_laws.specs.CommitEndLaws as laws
 use Rattle.commit_answer_laws.specs.CommitEndLaws.{row_knows, LeavesUnrecorded, CommitEnd, EndsCall}
+use Rattle.commit_answer_laws.proofs.AloneLemmas.{alone_names_none}
 
 neither : (p q r : Bool) → q ≡ false → r ≡ false → ((p && q) || r) ≡ false
 neither true false r none rest = rest
@@ -48,28 +51,28 @@ neither false q r none rest = rest
 -- Why the COMMIT of the root g ends in a step, with this answer. A root that ends without a site has found that none of its
 -- session tree has changes.
 pub data StepEnd (k : NodeState) (input : Input) (after : NodeState) (wrote : Option RedoRecord) (sent : List Msg) (g : BranchId) (a : Answer) : Type 0 where
-  Has_decided : (r : Decided) (l : Live) → live_at k g ≡ Some l → wrote ≡ Some (records.Decided r) → r.me ≡ g → a ≡ commit_complete → StepEnd k input after wrote sent g a
+  Has_decided : (r : Decided) (l : Live) → live_at k g ≡ Some l → wrote ≡ Some (records.Decided r) → r.me ≡ g → neighbors_of r ≡ [] → a ≡ commit_complete → StepEnd k input after wrote sent g a
   Has_no_site : (leaves : LeavesUnrecorded k after wrote sent g) → leaves.live.parent ≡ None → Finishes input g leaves.live k.sessions → a ≡ commit_complete → StepEnd k input after wrote sent g a
   Has_forgotten : (s : KeptRow) → kept_row_at k g ≡ Some s → wrote ≡ Some (records.Forgot g) → a ≡ commit_complete → StepEnd k input after wrote sent g a
-  Hears_abort : (from : BranchId) → Came input from g kinds.Abort → LeavesUnrecorded k after wrote sent g → a ≡ tran_refusal 2050 g → StepEnd k input after wrote sent g a
+  Hears_abort : (from : BranchId) (sb : Bool) → Came input from g kinds.Abort → (leaves : LeavesUnrecorded k after wrote sent g) → Answers input leaves.live from votes.Abort sb → a ≡ tran_refusal 2050 g → StepEnd k input after wrote sent g a
   Is_given_up : input ≡ inputs.GiveUp g.session → LeavesUnrecorded k after wrote sent g → a ≡ tran_refusal 2050 g → StepEnd k input after wrote sent g a
   Ends_back : wrote ≡ Some (records.Ended g decisions.Rollback) → a ≡ tran_refusal 2050 g → StepEnd k input after wrote sent g a
-  Meets_back : (mixed : Bool) → wrote ≡ Some (records.Met g decisions.Rollback mixed) → a ≡ tran_refusal 2050 g → StepEnd k input after wrote sent g a
+  Meets_back : (mixed : Bool) → (session_at k.sessions g.session).call ≡ pending.Commit → wrote ≡ Some (records.Met g decisions.Rollback mixed) → a ≡ tran_refusal 2050 g → StepEnd k input after wrote sent g a
   Is_known : input ≡ inputs.GiveUp g.session → live_at k g ≡ None → row_knows (kept_row_at k g) ≡ true → a ≡ tran_refusal 2053 g → StepEnd k input after wrote sent g a
-  Is_in_doubt : input ≡ inputs.GiveUp g.session → live_at k g ≡ None → row_knows (kept_row_at k g) ≡ false → a ≡ tran_refusal 2054 g → StepEnd k input after wrote sent g a
+  Is_in_doubt : input ≡ inputs.GiveUp g.session → (session_at k.sessions g.session).call ≡ pending.Commit → live_at k g ≡ None → row_knows (kept_row_at k g) ≡ false → a ≡ tran_refusal 2054 g → StepEnd k input after wrote sent g a
   Is_forced : (d : Decision) (given : Bool) → wrote ≡ Some (records.Forced g d given) → a ≡ tran_refusal 2054 g → StepEnd k input after wrote sent g a
 
 -- the reason that the law gives
 pub as_end : {k : NodeState} {input : Input} {after : NodeState} {wrote : Option RedoRecord} {sent : List Msg} {g : BranchId} {a : Answer} → StepEnd k input after wrote sent g a → CommitEnd k input after wrote sent g a
-as_end (Has_decided r l live wrote me is) = laws.Has_decided r l live wrote me is
+as_end (Has_decided r l live wrote me none is) = laws.Has_decided r l live wrote me is
 as_end (Has_no_site leaves top ends is) = laws.Has_no_site leaves is
 as_end (Has_forgotten s row wrote is) = laws.Has_forgotten s row wrote is
-as_end (Hears_abort from came leaves is) = laws.Hears_abort from came leaves is
+as_end (Hears_abort from sb came leaves answers is) = laws.Hears_abort from came leaves is
 as_end (Is_given_up given leaves is) = laws.Is_given_up given leaves is
 as_end (Ends_back wrote is) = laws.Ends_back wrote is
-as_end (Meets_back mixed wrote is) = laws.Meets_back mixed wrote is
+as_end (Meets_back mixed call wrote is) = laws.Meets_back mixed wrote is
 as_end (Is_known given gone knows is) = laws.Is_known given gone knows is
-as_end (Is_in_doubt given gone doubt is) = laws.Is_in_doubt given gone doubt is
+as_end (Is_in_doubt given call gone doubt is) = laws.Is_in_doubt given gone doubt is
 as_end (Is_forced d given wrote is) = laws.Is_forced d given wrote is
 
 -- Prepare comes to no root
@@ -185,20 +188,18 @@ module _ (k0 : NodeState) (input : Input) (g : BranchId) (a : Answer) where
     abandon_silent c l (Some parent) =
         neither (same l.me g) false (list_any (is_quiet g) (map (stamped c) (to_each l.me kinds.Rollback (children_of l)))) refl (each_silent c l.me kinds.Rollback (children_of l) refl)
 
-    -- a child's Abort
-    aborts : {k : NodeState} {l : Live} {b : Bool} → Acting k input l b acts.Abandon → (from : BranchId) × Came input from l.me kinds.Abort
-    aborts (steps.Hears_abort l from b live answers) =
-        let it : Some kinds.Abort ≡ Some answers.kind = answers.is_vote in
-        let kind : answers.kind ≡ kinds.Abort = cc in
-        (from, subst (Came input from l.me) kind answers.came)
-    aborts (steps.Has_no_children l comment b _ live begins none collected) = elim collected [ ]
-    aborts (steps.Hears_last l from v b _ live answers more all_so collected) = elim collected [ ]
-    aborts (steps.At_point l from _ live came is pointed) = elim pointed [ ]
-
     module _ (k : NodeState) (now : Known k) where
-      alone_ends : (here : Bool) (l : Live) → EndsCall its (if here then commit_answer k.sessions l.me commit_complete else []) → (l.me ≡ g) × (a ≡ commit_complete)
-      alone_ends true l is = commit_its k.sessions now.root l.me commit_complete is
+      alone_ends : (here : Bool) (l : Live) → EndsCall its (if here then commit_answer k.sessions l.me commit_complete else []) → (here ≡ true) × (l.me ≡ g) × (a ≡ commit_complete)
+      alone_ends true l is = (let one = commit_its k.sessions now.root l.me commit_complete is in (refl, one.0, one.1))
       alone_ends false l none = absurd none
+
+      -- a root without neighbours decides
+      decide_ends : {l : Live} {below : Bool} → Acting k input l below acts.Decide → EndsCall its (if is_alone l then commit_answer k.sessions l.me commit_complete else []) → End (act_turn k l below acts.Decide)
+      decide_ends {l = l} why is =
+          let one = alone_ends (is_alone l) l is in
+          let live = acting_live why in
+          Has_decided (decided_of (k.clock + 1) l (own_changes k l.me)) live.0 (live_near k (now.near (acting_apart why)) g live.0 (subst (λ i. live_at k i ≡ Some live.0) one.1 live.1)) refl one.1
+          (alone_names_none (k.clock + 1) l (own_changes k l.me) one.0) one.2
 
       abandon_its : (l : Live) (o : Option BranchId) → EndsCall its (abandon_ends k.sessions l o) → (l.me ≡ g) × (a ≡ tran_refusal 2050 l.me)
       abandon_its l None is = commit_its k.sessions now.root l.me (tran_refusal 2050 l.me) is
@@ -215,16 +216,25 @@ module _ (k0 : NodeState) (input : Input) (g : BranchId) (a : Answer) where
           Has_no_site (leaves_by k near (voted y from v) me (y, found) (act_turn k (voted y from v) below acts.Finish).after refl [] refl) so.0 (On_answer from v below answers more all so.1) complete
       finish_ends near (steps.At_point y from _ found came is pointed) me complete = elim pointed [ ]
 
+      -- on a child's Abort a root rolls back
+      abort_ends : {l : Live} {below : Bool} → Acting k input l below acts.Abandon → l.me ≡ g → a ≡ tran_refusal 2050 g → End (act_turn k l below acts.Abandon)
+      abort_ends (steps.Hears_abort y from below found answers) me is =
+          let it : Some kinds.Abort ≡ Some answers.kind = answers.is_vote in
+          let kind : answers.kind ≡ kinds.Abort = cc in
+          let came : Came input from y.me kinds.Abort = subst (Came input from y.me) kind answers.came in
+          let z : Live = voted y from votes.Abort in
+          Hears_abort from below (subst (λ i. Came input from i kinds.Abort) me came)
+          (leaves_by k (now.near (λ n s call rows. came_apart n s answers.came call)) z me (y, found) (act_turn k z below acts.Abandon).after refl _ (abandon_silent (act_turn k z below acts.Abandon).after.clock z z.parent)) answers is
+      abort_ends (steps.Has_no_children y comment below _ found begins none collected) me is = elim collected [ ]
+      abort_ends (steps.Hears_last y from v below _ found answers more all collected) me is = elim collected [ ]
+      abort_ends (steps.At_point y from _ found came is_point pointed) me is = elim pointed [ ]
+
       act_ends : (l : Live) (below : Bool) (x : Act) → Acting k input l below x → EndsCall its (act_turn k l below x).ended → End (act_turn k l below x)
-      act_ends l below acts.Decide why is = (let one = alone_ends (is_alone l) l is in let live = acting_live why in Has_decided _ live.0 (live_near k (now.near (acting_apart why)) g live.0 (subst (λ i. live_at k i ≡ Some live.0) one.0 live.1)) refl one.0 one.1)
+      act_ends l below acts.Decide why is = decide_ends why is
       act_ends l below acts.Finish why is =
           let one = commit_its k.sessions now.root l.me commit_complete is in
           finish_ends (now.near (acting_apart why)) why one.0 one.1
-      act_ends l below acts.Abandon why is =
-          let one = abandon_its l l.parent is in
-          let abort = aborts why in
-          Hears_abort abort.0 (subst (λ i. Came input abort.0 i kinds.Abort) one.0 abort.1) (leaves_by k (now.near (acting_apart why)) l one.0 (acting_live why) (act_turn k l below acts.Abandon).after refl _ (abandon_silent (act_turn k l below acts.Abandon).after.clock l l.parent))
-          (subst (λ i. a ≡ tran_refusal 2050 i) one.0 one.1)
+      act_ends l below acts.Abandon why is = (let one = abandon_its l l.parent is in abort_ends why one.0 (subst (λ i. a ≡ tran_refusal 2050 i) one.0 one.1))
       act_ends l below acts.Rest why none = absurd none
       act_ends l below acts.AskDown why none = absurd none
       act_ends l below acts.SayReadOnly why none = absurd none
@@ -285,8 +295,8 @@ module _ (k0 : NodeState) (input : Input) (g : BranchId) (a : Answer) where
     unfolding reply_of
     not_replied x from call i e none is = no_edge (i, e) (reply_going x from call x.work.going) (ap (reply_going x from call) none) is
 
-    given_kept : (k : NodeState) → k ≡ k0 → (n : ℕ) → input ≡ inputs.GiveUp n → n ≡ g.session → live_at k g ≡ None → (d : TurnDraft) → (o : Option KeptRow) → kept_row_at k g ≡ o → a ≡ tran_refusal (given_up_code o) g → End d
-    given_kept k same n gives at none d o row is = by (row_knows o) refl
+    given_kept : (session_at k0.sessions g.session).call ≡ pending.Commit → (k : NodeState) → k ≡ k0 → (n : ℕ) → input ≡ inputs.GiveUp n → n ≡ g.session → live_at k g ≡ None → (d : TurnDraft) → (o : Option KeptRow) → kept_row_at k g ≡ o → a ≡ tran_refusal (given_up_code o) g → End d
+    given_kept commits k same n gives at none d o row is = by (row_knows o) refl
       where
         input_is : input ≡ inputs.GiveUp g.session
         input_is = gives ∙ ap inputs.GiveUp at
@@ -304,7 +314,7 @@ module _ (k0 : NodeState) (input : Input) (g : BranchId) (a : Answer) where
 
         by : (q : Bool) → row_knows o ≡ q → End d
         by true knows = Is_known input_is none0 (ap row_knows row0 ∙ knows) (is ∙ ap (λ c. tran_refusal c g) (code o true knows))
-        by false knows = Is_in_doubt input_is none0 (ap row_knows row0 ∙ knows) (is ∙ ap (λ c. tran_refusal c g) (code o false knows))
+        by false knows = Is_in_doubt input_is commits none0 (ap row_knows row0 ∙ knows) (is ∙ ap (λ c. tran_refusal c g) (code o false knows))
 
     -- a statement is given up where a COMMIT was pending: no
     given_statement : (k : NodeState) → Known k → (n : ℕ) (x : Branch) → input ≡ inputs.GiveUp n → steps.HasRoot k n x.live.me → (session_at k.sessions n).call ≡ pending.Statement → (b : Answer)
@@ -381,7 +391,7 @@ module _ (k0 : NodeState) (input : Input) (g : BranchId) (a : Answer) where
       ends_on (steps.Does {k = k} s from (nexts.End d) kept why) now is =
           (let one = back_its k now s.me d is in Ends_back (ap Some (ap (records.Ended s.me) one.0 ∙ ap (λ i. records.Ended i decisions.Rollback) one.1)) one.2)
       ends_on (steps.Does {k = k} s from (nexts.Meet d mixed) kept why) now is =
-          (let one = back_its k now s.me d is in Meets_back mixed (ap Some (ap (λ x. records.Met s.me x mixed) one.0 ∙ ap (λ i. records.Met i decisions.Rollback mixed) one.1)) one.2)
+          (let one = back_its k now s.me d is in Meets_back mixed now.commits (ap Some (ap (λ x. records.Met s.me x mixed) one.0 ∙ ap (λ i. records.Met i decisions.Rollback mixed) one.1)) one.2)
       ends_on (steps.Does {k = k} s from nexts.Forget kept why) now is = (let one = commit_its k.sessions now.root s.me commit_complete is in let row = now.rows s (subst (λ i. kept_row_at k i ≡ Some s) one.0 kept) in Has_forgotten row.0 row.1 (ap (λ i. Some (records.Forgot i)) one.0) one.1)
       ends_on (steps.Does s from nexts.Rest kept why) now none = absurd none
       ends_on (steps.Does s from nexts.AckToward kept why) now none = absurd none
@@ -407,7 +417,7 @@ module _ (k0 : NodeState) (input : Input) (g : BranchId) (a : Answer) where
       ends_on (steps.Gives_up_commit {k = k} n b None gives has calls live) now is =
           (let one = commit_its k.sessions now.root b _ is in
           let at : n ≡ g.session = sym (now.fit.roots.each n b has) ∙ ap (λ (z : BranchId). z.session) one.0 in
-          given_kept k (now.given n gives) n gives at (subst (λ i. live_at k i ≡ None) one.0 live) (commit_given_up k b None) (kept_row_at k g) refl
+          given_kept now.commits k (now.given n gives) n gives at (subst (λ i. live_at k i ≡ None) one.0 live) (commit_given_up k b None) (kept_row_at k g) refl
           (one.1 ∙ (ap (λ i. tran_refusal (given_up_code (kept_row_at k i)) i) one.0)))
       ends_on steps.Rests now none = absurd none
       ends_on (steps.Sends says why) now none = absurd none

@@ -52,15 +52,24 @@ module _ (t : History) (whole : IsLawfulRun t) where
     abbrev kept : NodeState
     kept = (may_of t whole hs (happenings.Turn u) rest is).0
 
-    had_none : (z : Live) → live_at kept z.me ≡ Some z → z.parent ≡ None → Finishes u.input z.me z kept.sessions → HadNoSite t z.me
-    had_none z live top ends =
-        siteless z.me (plan_at (trail_after t.places (f_at t hs) (tr_at t hs) (happenings.Turn u)) z.me) refl
-        (ap has_no_site (sym (same_plans t whole owns hs u rest is saw.tops saw.roots earlier z.me)) ∙ ends_siteless_planned t whole owns hs u rest is saw.tops saw.roots earlier z live top ends)
+    plan_none : (z : Live) → live_at kept z.me ≡ Some z → z.parent ≡ None → Finishes u.input z.me z kept.sessions → has_no_site (plan_at (trail_after t.places (f_at t hs) (tr_at t hs) (happenings.Turn u)) z.me) ≡ true
+    plan_none z live top ends =
+        ap has_no_site (sym (same_plans t whole owns hs u rest is saw.tops saw.roots earlier z.me)) ∙ ends_siteless_planned t whole owns hs u rest is saw.tops saw.roots earlier z live top ends
 
-    pub had_no_site : (k : NodeState) → node_at (f_at t hs) u.node ≡ Some k → (g : BranchId) (z : Live) → z.me ≡ g → live_at k g ≡ Some z → z.parent ≡ None → Finishes u.input g z k.sessions → HadNoSite t g
-    had_no_site k up g z me live top ends =
-        let both : Some kept ≡ Some k = sym (may_of t whole hs (happenings.Turn u) rest is).1.up ∙ up in
-        let same : kept ≡ k = cc in
-        let live_there : live_at kept z.me ≡ Some z = subst (λ (j : NodeState). live_at j z.me ≡ Some z) (sym same) (subst (λ b. live_at k b ≡ Some z) (sym me) live) in
-        let ends_there : Finishes u.input z.me z kept.sessions = subst (λ (j : NodeState). Finishes u.input z.me z j.sessions) (sym same) (subst (λ b. Finishes u.input b z k.sessions) (sym me) ends) in
-        subst (HadNoSite t) me (had_none z live_there top ends_there)
+    module _ (k : NodeState) (up : node_at (f_at t hs) u.node ≡ Some k) (g : BranchId) (z : Live) (me : z.me ≡ g) (live : live_at k g ≡ Some z) (top : z.parent ≡ None) (ends : Finishes u.input g z k.sessions) where
+      same : kept ≡ k
+      same = (let both : Some kept ≡ Some k = sym (may_of t whole hs (happenings.Turn u) rest is).1.up ∙ up in cc)
+
+      live_there : live_at kept z.me ≡ Some z
+      live_there = subst (λ (j : NodeState). live_at j z.me ≡ Some z) (sym same) (subst (λ b. live_at k b ≡ Some z) (sym me) live)
+
+      ends_there : Finishes u.input z.me z kept.sessions
+      ends_there = subst (λ (j : NodeState). Finishes u.input z.me z j.sessions) (sym same) (subst (λ b. Finishes u.input b z k.sessions) (sym me) ends)
+
+      -- the plan that stands after the turn has no site
+      pub plan_there : has_no_site (plan_at (trail_after t.places (f_at t hs) (tr_at t hs) (happenings.Turn u)) g) ≡ true
+      plan_there = subst (λ b. has_no_site (plan_at (trail_after t.places (f_at t hs) (tr_at t hs) (happenings.Turn u)) b) ≡ true) me (plan_none z live_there top ends_there)
+
+      -- and so it is to the end
+      pub had_no_site : HadNoSite t g
+      had_no_site = siteless g (plan_at (trail_after t.places (f_at t hs) (tr_at t hs) (happenings.Turn u)) g) refl plan_there

@@ -1,6 +1,6 @@
 -- How a COMMIT ends in its own turn: its session has no transaction, or one that can only be rolled back, or a root without
 -- children, which decides or finds that there is nothing to decide.
-use Rattle.std.proofs.Common.{◌≡◌, ℕ, Bool, true, false, if◌then◌else◌, is_none, map, List, [], ◌∷◌, unwrap_or, Option, Some, None, inl, inr, refl, sym, ap}
+use Rattle.std.proofs.Common.{◌≡◌, ℕ, ◌+◌, Bool, true, false, if◌then◌else◌, is_none, map, List, [], ◌∷◌, unwrap_or, Option, Some, None, inl, inr, refl, sym, ap}
 use Rattle.tran_ids.proofs.ListedLemmas.{drop_gone}
 use Rattle.session_tree.specs.Tree.{step as step_from}
 use Rattle.session_tree.specs.declared.act.Walk.{Walk}
@@ -16,7 +16,7 @@ use Rattle.node_rules.specs.declared.session.Session.{Session}
 use Rattle.node_rules.specs.Client.{commit_by, commit_call, root_at}
 use Rattle.node_rules.specs.Ids.{decimal}
 use Rattle.node_rules.specs.NodeState.{NodeState, Branch, TurnDraft, live_id}
-use Rattle.node_rules.specs.Prepare.{act_turn, collecting, first_act, first_act_by, is_alone, root_act, with_comment, with_prepare_sent, without_read_keys}
+use Rattle.node_rules.specs.Prepare.{act_turn, collecting, decided_of, first_act, first_act_by, is_alone, own_changes, root_act, with_comment, with_prepare_sent, without_read_keys}
 use Rattle.node_rules.specs.Refusals.{ora}
 use Rattle.node_rules.specs.Sessions.{session_at, with_call, commit_is_pending, commit_answer, commit_complete}
 use Rattle.node_rules.specs.Turn.{stamped}
@@ -25,6 +25,7 @@ use Rattle.node_rules.proofs.StandLemmas.{RootSo, live_so, root_so}
 use Rattle.run_base_laws.proofs.RootLemmas.{SessionsFit, root_alone}
 use Rattle.tree_laws.proofs.TopStepLemmas.{At_once}
 use Rattle.commit_answer_laws.specs.CommitEndLaws.{EndsCall}
+use Rattle.commit_answer_laws.proofs.AloneLemmas.{alone_names_none}
 use Rattle.commit_answer_laws.proofs.EndStepLemmas.{StepEnd, Has_decided, Has_no_site}
 
 -- ---- the first act of a root
@@ -87,8 +88,8 @@ module _ (k : NodeState) (fit : SessionsFit k) (n : ℕ) (given : Option (List �
       by true (inr none) = absurd none
       by false none = absurd none
 
-  alone_same : (here : Bool) (ss : List Session) (b : BranchId) (x : Answer) → EndsCall its (if here then commit_answer ss b x else []) → a ≡ x
-  alone_same true ss b x is = commit_same ss b x is
+  alone_same : (here : Bool) (ss : List Session) (b : BranchId) (x : Answer) → EndsCall its (if here then commit_answer ss b x else []) → (here ≡ true) × (a ≡ x)
+  alone_same true ss b x is = (refl, commit_same ss b x is)
   alone_same false ss b x none = absurd none
 
   -- a root acts
@@ -103,7 +104,9 @@ module _ (k : NodeState) (fit : SessionsFit k) (n : ℕ) (given : Option (List �
     k2 = without_read_keys (record k { sessions = with_call k.sessions n pending.Commit }) x.live.me
 
     act_ends : (act : Act) → first_act l true ≡ act → EndsCall its (act_turn k2 l true act).ended → OwnEnd (act_turn k2 l true act)
-    act_ends acts.Decide is ends = Ends_at_once x.live.me so.0 (Has_decided _ x.live (live_so k x.live.me x so.1) refl refl (alone_same (is_alone l) k2.sessions l.me commit_complete ends))
+    act_ends acts.Decide is ends =
+        let one = alone_same (is_alone l) k2.sessions l.me commit_complete ends in
+        Ends_at_once x.live.me so.0 (Has_decided (decided_of (k2.clock + 1) l (own_changes k2 l.me)) x.live (live_so k x.live.me x so.1) refl refl (alone_names_none (k2.clock + 1) l (own_changes k2 l.me) one.0) one.1)
     act_ends acts.Finish is ends =
         let first = first_finishes l l.edges is in
         Ends_at_once x.live.me so.0 (Has_no_site (record {

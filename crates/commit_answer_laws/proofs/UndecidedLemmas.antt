@@ -152,14 +152,14 @@ module _ (t : History) (whole : IsLawfulRun t) (g : BranchId) (a : Answer) (it :
   up : node_at f u.node ≡ Some k
   up = it.up
 
-  may : MayTurn t.places f u k
+  pub may : MayTurn t.places f u k
   may = turn_of_node t.places f u k t.commands (may_of t whole hs (happenings.Turn u) it.later it.is) up
 
   owed_by : (cut : Bool) → cut ≡ false → IsOwed place k u.input u.wrote u.sent cut → (u.wrote ≡ o.wrote) × (u.sent ≡ o.sent)
   owed_by true is owed = absurd cc
   owed_by false is owed = owed
 
-  owed : (u.wrote ≡ o.wrote) × (u.sent ≡ o.sent)
+  pub owed : (u.wrote ≡ o.wrote) × (u.sent ≡ o.sent)
   owed = owed_by u.cut it.uncut may.owed
 
   -- the end of its COMMIT
@@ -299,15 +299,15 @@ module _ (t : History) (whole : IsLawfulRun t) (g : BranchId) (a : Answer) (it :
   -- ---- each end
 
   undecided : a ≡ tran_refusal 2050 g → StepEnd k u.input o.after o.wrote o.sent g a → (b : BranchId) (n : ℕ) → exit (events_of t) b ≡ Some (exits.Decided n) → p.root b ≡ g → ⊥
-  undecided asked (Has_decided r l live wrote its is) = absurd (not_complete g (sym asked ∙ is))
+  undecided asked (Has_decided r l live wrote its alone is) = absurd (not_complete g (sym asked ∙ is))
   undecided asked (Has_no_site leaves top_is ends is) = absurd (not_complete g (sym asked ∙ is))
   undecided asked (Has_forgotten s row wrote is) = absurd (not_complete g (sym asked ∙ is))
-  undecided asked (Hears_abort from came leaves is) = drop_undecided leaves
+  undecided asked (Hears_abort from sb came leaves answers is) = drop_undecided leaves
   undecided asked (Is_given_up given leaves is) = drop_undecided leaves
   undecided asked (Ends_back wrote is) = rolled_undecided (records.Ended g decisions.Rollback) None wrote refl (λ stands. stands.1)
-  undecided asked (Meets_back mixed wrote is) = rolled_undecided (records.Met g decisions.Rollback mixed) (Some mixed) wrote refl (λ stands. stands.1)
+  undecided asked (Meets_back mixed call wrote is) = rolled_undecided (records.Met g decisions.Rollback mixed) (Some mixed) wrote refl (λ stands. stands.1)
   undecided asked (Is_known given gone knows is) = absurd (not_known g (sym asked ∙ is))
-  undecided asked (Is_in_doubt given gone doubt is) = absurd (not_in_doubt g (sym asked ∙ is))
+  undecided asked (Is_in_doubt given call gone doubt is) = absurd (not_in_doubt g (sym asked ∙ is))
   undecided asked (Is_forced d given wrote is) = absurd (not_in_doubt g (sym asked ∙ is))
 
   -- where no branch that decided is of g, none of its decisions is in the book
@@ -361,7 +361,7 @@ module _ (t : History) (whole : IsLawfulRun t) (g : BranchId) (a : Answer) (it :
   all_tells : TellsAsEvents f e (happenings.Turn u)
   all_tells = each_at t.places t.commands TellsAsEvents (first_facts t.places) hs (happenings.Turn u) it.later [] (subst (λ xs. EachEventFrom TellsAsEvents t.places t.commands (first_facts t.places) [] xs) (sym it.is) (turns_tell_as_events t whole))
 
-  may_stand : (r : RedoRecord) → o.wrote ≡ Some r → MayStand e r
+  pub may_stand : (r : RedoRecord) → o.wrote ≡ Some r → MayStand e r
   may_stand r wrote = subst (λ w. IfSome w (MayStand e)) (owed.0 ∙ wrote) all_tells.0
 
   -- a root that forgets knows the commit
@@ -381,30 +381,30 @@ module _ (t : History) (whole : IsLawfulRun t) (g : BranchId) (a : Answer) (it :
       in_book g r.scn last (root_is born.0 born.1)
 
   known_ends : a ≡ tran_refusal 2053 g → StepEnd k u.input o.after o.wrote o.sent g a → IsDecided t g
-  known_ends asked (Has_decided r y live wrote its is) = decided_in_book r y live wrote its
+  known_ends asked (Has_decided r y live wrote its alone is) = decided_in_book r y live wrote its
   known_ends asked (Has_no_site leaves top_is ends is) = absurd (not_complete_known g (sym asked ∙ is))
   known_ends asked (Has_forgotten s row wrote is) = forgot_in_book s row wrote
-  known_ends asked (Hears_abort from came leaves is) = absurd (not_known g (sym is ∙ asked))
+  known_ends asked (Hears_abort from sb came leaves answers is) = absurd (not_known g (sym is ∙ asked))
   known_ends asked (Is_given_up given leaves is) = absurd (not_known g (sym is ∙ asked))
   known_ends asked (Ends_back wrote is) = absurd (not_known g (sym is ∙ asked))
-  known_ends asked (Meets_back mixed wrote is) = absurd (not_known g (sym is ∙ asked))
+  known_ends asked (Meets_back mixed call wrote is) = absurd (not_known g (sym is ∙ asked))
   known_ends asked (Is_known given gone knows is) = row_in_book (kept_row_at k g) refl knows
-  known_ends asked (Is_in_doubt given gone doubt is) = absurd (known_not_in_doubt g (sym asked ∙ is))
+  known_ends asked (Is_in_doubt given call gone doubt is) = absurd (known_not_in_doubt g (sym asked ∙ is))
   known_ends asked (Is_forced d given wrote is) = absurd (known_not_in_doubt g (sym asked ∙ is))
 
   pub known_decided : a ≡ tran_refusal 2053 g → IsDecided t g
   known_decided asked = known_ends asked end
 
   complete_ends : a ≡ commit_complete → StepEnd k u.input o.after o.wrote o.sent g a → IsDecided t g ⊎ (LeavesUnrecorded k o.after o.wrote o.sent g × HadNoSite t g × IsUndecided t g)
-  complete_ends asked (Has_decided r y live wrote its is) = inl (decided_in_book r y live wrote its)
+  complete_ends asked (Has_decided r y live wrote its alone is) = inl (decided_in_book r y live wrote its)
   complete_ends asked (Has_no_site leaves top_is ends is) = inr (leaves, had_no_site t whole hs u it.later it.is k up g leaves.live (l_me leaves) leaves.there top_is ends, undecided_book (drop_undecided leaves))
   complete_ends asked (Has_forgotten s row wrote is) = inl (forgot_in_book s row wrote)
-  complete_ends asked (Hears_abort from came leaves is) = absurd (not_complete g (sym is ∙ asked))
+  complete_ends asked (Hears_abort from sb came leaves answers is) = absurd (not_complete g (sym is ∙ asked))
   complete_ends asked (Is_given_up given leaves is) = absurd (not_complete g (sym is ∙ asked))
   complete_ends asked (Ends_back wrote is) = absurd (not_complete g (sym is ∙ asked))
-  complete_ends asked (Meets_back mixed wrote is) = absurd (not_complete g (sym is ∙ asked))
+  complete_ends asked (Meets_back mixed call wrote is) = absurd (not_complete g (sym is ∙ asked))
   complete_ends asked (Is_known given gone knows is) = absurd (not_complete_known g (sym is ∙ asked))
-  complete_ends asked (Is_in_doubt given gone doubt is) = absurd (not_complete_doubt g (sym is ∙ asked))
+  complete_ends asked (Is_in_doubt given call gone doubt is) = absurd (not_complete_doubt g (sym is ∙ asked))
   complete_ends asked (Is_forced d given wrote is) = absurd (not_complete_doubt g (sym is ∙ asked))
 
   pub complete_decided : a ≡ commit_complete → IsDecided t g ⊎ (LeavesUnrecorded k o.after o.wrote o.sent g × HadNoSite t g × IsUndecided t g)

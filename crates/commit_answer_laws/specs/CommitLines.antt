@@ -1,6 +1,7 @@
 -- What the report answers to COMMIT is true. A line that says that a transaction was rolled back is right for ever: no branch
 -- of it is decided in the book, up to the end of the run. A line that says that it is committed has its decision in the book;
--- or the session had no transaction, or none of its session tree had changes. (SQL Language Reference: COMMIT; Error Messages:
+-- or the session had no transaction, or none of its session tree had changes. And each of these lines has its cause: what stood in
+-- the book, and what came, in the turn that answered it (CommitCauses). (SQL Language Reference: COMMIT; Error Messages:
 -- ORA-02050, ORA-02053, ORA-02054, ORA-02067; Database Administrator's Guide, "Distributed Transactions Concepts".)
 use Rattle.std.specs.Prelude.{◌≡◌, ◌⊎◌, ℕ, true, List, slice_get, option_map, Option, Some, None}
 use Rattle.node_rules.specs.Data.{Answer, BranchId, Stmt}
@@ -19,6 +20,7 @@ use Rattle.run_rules.specs.Lawful.{History}
 use Rattle.run_rules.specs.Scripts.{IsTheRunOf}
 use Rattle.run_claims.specs.Places.{node_line, reported_of}
 use Rattle.run_claims.specs.ReportedDone.{CameTo}
+use Rattle.commit_answer_laws.specs.CommitCauses.{HasItsCause}
 use Rattle.commit_answer_laws.specs.UndecidedLaws.{IsDecided, IsUndecided, HadNoSite}
 
 -- What the answer of a COMMIT says of the transaction that its session had, if it had one.
@@ -31,10 +33,15 @@ pub data IsTrueOf (t : History) (transaction : Option BranchId) (a : Answer) : T
   Is_in_doubt : (g : BranchId) → transaction ≡ Some g → a ≡ tran_refusal 2054 g → IsTrueOf t transaction a
   Must_roll_back : (g : BranchId) (code : ℕ) → transaction ≡ Some g → a ≡ answers.Refused (ora 2067 (one (decimal code))) → IsTrueOf t transaction a  -- nothing ends
 
--- The COMMIT of a command came to its node, and the answer is true of the transaction that its session had then.
+-- the transaction that a session had at a moment
+abbrev pub transaction_at : History → ℕ → ℕ → ℕ → Option BranchId
+transaction_at t moment node session = option_map (λ (s : Seen). s.me) (root_at (trail_upto t moment) node session)
+
+-- The COMMIT of a command came to its node; the answer is true of the transaction that its session had then, and has its cause.
 pub record AnswersTruly (t : History) (command node session : ℕ) (comment : Option (List ℕ)) (a : Answer) : Type 0 where
   pub came : CameTo t command node session (stmts.Commit comment)
-  pub says : IsTrueOf t (option_map (λ (s : Seen). s.me) (root_at (trail_upto t came.moment) node session)) a
+  pub says : IsTrueOf t (transaction_at t came.moment node session) a
+  pub why : HasItsCause t came.moment node (transaction_at t came.moment node session) a
 
 -- each line of the report that answers a COMMIT is true
 abbrev pub CommitLinesAreTrue : History → Type 0
