@@ -91,7 +91,7 @@ module _ (g : Call → Call) where
   still_apart c so [] same all = tt
   still_apart c so (d ∷ ds) same all = (
     ap (λ n. (n == (g c).node) && ((g d).session == (g c).session)) same.0.node ∙ (ap (λ n. (d.node == (g c).node) && (n == (g c).session)) same.0.session
-    ∙ (ap (λ n. (d.node == n) && (d.session == (g c).session)) so.node ∙ (ap (λ n. (d.node == c.node) && (d.session == n)) so.session ∙ all.0))),
+        ∙ (ap (λ n. (d.node == n) && (d.session == (g c).session)) so.node ∙ (ap (λ n. (d.node == c.node) && (d.session == n)) so.session ∙ all.0))),
     still_apart c so ds same.1 all.1,
   )
 

@@ -77,7 +77,7 @@ module _ (t : History) where
         let none : told.next_call ≡ None = (stand.fresh fresh).2 in
         let comes : is_fresh r told c.0.node c.0.session ≡ true
         = ap (λ o. follows_at o c.0.node c.0.session || (not told.acted && is_own r (find (is_call_at c.0.node c.0.session) told.calls))) none
-            ∙ (ap (λ q. not q && is_own r (find (is_call_at c.0.node c.0.session) told.calls)) fresh ∙ own) in
+        ∙ (ap (λ q. not q && is_own r (find (is_call_at c.0.node c.0.session) told.calls)) fresh ∙ own) in
         let not_so : is_fresh r told c.0.node c.0.session ≡ false = quiet c.0.node c.0.session ∙ ap (λ o. follows_at o c.0.node c.0.session) none in
         cc (comes, not_so)
 

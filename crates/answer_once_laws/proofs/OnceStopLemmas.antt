@@ -69,7 +69,7 @@ module _ (t : History) (run : IsTheRunOf t) (i : ℕ) (now : OnceSo t (past_upto
     pages_refused =
         cond_both (failed_start f command_now n) (with_own (appends told n 3) (is_down t.places n ∷ [])) told (PagesSo t.places t.commands r)
         (λ failed. start_pages t.places t.commands r (appends told n 3) (is_down t.places n) (pages_same t.places t.commands r told (appends told n 3) refl refl refl now.pages) (failed_is_start command_now failed)
-            (Ends_pending_call (is_down t.places n) (Node_is_down n)))
+        (Ends_pending_call (is_down t.places n) (Node_is_down n)))
         (λ other. now.pages)
 
     pages_falls : PagesSo t.places t.commands r falls
@@ -129,7 +129,7 @@ module _ (t : History) (run : IsTheRunOf t) (i : ℕ) (now : OnceSo t (past_upto
     still some (Follows_on d next own) = let none = quiet.1 in absurd (cc (none, next))
     still some (Falls_with c at own down) =
         let gone : pends r stop.calls ≡ true → ⊥ = λ is.
-            stopped_gone t.places t.commands r n falls told.calls calls_refused pages_falls c (found_has (is_call_at c.node c.session) told.calls c at) (stops_there c.node down) (subst (λ m. pends m left.calls ≡ true) (sym own) (sym (ap (pends r) line.0) ∙ is)) in
+        stopped_gone t.places t.commands r n falls told.calls calls_refused pages_falls c (found_has (is_call_at c.node c.session) told.calls c at) (stops_there c.node down) (subst (λ m. pends m left.calls ≡ true) (sym own) (sym (ap (pends r) line.0) ∙ is)) in
         absurd (gone some)
 
     no_start : stop.page.own ≡ [] → StartsNext t.commands p → ⊥
@@ -158,4 +158,3 @@ module _ (t : History) (run : IsTheRunOf t) (i : ℕ) (now : OnceSo t (past_upto
     pub stopped_so : OnceSo t (record { facts = facts_after t.places t.commands f (happenings.Stopped n); run_report = report_after t.places t.commands f told (happenings.Stopped n) })
     unfolding facts_after
     stopped_so = stops_so (facts_after t.places t.commands f (happenings.Stopped n)) refl
-

@@ -172,10 +172,10 @@ module _ (t : History) (run : IsTheRunOf t) (i : ℕ) (now : OnceSo t (past_upto
                 subst (λ cs. IsRunning t.places t.commands r u.node is.call.session cs) (sym (before (Some x)).calls)
                 (all_weaker (λ (y : Call). call_at told y.node y.session ≡ Some y) (λ (y : Call). is_call_at u.node is.call.session y ≡ true → y.command ≡ r)
                 (λ y at here. (let parts = at_parts u.node is.call.session y here in
-                    let there_too : call_at told is.call.node is.call.session ≡ Some y = subst (λ n. call_at told n is.call.session ≡ Some y) (parts.0 ∙ is.here) (subst (λ s. call_at told y.node s ≡ Some y) parts.1 at) in
-                    let it : Some y ≡ Some is.call = sym there_too ∙ found is in
-                    let one : y ≡ is.call = cc in
-                    ap (λ (d : Call). d.command) one ∙ own))
+                let there_too : call_at told is.call.node is.call.session ≡ Some y = subst (λ n. call_at told n is.call.session ≡ Some y) (parts.0 ∙ is.here) (subst (λ s. call_at told y.node s ≡ Some y) parts.1 at) in
+                let it : Some y ≡ Some is.call = sym there_too ∙ found is in
+                let one : y ≡ is.call = cc in
+                ap (λ (d : Call). d.command) one ∙ own))
                 told.calls (apart_found told.calls now.pages.apart))
 
             by : (is : ComesNow p u) → is.call.command ≡ r → (hold : Bool) (next : Option Call) → w.hold ≡ hold → w.next_call ≡ next → (w.hold && is_none w.next_call) ≡ false → IsUnsettled (record { facts = g; run_report = acts z })
@@ -203,4 +203,3 @@ module _ (t : History) (run : IsTheRunOf t) (i : ℕ) (now : OnceSo t (past_upto
     pub turn_so : OnceSo t (record { facts = facts_after t.places t.commands f (happenings.Turn u); run_report = report_after t.places t.commands f told (happenings.Turn u) })
     unfolding facts_after
     turn_so = subst (λ b. OnceSo t (record { facts = facts_after t.places t.commands f (happenings.Turn u); run_report = ended b (outcome_at t.places f u) })) refl (turn_by (facts_after t.places t.commands f (happenings.Turn u)) refl refl u.cut refl)
-

@@ -92,7 +92,7 @@ module _ (places : List Place) (asked : List Command) (r : ℕ) where
   waits_pages t n s is (Some c) at =
       cond_both (c.command == r) (waits t) t So
       (λ own. (let pending : pends r t.calls ≡ true = subst (λ m. pends m t.calls ≡ true) (eqb-true c.command r own) (found_pends (is_call_at n s) c t.calls at) in
-          cond_both (t.hold && is_none t.next_call) (with_own t (waiting ∷ [])) t So (λ on. with_waiting t is pending) (λ off. is)))
+      cond_both (t.hold && is_none t.next_call) (with_own t (waiting ∷ [])) t So (λ on. with_waiting t is pending) (λ off. is)))
       (λ other. is)
 
   pub input_pages : (t : RunReport) (n : ℕ) (input : Input) → So t → So (after_input r t n input)
@@ -112,10 +112,10 @@ module _ (places : List Place) (asked : List Command) (r : ℕ) where
       let u : RunReport = call_line r (without_call t c.node c.session) c.command (is_down places n) in
       cond_both (c.node == n) (stopped_calls places r u n cs) (stopped_calls places r t n cs) So
       (λ here. stopped_so n u cs apart.1
-          (all_weaker (λ (d : Call). (is_call_at c.node c.session d ≡ false) × (call_at t d.node d.session ≡ Some d)) (λ (d : Call). call_at u d.node d.session ≡ Some d)
-          (λ d so. ends_left places asked r t is c found.0 (is_down places n) (Node_is_down n) d so.1 so.0) cs
-          (all_both (λ (d : Call). is_call_at c.node c.session d ≡ false) (λ (d : Call). call_at t d.node d.session ≡ Some d) cs apart.0 found.1))
-          (ends_so places asked r t is c found.0 (is_down places n) (Node_is_down n)))
+      (all_weaker (λ (d : Call). (is_call_at c.node c.session d ≡ false) × (call_at t d.node d.session ≡ Some d)) (λ (d : Call). call_at u d.node d.session ≡ Some d)
+      (λ d so. ends_left places asked r t is c found.0 (is_down places n) (Node_is_down n) d so.1 so.0) cs
+      (all_both (λ (d : Call). is_call_at c.node c.session d ≡ false) (λ (d : Call). call_at t d.node d.session ≡ Some d) cs apart.0 found.1))
+      (ends_so places asked r t is c found.0 (is_down places n) (Node_is_down n)))
       (λ other. stopped_so n t cs apart.1 found.1 is)
 
   pub stopped_pages : (n : ℕ) (t : RunReport) (cs : List Call) → t.calls ≡ cs → So t → So (stopped_calls places r t n cs)

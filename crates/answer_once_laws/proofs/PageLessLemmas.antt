@@ -151,7 +151,7 @@ module _ (places : List Place) (asked : List Command) (r : ℕ) where
         let u : RunReport = call_line r (without_call t c.node c.session) c.command (is_down places n) in
         cond_both (c.node == n) (stopped_calls places r u n cs) (stopped_calls places r t n cs) (λ (v : RunReport). pends d v.calls ≡ true → pends d t.calls ≡ true)
         (λ here more. gone_less t is c found.0 (is_down places n) (Node_is_down n) d
-            (stop_less u cs apart.1 (rest_found t is c cs apart.0 found.0 found.1) (ends_so places asked r t is c found.0 (is_down places n) (Node_is_down n)) d more))
+        (stop_less u cs apart.1 (rest_found t is c cs apart.0 found.0 found.1) (ends_so places asked r t is c found.0 (is_down places n) (Node_is_down n)) d more))
         (λ other more. stop_less t cs apart.1 found.1 is d more) some
 
     stop_gone : (t : RunReport) (cs : List Call) → AreApart cs → Found t cs → So t → (c : Call) → Has cs c → c.node ≡ n → pends c.command (stopped_calls places r t n cs).calls ≡ true → ⊥

@@ -1,9 +1,5 @@
 -- The claims, tried on single records and happenings: what a claim that is a little off would say otherwise.
-<<<<<<< HEAD
 use Rattle.std.specs.Prelude.{◌≡◌, ◌+◌, ℕ, Bool, true, false, List, Option, Ok, Some, None}
-=======
-use Rattle.std.specs.Prelude.{◌≡◌, ◌+◌, ℕ, Bool, List, Option, Ok, Some, None, true, false}
->>>>>>> 43edde9bdd5b844e6f164f9390f69bd9a41211cb
 use Rattle.run_rules.specs.Data.fates
 use Rattle.node_rules.specs.Data.{BranchId, Decision, Place}
 use Rattle.node_rules.specs.Data.decisions
