@@ -34,7 +34,8 @@ history_of run script = record { places = places_of run.commands; commands = run
 -- answered is what such a run answered, at the table to which the names in its statement lead. What a client is told is
 -- created, set, forced or purged is on the disk, and such a record is written for no other call.
 -- What a client is told of a COMMIT is true: by Commit complete its transaction is decided in the book, or none of its session
--- tree had changes, or the session had no transaction; by ORA-02050 no branch of it is ever decided; by ORA-02053 one is. A
+-- tree had changes, or the session had no transaction; by ORA-02050 no branch of it is ever decided; by ORA-02053 one is; by
+-- ORA-02054 its root was in doubt then. Each has its cause in the turn that answered it. A
 -- COMMIT that nothing disturbs, that of a CREATE too, is answered Commit complete, its site has decided, its sealed branches
 -- end with commit, and no node keeps a branch of it. A decision that comes to a sealed branch from its neighbour on the way to
 -- the commit point site is written at once: the branch ends with it, or notes how it met it, if it was forced.
