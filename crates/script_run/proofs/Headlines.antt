@@ -26,6 +26,7 @@ use Rattle.run_claims.specs.ReportedDone.{DoneIsReported}
 use Rattle.run_claims.specs.CommitCourse.{QuietCommitsAreComplete}
 use Rattle.commit_answer_laws.specs.CommitLines.{CommitsAnswerTruly}
 use Rattle.commit_obey_laws.specs.ObeyLaws.{EveryDecisionIsObeyed}
+use Rattle.start_laws.specs.StartLaws.{EveryStartRestores}
 use Rattle.view_laws.specs.ViewLaws.{ViewsAreOfBranches}
 use Rattle.answer_once_laws.specs.OnceLaws.{EveryCommandIsAnsweredOnce}
 use Rattle.world.specs.Ran.{IsRan, as_ending}
@@ -47,7 +48,7 @@ empty_report : IsReported (history_of nothing_done no_script) [] All_run
 unfolding past due_of
 empty_report = (refl, tt)
 
-module _ (lawful : TheRunIsLawful) (once : EveryCommandIsAnsweredOnce) (views : ViewsAreOfBranches) (knows : EveryTurnKnows) (meant : EveryRunIsMeant) (comes : EveryAnswerHasItsPlace) (tells : DoneIsReported) (commits : CommitsAnswerTruly) (completes : QuietCommitsAreComplete) (obeys : EveryDecisionIsObeyed) (sites : EverySiteDecides) (covers : EveryDecisionCovers) (agrees : EveryBookAgrees) (marked : EveryMixedIsMarked) (later : EveryScnIsLater) where
+module _ (lawful : TheRunIsLawful) (once : EveryCommandIsAnsweredOnce) (views : ViewsAreOfBranches) (starts : EveryStartRestores) (knows : EveryTurnKnows) (meant : EveryRunIsMeant) (comes : EveryAnswerHasItsPlace) (tells : DoneIsReported) (commits : CommitsAnswerTruly) (completes : QuietCommitsAreComplete) (obeys : EveryDecisionIsObeyed) (sites : EverySiteDecides) (covers : EveryDecisionCovers) (agrees : EveryBookAgrees) (marked : EveryMixedIsMarked) (later : EveryScnIsLater) where
   -- by the laws, of what is due and told
   by_laws : (run : Run) (ending : Ending) (script : AreOfAScript (places_of run.commands) run.commands)
       → IsTheRun (places_of run.commands) run.commands (start (places_of run.commands)) run.trace → run.book ≡ book_of run.trace
@@ -63,6 +64,7 @@ module _ (lawful : TheRunIsLawful) (once : EveryCommandIsAnsweredOnce) (views : 
         answered = told;
         once = once t due;
         views = views t may;
+        starts = starts t may;
         knows = knows t may;
         meant = meant t may;
         come = comes t due;
@@ -106,6 +108,7 @@ stands_too run is = record {
   answered = inr (between _ is.answered.0, is.answered.1);
   once = is.once;
   views = is.views;
+  starts = is.starts;
   knows = is.knows;
   meant = is.meant;
   come = is.come;

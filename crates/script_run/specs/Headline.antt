@@ -13,6 +13,7 @@ use Rattle.run_claims.specs.ReportedDone.{ReportsWhatIsDone}
 use Rattle.run_claims.specs.CommitCourse.{QuietCommitsAreDone}
 use Rattle.commit_answer_laws.specs.CommitLines.{CommitAnswersAreTrue}
 use Rattle.commit_obey_laws.specs.ObeyLaws.{Obedience}
+use Rattle.start_laws.specs.StartLaws.{StartsRestore}
 use Rattle.view_laws.specs.ViewLaws.{ViewsOf}
 use Rattle.answer_once_laws.specs.OnceLaws.{EachIsAnsweredOnce, AllAreAnsweredOnce, LaterAnswersStandWhereCallsEnd}
 use Rattle.script_run.specs.declared.outcome.Run.{Run}
@@ -28,6 +29,8 @@ history_of run script = record { places = places_of run.commands; commands = run
 -- `waiting` and one answer more once its call has ended, with the command in whose course it ended; what else has its number
 -- is a notice. SHOW PENDING and SHOW NEIGHBORS show just the branches that by the records are prepared, committed or forced
 -- there, and SHOW PENDING those that are collecting.
+-- After each start a node has, at each key that is not in doubt, the row that the book leaves there; the keys of its branches in
+-- doubt are locked, and no others; its catalog and kept rows are those of its records; and nobody is live there.
 -- Each record of a turn, and each Exec, Abort, ReadOnly and Committed, has its cause in what came to its branch and what
 -- happened before. Where a node runs a query, it answers the query's meaning over the rows that the book leaves there, with the
 -- changes of the asking branch, and examines no key in doubt; a change counts the rows that it means; what a client is
@@ -50,6 +53,7 @@ pub record IsRun (run : Run) (ending : Ending) : Type 0 where
   pub answered : IsReported (history_of run script) run.answers ending
   pub once : EachIsAnsweredOnce (history_of run script) × AllAreAnsweredOnce (history_of run script) × LaterAnswersStandWhereCallsEnd (history_of run script)
   pub views : ViewsOf (history_of run script)
+  pub starts : StartsRestore (history_of run script)
   pub knows : Knowledge (history_of run script)
   pub meant : RunsAreMeant (history_of run script)
   pub come : AnswersHavePlaces (history_of run script)

@@ -9,6 +9,7 @@ ghost use Rattle.run_claims.specs.CommitCourse.{QuietCommitsAreComplete};
 ghost use Rattle.commit_answer_laws.specs.CommitLines.{CommitsAnswerTruly};
 ghost use Rattle.commit_obey_laws.specs.ObeyLaws.{EveryDecisionIsObeyed};
 ghost use Rattle.view_laws.specs.ViewLaws.{ViewsAreOfBranches};
+ghost use Rattle.start_laws.specs.StartLaws.{EveryStartRestores};
 ghost use Rattle.answer_once_laws.specs.OnceLaws.{EveryCommandIsAnsweredOnce};
 ghost use Rattle.world.specs.Ran.{IsRan, as_ending};
 ghost use Rattle.script_run.specs.Headline.{IsRun, nothing_done};
@@ -27,6 +28,7 @@ use run_cause_laws::every_turn_knows;
 use run_ready_laws::the_run_is_lawful;
 use run_trace::RunRecord;
 use script_read::Commands;
+use start_laws::every_start_restores;
 use std::alloc::Global;
 use tree_cover_laws::every_decision_covers;
 use tree_laws::every_book_agrees;
@@ -88,6 +90,7 @@ fn laws_of_runs()
     ensures lawful { TheRunIsLawful }
     ensures once { EveryCommandIsAnsweredOnce }
     ensures views { ViewsAreOfBranches }
+    ensures starts { EveryStartRestores }
     ensures knows { EveryTurnKnows }
     ensures meant { EveryRunIsMeant }
     ensures comes { EveryAnswerHasItsPlace }
@@ -104,6 +107,7 @@ fn laws_of_runs()
     the_run_is_lawful();
     every_command_is_answered_once();
     views_are_of_branches();
+    every_start_restores();
     every_turn_knows();
     every_run_is_meant();
     every_answer_has_its_place();
