@@ -2,9 +2,9 @@
 use Rattle.std.proofs.Common.{◌≡◌, ◌+◌, ◌-◌, ◌≤◌, ◌<◌, Bool, true, false, if◌then◌else◌, ℕ, zero, suc, List, [], ◌∷◌, ◌++◌, length, take, drop, None, refl, sym, ap, subst, ◌∙◌, arith, append_assoc, length-append}
 use Rattle.std.specs.Prelude.{flat_map, nat_lt}
 use Rattle.std.specs.List.{AllByRecursion}
-use Rattle.std.proofs.lemmas.List.{take_at}
+use Rattle.std.proofs.lemmas.List.{take_at, append-nil}
+use Rattle.std.proofs.lemmas.Bool.{ltb-true, ltb-false}
 use Rattle.std.proofs.lemmas.List.Concat.{flat_map-cons, flat_map-append}
-use Rattle.std.proofs.lemmas.List.Elements.{All-from_recursion, recursion_from_All, All-append}
 use Rattle.dtx_values.specs.declared.row.Change.{Change}
 use Rattle.field_codec.specs.Change.{change_format}
 use Rattle.field_codec.specs.Name.{name_format}
@@ -46,15 +46,15 @@ is_undo bytes cs are = subst (λ (l : List Change). AreBytesOf l bytes) (sym (sa
 pub nothing : AreBytesOf [] []
 nothing = record { fits = tt; spelled = refl }
 
-all_joined : (as bs : List Change) → AllByRecursion change_format.Fits as → AllByRecursion change_format.Fits bs → AllByRecursion change_format.Fits (as ++ bs)
-all_joined [] bs first next = next
-all_joined (a ∷ as) bs first next = (first.0, all_joined as bs first.1 next)
+all_joined : (ds es : List Change) → AllByRecursion change_format.Fits ds → AllByRecursion change_format.Fits es → AllByRecursion change_format.Fits (ds ++ es)
+all_joined [] es first next = next
+all_joined (a ∷ ds) es first next = (first.0, all_joined ds es first.1 next)
 
 -- undo behind undo
-pub joined : (xs ys : List ℕ) (as bs : List Change) → AreBytesOf as xs → AreBytesOf bs ys → AreBytesOf (as ++ bs) (xs ++ ys)
-joined xs ys as bs first next = record {
-  fits = all_joined as bs first.fits next.fits;
-  spelled = ap (λ (l : List ℕ). l ++ ys) first.spelled ∙ ap (λ (l : List ℕ). undo_text as ++ l) next.spelled ∙ sym (flat_map-append change_format.text as bs);
+pub joined : (xs ys : List ℕ) (ds es : List Change) → AreBytesOf ds xs → AreBytesOf es ys → AreBytesOf (ds ++ es) (xs ++ ys)
+joined xs ys ds es first next = record {
+  fits = all_joined ds es first.fits next.fits;
+  spelled = ap (λ (l : List ℕ). l ++ ys) first.spelled ∙ ap (λ (l : List ℕ). undo_text ds ++ l) next.spelled ∙ sym (flat_map-append change_format.text ds es);
 }
 
 -- the first changes alone
@@ -74,26 +74,28 @@ in_two keep (c ∷ cs) =
     let left = keep - length (change_format.text c) in
     split_in (nat_lt keep (length (change_format.text c))) cs (whole_in left cs) c (behind left cs) (sym (in_two left cs))
 
-all_first : (as bs : List Change) → AllByRecursion change_format.Fits (as ++ bs) → AllByRecursion change_format.Fits as
-all_first [] bs all = tt
-all_first (a ∷ as) bs all = (all.0, all_first as bs all.1)
+all_first : (ds es : List Change) → AllByRecursion change_format.Fits (ds ++ es) → AllByRecursion change_format.Fits ds
+all_first [] es all = tt
+all_first (a ∷ ds) es all = (all.0, all_first ds es all.1)
 
-pub cut_to : (keep : ℕ) (cs : List Change) (bytes : List ℕ) → AreBytesOf cs bytes → length (undo_text (whole_in keep cs)) ≡ keep → AreBytesOf (whole_in keep cs) (take keep bytes)
-cut_to keep cs bytes are whole =
-    let front = whole_in keep cs in
-    let back = behind keep cs in
-    let two : cs ≡ front ++ back = sym (in_two keep cs) in
-    let split : bytes ≡ undo_text front ++ undo_text back = are.spelled ∙ ap undo_text two ∙ flat_map-append change_format.text front back in
-    record {
-      fits = all_first front back (subst (AllByRecursion change_format.Fits) two are.fits);
-      spelled = ap (take keep) split ∙ take_at (undo_text front) (undo_text back) keep whole;
-    }
+module _ (keep : ℕ) (cs : List Change) (bytes : List ℕ) (are : AreBytesOf cs bytes) (whole : length (undo_text (whole_in keep cs)) ≡ keep) where
+  split_bytes : bytes ≡ undo_text (whole_in keep cs) ++ undo_text (behind keep cs)
+  split_bytes = are.spelled ∙ ap undo_text (sym (in_two keep cs)) ∙ flat_map-append change_format.text (whole_in keep cs) (behind keep cs)
+
+  pub cut_to : AreBytesOf (whole_in keep cs) (take keep bytes)
+  cut_to = record {
+    fits = all_first (whole_in keep cs) (behind keep cs) (subst (AllByRecursion change_format.Fits) (sym (in_two keep cs)) are.fits);
+    spelled = ap (take keep) split_bytes ∙ take_at (undo_text (whole_in keep cs)) (undo_text (behind keep cs)) keep whole;
+  }
+
+  pub is_within : keep ≤ length bytes
+  is_within = omega (arith, whole, ap length split_bytes, length-append (undo_text (whole_in keep cs)) (undo_text (behind keep cs)))
 
 -- all of the changes in front are within their bytes, and none behind them
 one_whole : (keep size : ℕ) (c : Change) (l : List Change) → size ≤ keep → (if nat_lt keep size then [] else c ∷ l) ≡ c ∷ l
 one_whole keep size c l fits = go (nat_lt keep size) refl where
   go : (b : Bool) → nat_lt keep size ≡ b → (if b then [] else c ∷ l) ≡ c ∷ l
-  go true less = absurd (omega (arith, less, fits))
+  go true less = absurd (omega (arith, ltb-true keep size less, fits))
   go false is = refl
 
 pub whole_in_front : (front back : List Change) → whole_in (length (undo_text front)) (front ++ back) ≡ front
@@ -101,7 +103,7 @@ whole_in_front [] [] = refl
 whole_in_front [] (c ∷ cs) = go (nat_lt 0 (length (change_format.text c))) refl where
   go : (b : Bool) → nat_lt 0 (length (change_format.text c)) ≡ b → (if b then [] else c ∷ whole_in (0 - length (change_format.text c)) cs) ≡ []
   go true less = refl
-  go false is = absurd (omega (arith, is, takes_some c))
+  go false is = absurd (omega (arith, ltb-false 0 (length (change_format.text c)) is, takes_some c))
 whole_in_front (c ∷ front) back =
     let size = length (change_format.text c) in
     let keep = length (undo_text (c ∷ front)) in
@@ -109,3 +111,8 @@ whole_in_front (c ∷ front) back =
     let left : keep - size ≡ length (undo_text front) = omega (arith, long) in
     one_whole keep size c (whole_in (keep - size) (front ++ back)) (omega (arith, long))
     ∙ ap (λ (n : ℕ). c ∷ whole_in n (front ++ back)) left ∙ ap (λ (l : List Change). c ∷ l) (whole_in_front front back)
+
+-- with one more change
+pub pushed : (xs new : List ℕ) (d : Change) → IsUndo xs → change_format.Fits d → new ≡ xs ++ change_format.text d → AreBytesOf (changes_in xs ++ d ∷ []) new
+pushed xs new d are fits is =
+    subst (AreBytesOf (changes_in xs ++ d ∷ [])) (sym is) (joined xs (change_format.text d) (changes_in xs) (d ∷ []) are (record { fits = (fits, tt); spelled = sym (append-nil (change_format.text d)) }))

@@ -15,7 +15,7 @@ use std::alloc::AllocError;
 /// before it, if there is one.
 pub(crate) fn undo_fits(change: &Change, before: Option<&Row>)
     requires key { IsTrue (is_key change.now.key) }
-    requires few { IfSome (option_copied before.entry) HasCount }
+    requires few { IfSome (option_copied before) HasCount }
     ensures { change_format.Fits (with_row change.now (option_copied before.entry)) }
 {
     name_fits(&change.table);
@@ -31,7 +31,7 @@ pub(crate) fn put_undo(
     change: &Change,
     before: Option<&Row>,
 ) -> Result<(), AllocError>
-    requires { change_format.Fits (with_row change.now (option_copied before.entry)) }
+    requires { change_format.Fits (with_row change.now (option_copied before)) }
     ensures written { OnOk result (out.new.items ≡ out.old.items ++ change_format.text (with_row change.now (option_copied before.entry))) }
     ensures kept { StartsWith out.new.items out.old.items }
 {

@@ -71,7 +71,8 @@ impl UndoBook {
         ensures all { all_extents self.new ≡ all_extents self.old }
         ensures others { OthersStay self.old self.new owner }
     {
-        self.pool.put(owner, set.bytes())
+        self.pool.put(owner, set.bytes())?;
+        Ok(())
     }
 
     /// Drops an owner's undo behind the first so many bytes, at which a change ends.

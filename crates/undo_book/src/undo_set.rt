@@ -43,17 +43,19 @@ impl UndoSet {
     /// NULL, and the row has at most 255 cells. Fails where memory runs out, and all is as before then.
     pub fn push(&mut self, change: &Change, before: Option<&Row>) -> Result<(), AllocError>
         requires key { IsTrue (is_key change.now.key) }
-        requires few { IfSome (option_copied before.entry) HasCount }
+        requires few { IfSome (option_copied before) HasCount }
         ensures ok { OnOk result (self.new ≡ self.old ++ with_row change.now (option_copied before.entry) ∷ []) }
         ensures err { OnErr result (self.new ≡ self.old) }
     {
         undo_fits(change, before);
         let len = self.bytes.len();
-        let put = put_undo(&mut self.bytes, change, before);
-        if put.is_err() {
-            self.bytes.truncate(len);
+        match put_undo(&mut self.bytes, change, before) {
+            Ok(()) => Ok(()),
+            Err(error) => {
+                self.bytes.truncate(len);
+                Err(error)
+            }
         }
-        put
     }
 
     /// The bytes.
