@@ -1,11 +1,9 @@
 -- Pools that hold undo: what an owner has after a call, and that the others have what they had.
-use Rattle.std.proofs.Common.{◌≡◌, ◌==◌, ◌+◌, ◌-◌, Bool, true, false, ℕ, List, [], ◌++◌, length, refl, sym, ap, subst, ◌∙◌, arith, length-append}
+use Rattle.std.proofs.Common.{◌≡◌, ◌==◌, ◌+◌, Bool, true, false, ℕ, List, length, refl, sym, ap, subst, arith}
 use Rattle.std.proofs.lemmas.Bool.{eq-eqb, eqb-true}
-use Rattle.std.proofs.lemmas.List.Concat.{flat_map-append}
 use Rattle.dtx_values.specs.declared.row.Change.{Change}
-use Rattle.field_codec.specs.Change.{change_format}
-use Rattle.undo_pool.specs.Pool.{PoolState, bytes_of, extents, extents_of, needed, OthersStay as OthersStayThere}
-use Rattle.undo_book.specs.Undo.{undo_text, changes_in, AreBytesOf, IsUndo, undo_of, HoldUndo, undo_extents, OthersStay}
+use Rattle.undo_pool.specs.Pool.{PoolState, bytes_of, extents, extents_of, OthersStay as OthersStayThere}
+use Rattle.undo_book.specs.Undo.{changes_in, AreBytesOf, IsUndo, undo_of, HoldUndo, undo_extents, OthersStay}
 use Rattle.undo_book.proofs.UndoLaws.{say, is_undo}
 
 -- an owner's undo takes the extents that the owner has
@@ -29,10 +27,3 @@ module _ (p q : PoolState) (o : ℕ) (held : HoldUndo p) (cs : List Change) (are
 
   pub free_too : q.free + extents_of q o ≡ p.free + extents_of p o → q.free + undo_extents (undo_of q o) ≡ p.free + undo_extents (undo_of p o)
   free_too is = omega (arith, is, taken p held o, taken q hold o)
-
--- what more undo needs
-pub needs : (p : PoolState) → HoldUndo p → (o : ℕ) (cs : List Change) → needed p o (length (undo_text cs)) ≡ undo_extents (undo_of p o ++ cs) - undo_extents (undo_of p o)
-needs p held o cs =
-    let long : length (undo_text (undo_of p o ++ cs)) ≡ length (bytes_of p o) + length (undo_text cs) =
-    ap length (flat_map-append change_format.text (undo_of p o) cs) ∙ length-append (undo_text (undo_of p o)) (undo_text cs) ∙ ap (λ (b : List ℕ). length b + length (undo_text cs)) (sym (held o).spelled) in
-    ap (λ (n : ℕ). extents n - extents_of p o) (sym long) ∙ ap (λ (n : ℕ). undo_extents (undo_of p o ++ cs) - n) (sym (taken p held o))

@@ -1,13 +1,11 @@
 -- Each owner's extents are full but for the last: so an owner has its bytes over the size of an extent, rounded up.
-use Rattle.std.proofs.Common.{◌≡◌, ◌==◌, ◌+◌, ◌-◌, ◌*◌, ◌<◌, ◌≤◌, Bool, true, false, if◌then◌else◌, ℕ, suc, List, [], ◌∷◌, ◌++◌, length, take, drop, remove, refl, sym, ap, subst, ◌∙◌, arith, length-append}
-use Rattle.std.specs.Int.{div_ceil}
+use Rattle.std.proofs.Common.{◌≡◌, ◌==◌, ◌+◌, ◌-◌, ◌*◌, ◌<◌, ◌≤◌, Bool, true, false, if◌then◌else◌, ℕ, suc, List, [], ◌∷◌, ◌++◌, length, take, drop, remove, refl, sym, ap, subst, arith, length-append}
 use Rattle.std.proofs.lemmas.Bool.{eq-eqb, eqb-true}
 use Rattle.std.proofs.lemmas.List.Elements.{All-head, All-tail, All-append, All-take, All-drop, All-set, All-push}
 use Rattle.std.proofs.lemmas.Grind.{div_ceil_times}
 use lib.ListN.{set}
 use Rattle.undo_pool.specs.Extents.{Held, extent_size, stream_of, count_of, room_of, AllFit, ArePacked, IsLast, OthersKeep}
 use Rattle.undo_pool.specs.Pool.{extents}
-use Rattle.undo_pool.proofs.Rooms.{room_none}
 use Rattle.undo_pool.proofs.Edits.{without_last, with_last, with_more}
 
 -- a number that bounds a quotient on both sides is it

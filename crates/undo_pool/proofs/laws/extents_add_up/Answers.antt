@@ -1,4 +1,3 @@
-use Rattle.std.proofs.Common.{◌≡◌}
 use Rattle.undo_pool.proofs.Packed.{counted}
 use Rattle.undo_pool.proofs.Owners.{add_up}
 use Rattle.undo_pool.proofs.laws.extents_add_up.Goals as goal

@@ -1,4 +1,4 @@
-use Rattle.std.proofs.Common.{◌≡◌, ◌+◌, ◌++◌, List, sym, subst, ap, ◌∙◌}
+use Rattle.std.proofs.Common.{◌+◌, ◌++◌, List, sym, subst, ap, ◌∙◌}
 use Rattle.dtx_values.specs.declared.row.Change.{Change}
 use Rattle.undo_pool.specs.Pool.{PoolState, bytes_of}
 use Rattle.undo_book.specs.Undo.{AreBytesOf, undo_of, undo_extents, HoldUndo}

@@ -1,5 +1,4 @@
-use Rattle.std.proofs.Common.{◌≡◌, ◌+◌, ℕ, List, take, length, sym, subst, ap, ◌∙◌}
-use Rattle.dtx_values.specs.declared.row.Change.{Change}
+use Rattle.std.proofs.Common.{◌≡◌, ◌+◌, length, sym, subst, ap, ◌∙◌}
 use Rattle.undo_pool.specs.Pool.{PoolState, bytes_of}
 use Rattle.undo_book.specs.Undo.{AreBytesOf, undo_text, undo_of, undo_extents, whole_in}
 use Rattle.undo_book.proofs.UndoLaws.{cut_to, is_within}

@@ -1,5 +1,4 @@
 use Rattle.std.proofs.Common.{[], sym, subst}
-use Rattle.undo_pool.specs.Pool.{PoolState}
 use Rattle.undo_book.specs.Undo.{HoldUndo}
 use Rattle.undo_book.proofs.UndoLaws.{nothing, is_undo}
 use Rattle.undo_book.proofs.undo_book.UndoBook.new.Goals as goal

@@ -1,4 +1,4 @@
-use Rattle.std.proofs.Common.{◌≡◌, [], sym, subst, ap, ◌∙◌}
+use Rattle.std.proofs.Common.{[], sym, subst}
 use Rattle.undo_book.specs.Undo.{AreBytesOf}
 use Rattle.undo_book.proofs.UndoLaws.{nothing, say}
 use Rattle.undo_book.proofs.Books.{hold}

@@ -1,4 +1,4 @@
-use Rattle.std.proofs.Common.{◌≡◌, [], sym, subst}
+use Rattle.std.proofs.Common.{[], sym, subst}
 use Rattle.undo_book.specs.Undo.{AreBytesOf}
 use Rattle.undo_book.proofs.UndoLaws.{nothing, say, is_undo}
 use Rattle.undo_book.proofs.undo_set.UndoSet.new.Goals as goal

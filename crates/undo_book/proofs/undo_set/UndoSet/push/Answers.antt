@@ -1,4 +1,4 @@
-use Rattle.std.proofs.Common.{◌≡◌, ◌∷◌, [], ◌++◌, List, ap, ◌∙◌}
+use Rattle.std.proofs.Common.{◌∷◌, [], ◌++◌, List, ap, ◌∙◌}
 use Rattle.std.specs.Option.{option_copied}
 use Rattle.dtx_values.specs.declared.row.Change.{Change}
 use Rattle.undo_book.specs.Undo.{with_row, changes_in}

@@ -1,4 +1,4 @@
-use Rattle.std.proofs.Common.{rules, ◌≡◌, ◌+◌, ◌<◌, ◌++◌, ◌∷◌, [], ℕ, List, length, sym, ◌∙◌, ap, arith, append_assoc, length-append}
+use Rattle.std.proofs.Common.{rules, ◌≡◌, ◌<◌, ◌++◌, ◌∷◌, [], ℕ, List, length, sym, ◌∙◌, ap, arith, append_assoc, length-append}
 use Rattle.undo_pool.specs.Extents.{extent_size, stream_of}
 use Rattle.undo_pool.proofs.Edits.{with_more, keep_on}
 use Rattle.undo_pool.proofs.pool.Pool.add.Goals as goal

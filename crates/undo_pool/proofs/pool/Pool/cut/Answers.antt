@@ -1,4 +1,4 @@
-use Rattle.std.proofs.Common.{rules, slice_set, ◌≡◌, ◌+◌, ◌-◌, ◌≤◌, ℕ, List, length, take, remove, sym, ◌∙◌, ap, subst, arith, length-append}
+use Rattle.std.proofs.Common.{rules, slice_set, ◌≡◌, ◌+◌, ◌-◌, ℕ, List, length, take, remove, sym, ◌∙◌, ap, subst, arith, length-append}
 use Rattle.std.proofs.lemmas.List.{take-append-le, length-take-le, length-set}
 use Rattle.std.proofs.lemmas.List.Edits.{length-remove}
 use Rattle.undo_pool.specs.Extents.{Held, stream_of, count_of, IsLastOf, OthersKeep}

@@ -1,5 +1,5 @@
-use Rattle.std.proofs.Common.{rules, ◌≡◌, ◌+◌, ◌<◌, ◌≤◌, ◌++◌, ℕ, length, sym, ◌∙◌, ap, subst, arith}
-use Rattle.undo_pool.specs.Extents.{Held, extent_size, IsLastOf}
+use Rattle.std.proofs.Common.{rules, ◌<◌, length, ap, arith}
+use Rattle.undo_pool.specs.Extents.{Held, IsLastOf}
 use Rattle.undo_pool.proofs.Rooms.{room_none}
 use Rattle.undo_pool.proofs.Edits.{without_last_of, filled}
 use Rattle.undo_pool.proofs.pool.Pool.fill.Goals as goal

@@ -1,5 +1,5 @@
 use Rattle.std.proofs.Common.{rules, ◌≡◌, ◌+◌, ◌<◌, ◌≤◌, ◌++◌, List, length, slice_set, slice_index_or, subst, sym, ap, ◌∙◌, arith, length-append}
-use Rattle.undo_pool.specs.Extents.{Held, extent_size, IsLast, room_of}
+use Rattle.undo_pool.specs.Extents.{Held, extent_size, IsLast}
 use Rattle.undo_pool.proofs.Packed.{packed_last, fit_last}
 use Rattle.undo_pool.proofs.pool.Pool.lengthen.Goals as goal
 
@@ -17,7 +17,10 @@ invariant_of-self c =
     let long = length-append last.it.bytes more in
     let room : length last.it.bytes + length more ≤ extent_size = subst (λ (y : Held). length y.bytes + length more ≤ extent_size) (last.at x) (subst (λ (l : List Held). length (slice_index_or l place x).bytes + length more ≤ extent_size) (sym same) (c.requires.fits x)) in
     let fits : length (last.it.bytes ++ more) ≤ extent_size = omega (arith, long, room) in
-    let some : 0 < length (last.it.bytes ++ more) = omega (arith, long, c.requires.some) in
-    (search rules, search rules, search rules,
+    let some : 0 < length (last.it.bytes ++ more) = omega (arith, long, c.requires.some) in (
+      search rules,
+      search rules,
+      search rules,
       fit_last xs _ place (record last.it { bytes = last.it.bytes ++ more }) c.self.invariant.3 fits is,
-      packed_last xs _ place last (last.it.bytes ++ more) c.self.invariant.4 c.self.invariant.3 some fits is)
+      packed_last xs _ place last (last.it.bytes ++ more) c.self.invariant.4 c.self.invariant.3 some fits is,
+    )

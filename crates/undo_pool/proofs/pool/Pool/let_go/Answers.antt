@@ -1,4 +1,4 @@
-use Rattle.std.proofs.Common.{rules, ◌≡◌, remove, List, subst, sym, ap, ◌∙◌}
+use Rattle.std.proofs.Common.{rules, ◌≡◌, remove, List, subst, sym, ap}
 use Rattle.undo_pool.specs.Extents.{Held, IsLast, AllFit, ArePacked}
 use Rattle.undo_pool.proofs.Packed.{packed_less, fit_less}
 use Rattle.undo_pool.proofs.pool.Pool.let_go.Goals as goal

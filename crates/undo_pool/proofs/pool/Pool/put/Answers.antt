@@ -1,4 +1,4 @@
-use Rattle.std.proofs.Common.{rules, ◌≡◌, ◌+◌, ◌-◌, ◌≤◌, ◌<◌, ℕ, length, sym, ◌∙◌, ap, arith}
+use Rattle.std.proofs.Common.{◌≡◌, ◌-◌, length, ◌∙◌, ap, arith}
 use Rattle.undo_pool.specs.Pool.{extents, needed}
 use Rattle.undo_pool.specs.Extents.{room_of}
 use Rattle.undo_pool.proofs.Packed.{counted, more_needed}

@@ -19,7 +19,10 @@ invariant_of-self c =
     let long : length (take keep last.it.bytes) ≡ keep = length-take-le keep last.it.bytes within in
     let fitted = last_fits xs place last c.self.invariant.3 in
     let fits : length (take keep last.it.bytes) ≤ extent_size = omega (arith, long, within, fitted) in
-    let some : 0 < length (take keep last.it.bytes) = omega (arith, long, c.requires.some) in
-    (search rules, search rules, search rules,
+    let some : 0 < length (take keep last.it.bytes) = omega (arith, long, c.requires.some) in (
+      search rules,
+      search rules,
+      search rules,
       fit_last xs _ place (record last.it { bytes = take keep last.it.bytes }) c.self.invariant.3 fits is,
-      packed_last xs _ place last (take keep last.it.bytes) c.self.invariant.4 c.self.invariant.3 some fits is)
+      packed_last xs _ place last (take keep last.it.bytes) c.self.invariant.4 c.self.invariant.3 some fits is,
+    )

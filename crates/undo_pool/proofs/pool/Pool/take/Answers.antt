@@ -1,5 +1,5 @@
-use Rattle.std.proofs.Common.{rules, ◌≡◌, ◌∷◌, ◌++◌, List, [], ap, sym, ◌∙◌}
-use Rattle.undo_pool.specs.Extents.{Held, room_of}
+use Rattle.std.proofs.Common.{rules, ◌≡◌, ◌∷◌, ◌++◌, [], ap, ◌∙◌}
+use Rattle.undo_pool.specs.Extents.{room_of}
 use Rattle.undo_pool.proofs.Packed.{packed_more, fit_more}
 use Rattle.undo_pool.proofs.pool.Pool.take.Goals as goal
 
