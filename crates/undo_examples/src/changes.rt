@@ -4,7 +4,8 @@ use std::alloc::{AllocError, Global};
 use undo_book::{UndoBook, UndoSet};
 
 /// The undo of an INSERT into T at 1, and behind it that of an UPDATE there of the row (1, 'a').
-const TWO: [u8; 38] = *b"\x01T\x01\0\0\0\0\0\0\0\x01\0\x01T\x01\0\0\0\0\0\0\0\x01\x01\x02\x01\0\0\0\0\0\0\0\x01\x02\0\x01a";
+const TWO: [u8; 38] =
+    *b"\x01T\x01\0\0\0\0\0\0\0\x01\0\x01T\x01\0\0\0\0\0\0\0\x01\x01\x02\x01\0\0\0\0\0\0\0\x01\x02\0\x01a";
 
 /// A book of two extents with the undo of both for one owner, or none where it is full.
 fn book_of_two(alloc: Global, table: Name, text: Str) -> Result<Option<UndoBook>, AllocError> {

@@ -21,14 +21,20 @@ impl From<Full> for Wrong {
     }
 }
 
-/// Adds so many bytes, which count up from a first one, to what an owner has.
-fn add(alloc: Global, pool: &mut Pool, owner: u32, first: u8, count: usize) -> Result<(), Wrong> {
+/// So many bytes, which count up from a first one.
+fn counting(alloc: Global, first: u8, count: usize) -> Result<Vec<u8>, AllocError> {
     let mut bytes = Vec::with_capacity(alloc, count)?;
     let mut byte = first;
     for _ in 0..count {
         bytes.push(byte)?;
         byte = byte.wrapping_add(1);
     }
+    Ok(bytes)
+}
+
+/// Adds so many bytes, which count up from a first one, to what an owner has.
+fn add(alloc: Global, pool: &mut Pool, owner: u32, first: u8, count: usize) -> Result<(), Wrong> {
+    let bytes = counting(alloc, first, count)?;
     pool.put(owner, &bytes)?;
     Ok(())
 }
