@@ -63,7 +63,9 @@ fn extents_are_taken_and_come_back(rt: HostRuntime) {
 fn refusal_of_much(alloc: Global) -> Result<(), Wrong> {
     let mut pool = Pool::new(alloc, 1024)?;
     add(alloc, &mut pool, 7, 0, 1)?;
-    add(alloc, &mut pool, 8, 0, 5_000_000)
+    let much = vec![in alloc; 0; 5_000_000]?;
+    pool.put(8, &much)?;
+    Ok(())
 }
 
 #[test]
