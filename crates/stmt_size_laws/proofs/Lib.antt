@@ -1,4 +1,3 @@
-pub mod LengthLaws
 pub mod TokenLengths
 pub mod FitLaws
 pub mod PartLengths

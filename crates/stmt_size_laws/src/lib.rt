@@ -1,7 +1,4 @@
-//! Laws of lengths: those that are counted are those of bytes, and a printed statement is at most three times as long as its text.
-//!
-//! How large the changes of a branch may be, and how much undo they need, is said of lengths that are computed from values
-//! (sql_eval). The bytes themselves stand in records (field_codec). Here both are shown to be one.
+//! Laws of lengths: a printed statement is at most three times as long as its text.
 //!
 //! A statement goes to another node as its printed text (sql_print), while a script's limit is on the text that it is read from
 //! (sql_parse). Here the printed text is bounded by the text that was read.
@@ -9,13 +6,6 @@
 
 ghost use Rattle.std.specs.Prelude.{◌≡◌, ◌≤◌, ◌<◌, ◌+◌, ◌*◌, ◌^◌, ℕ, Bool, List, length, Option, Some, codes};
 ghost use Rattle.std.specs.Option.{option_map};
-ghost use Rattle.dtx_values.specs.declared.value.Value.{Value};
-ghost use Rattle.dtx_values.specs.declared.row.Row.{Row};
-ghost use Rattle.dtx_values.specs.declared.row.Change.{Change};
-ghost use Rattle.byte_format.specs.Part.{optional};
-ghost use Rattle.field_codec.specs.Value.{value_format, row_format};
-ghost use Rattle.field_codec.specs.Change.{change_format};
-ghost use Rattle.sql_eval.specs.Rows.{value_length, row_length, change_length};
 ghost use Rattle.dtx_values.specs.Limits.{name_limit, script_limit};
 ghost use Rattle.sql_statement.specs.declared.condition.Cond.{Cond};
 ghost use Rattle.sql_statement.specs.declared.query.Picked.{Picked};
@@ -26,13 +16,6 @@ ghost use Rattle.sql_statement.specs.declared.statement.TableRef.{TableRef};
 ghost use Rattle.sql_statement.specs.declared.sum.Sum.{Sum};
 ghost use Rattle.sql_parse.specs.Statement.{IsStatement, statement_of};
 ghost use Rattle.sql_print.specs.Printing.{table_text, printed};
-
-/// The length of a value, of a row or of none, and of a change is the number of bytes that spell it.
-pub fn lengths_are_those_of_bytes()
-    ensures values { (v : Value) → value_length v ≡ length (value_format.text v) }
-    ensures rows { (row : Option Row) → row_length row ≡ length ((optional row_format).text row) }
-    ensures changes { (c : Change) → change_length c ≡ length (change_format.text c) }
-{}
 
 /// The printed text of a statement has at most seven bytes for each three of a text that spells it, so at most three for each.
 /// Nearest to seven comes a sum of empty texts, where `+''` is printed as ` + NULL`. So a statement of a script is printed in

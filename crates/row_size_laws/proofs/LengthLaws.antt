@@ -1,6 +1,6 @@
 -- The lengths that are computed from values are those of the bytes that spell them.
 use Rattle.std.proofs.Common.{◌≡◌, ℕ, ◌+◌, List, [], ◌∷◌, ◌++◌, length, Option, Some, None, refl, sym, ap, ◌∙◌, arith}
-use Rattle.std.specs.List.{fold, sum_by}
+use Rattle.std.specs.List.{fold, sum_by, flat_map}
 use Rattle.std.proofs.lemmas.List.{length-append}
 use Rattle.std.proofs.lemmas.List.Concat.{length-flat_map}
 use Rattle.dtx_values.specs.declared.value.Value.{Value}
@@ -40,3 +40,12 @@ change_length_is c =
     let whole = length-append (name_format.text c.table) (value_format.text c.key ++ (optional row_format).text c.after) in
     let rest = length-append (value_format.text c.key) ((optional row_format).text c.after) in
     omega (arith, key, after, whole, rest)
+
+-- added up from any number on
+added_changes : (total : ℕ) (cs : List Change) → fold (λ sum c. sum + change_length c) total cs ≡ fold (λ sum c. sum + length (change_format.text c)) total cs
+added_changes total [] = refl
+added_changes total (c ∷ cs) =
+    ap (λ (n : ℕ). fold (λ sum x. sum + change_length x) (total + n) cs) (change_length_is c) ∙ added_changes (total + length (change_format.text c)) cs
+
+pub changes_length_is : (cs : List Change) → sum_by change_length cs ≡ length (flat_map change_format.text cs)
+changes_length_is cs = added_changes 0 cs ∙ sym (length-flat_map change_format.text cs)

@@ -1,0 +1,2 @@
+pub mod UndoLaws
+mod Books
