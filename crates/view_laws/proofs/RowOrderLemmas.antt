@@ -3,9 +3,9 @@
 use Rattle.std.proofs.Common.{◌≡◌, ℕ, Bool, true, false, cond, not, if◌then◌else◌, List, [], ◌∷◌, map, filter, refl, sym, ap, subst, ◌∙◌, arith}
 use Rattle.std.proofs.lemmas.Bool.Decides.{nat_tests}
 use Rattle.tran_ids.specs.Branch.{branch_below, put_by_branch}
-use Rattle.redo_record.specs.Data.{BranchId, Decision, RedoRecord, KeptRow}
-use Rattle.redo_record.specs.Data.decisions
-use Rattle.redo_record.specs.Data.records
+use Rattle.node_rules.specs.Data.{BranchId, Decision, RedoRecord, KeptRow}
+use Rattle.node_rules.specs.Data.decisions
+use Rattle.node_rules.specs.Data.records
 use Rattle.redo_record.specs.Kept.{stands_at, keep_decided, ended_commit, ended, forced_state, in_state, met_as, met, forgot_as, is_done, forgotten, hidden_as, kept_after}
 use Rattle.redo_record.specs.Lists.{change_where, drop_where}
 use Rattle.redo_record.specs.Rows.{sealed_as, decided_as, has_neighbors}

@@ -1,23 +1,33 @@
--- The tried views, by computation.
-use Rattle.std.proofs.Common.{refl}
-use Rattle.pending_view.specs.Views.{pending_rows, neighbor_rows}
+-- The tried views, by computation: each in a lemma of its own, since the check of a lemma has a limit.
+use Rattle.std.proofs.Common.{◌≡◌, true, [], ◌∷◌, map, codes, refl}
 use Rattle.node_rules.specs.Force.{branch_to_force, purge}
 use Rattle.net_bag.specs.Net.{lost}
+use Rattle.run_branch_laws.specs.TriedRun.{b}
 use Rattle.tree_laws.proofs.Trying.{trying, trying_trails}
-use Rattle.view_laws.specs.TriedViews.{TheTriedViews}
+use Rattle.view_laws.specs.TriedViews.{TheTriedViews, rows_when, states_when, forced_back, met, purged}
+
+forced_is : states_when forced_back 2 b ≡ codes "forced rollback" ∷ []
+unfolding trying trying_trails branch_to_force purge lost
+forced_is = refl
+
+mixed_is : map (λ r. r.mixed) (rows_when met 2 b) ≡ true ∷ []
+unfolding trying trying_trails branch_to_force purge lost
+mixed_is = refl
+
+hidden_is : states_when purged 2 b ≡ []
+unfolding trying trying_trails branch_to_force purge lost
+hidden_is = refl
 
 pub the_tried_views : TheTriedViews
-unfolding trying trying_trails branch_to_force purge lost pending_rows neighbor_rows
+unfolding trying trying_trails
 the_tried_views = record {
   working = refl;
   collecting = refl;
   sealed = refl;
   decided = refl;
-  forced = refl;
-  mixed = refl;
-  hidden = refl;
+  forced = forced_is;
+  mixed = mixed_is;
+  hidden = hidden_is;
   forgotten = refl;
-  shows = refl;
-  neighbors = refl;
   toward = refl;
 }

@@ -7,13 +7,10 @@ use Rattle.node_rules.specs.Data.stmts
 use Rattle.node_rules.specs.Ids.{local_text}
 use Rattle.run_rules.specs.Branches.{Trail, no_trail}
 use Rattle.run_rules.specs.Data.{Turn}
-use Rattle.run_rules.specs.Data.commands
 use Rattle.run_rules.specs.Facts.{Facts, first_facts, facts_of}
-use Rattle.run_rules.specs.Shown.{shown}
 use Rattle.run_rules.specs.Trail.{trail_of}
 use Rattle.run_branch_laws.specs.TriedRun.{names, places, calls, takes, played, coming, a, b}
 use Rattle.view_laws.specs.BranchRows.{OpenColumns, pending_at, neighbors_at}
-use Rattle.view_laws.specs.ViewLaws.{pending_lines, neighbor_lines}
 
 -- the facts when these have come
 abbrev pub facts_when : List (Facts → Turn) → Facts
@@ -51,7 +48,7 @@ met = forced_back ++ takes 7 ∷ []
 abbrev pub purged : List (Facts → Turn)
 purged = met ++ calls 2 (stmts.PurgeMixed (local_text b)) ∷ []
 
--- The states of the rows of A and B, and what the views print of them.
+-- The states of the rows of A and B, and whether B's row of its parent points to the commit point site.
 pub record TheTriedViews : Type 0 where
   pub working : states_when (take 9 coming) 1 a ≡ []
   pub collecting : states_when (take 10 coming) 1 a ≡ codes "collecting" ∷ []
@@ -61,6 +58,4 @@ pub record TheTriedViews : Type 0 where
   pub mixed : map (λ r. r.mixed) (rows_when met 2 b) ≡ true ∷ []
   pub hidden : states_when purged 2 b ≡ []
   pub forgotten : states_when coming 1 a ≡ []
-  pub shows : shown places (facts_when prepared) (commands.ShowPending 2) ≡ pending_lines names (rows_when prepared 2 b)
-  pub neighbors : shown places (facts_when prepared) (commands.ShowNeighbors 2) ≡ neighbor_lines (neighbors_at names (facts_when prepared) 2 b)
   pub toward : map (λ r. r.to_site) (neighbors_at names (facts_when prepared) 2 b) ≡ true ∷ []

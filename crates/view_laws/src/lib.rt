@@ -18,7 +18,7 @@ pub fn views_are_of_branches()
 {}
 
 /// The law is not about nothing: in the tried run of two nodes A is collecting and then committed, and B is prepared, forced,
-/// mixed and purged, and the views print these rows.
+/// mixed and purged, and each has the row that these say, or none.
 pub fn the_tried_views()
     ensures { TheTriedViews }
 {}
