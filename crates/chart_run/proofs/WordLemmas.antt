@@ -21,12 +21,11 @@ one_number : (other : ℕ) (o : Option (List ℕ)) (m n : ℕ) → IsChosen othe
 one_number other None m n p q = p ∙ sym q
 one_number other (Some t) m n p q = p.0 ∙ sym q.0
 
+same_choices : (v w : Choices) → v.text ≡ w.text → v.first ≡ w.first → v.last ≡ w.last → v ≡ w
+same_choices v w text first last = cc
+
 one_choice : (ws : List (List ℕ)) (v w : Choices) → AskDraw v ws → AskDraw w ws → v ≡ w
-one_choice ws v w p q =
-    let text : v.text ≡ w.text = p.1 ∙ sym q.1 in
-    let first : v.first ≡ w.first = one_number _ _ v.first w.first p.2 q.2 in
-    let last : v.last ≡ w.last = one_number _ _ v.last w.last p.3 q.3 in
-    cc
+one_choice ws v w p q = same_choices v w (p.1 ∙ sym q.1) (one_number _ _ v.first w.first p.2 q.2) (one_number _ _ v.last w.last p.3 q.3)
 
 -- ---- memory ran out over the words
 
