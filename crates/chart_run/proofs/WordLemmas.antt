@@ -1,5 +1,5 @@
 -- What words mean, they mean alone; so a call ends as it has to for what they mean.
-use Rattle.std.proofs.Common.{◌≡◌, ◌∙◌, ℕ, false, List, [], Option, Some, None, inl, inr, refl, sym, subst, arith}
+use Rattle.std.proofs.Common.{◌≡◌, ◌∙◌, ℕ, Bool, List, [], Option, Some, None, inl, inr, refl, sym, ap, subst, arith}
 use Rattle.dtx_values.specs.Limits.{script_limit}
 use Rattle.dtx_ports.specs.Whole.{ReadsWithin}
 use Rattle.script_run.specs.declared.outcome.Run.{Run}
@@ -22,7 +22,10 @@ one_number other None m n p q = p ∙ sym q
 one_number other (Some t) m n p q = p.0 ∙ sym q.0
 
 same_choices : (v w : Choices) → v.text ≡ w.text → v.first ≡ w.first → v.last ≡ w.last → v ≡ w
-same_choices v w text first last = cc
+same_choices v w text first last =
+    ap (λ (b : Bool). record { text = b; first = v.first; last = v.last }) text
+    ∙ (ap (λ (n : ℕ). record { text = w.text; first = n; last = v.last }) first
+    ∙ ap (λ (n : ℕ). record { text = w.text; first = w.first; last = n }) last)
 
 one_choice : (ws : List (List ℕ)) (v w : Choices) → AskDraw v ws → AskDraw w ws → v ≡ w
 one_choice ws v w p q = same_choices v w (p.1 ∙ sym q.1) (one_number _ _ v.first w.first p.2 q.2) (one_number _ _ v.last w.last p.3 q.3)
