@@ -2,10 +2,15 @@
 //!
 //! A branch that was not forced writes that it ended with the decision. A forced one writes that it met it, marked as mixed
 //! exactly where the forced outcome and the decision differ (`specs/ObeyLaws.antt`).
+//!
+//! The node keeps a row of a sealed branch until then, and longer: until the branch ended with a rollback, or met one or
+//! forgot; a mixed row stays, whether it is hidden or not (`specs/RowStayLaws.antt`).
 #![tactic(auto)]
 
 ghost use Rattle.commit_obey_laws.specs.ObeyLaws.{DecisionsAreObeyed, EveryDecisionIsObeyed};
+ghost use Rattle.commit_obey_laws.specs.RowStayLaws.{EverySealedRowStays};
 ghost use Rattle.commit_obey_laws.specs.TriedObey.{TheTriedObey};
+ghost use Rattle.commit_obey_laws.specs.TriedRowStay.{TheTriedRowStay};
 
 /// In every lawful run each decision that comes from toward to a sealed branch that has learned none is written in that turn.
 pub fn decisions_are_obeyed()
@@ -22,4 +27,15 @@ pub fn every_decision_is_obeyed()
 /// The law is not about nothing: in the tried run of two nodes B ends with the commit that A tells it, and, forced before, meets it.
 pub fn the_tried_obey()
     ensures { TheTriedObey }
+{}
+
+/// In every lawful run, at each moment at which its node is up, the node keeps a row of a sealed branch, hidden or not, until the
+/// branch is gone: it ended with a rollback, or it met one or forgot and is not mixed. From then on there is no row.
+pub fn every_sealed_row_stays()
+    ensures { EverySealedRowStays }
+{}
+
+/// The law is not about nothing: in the tried run B's row goes when it forgets, and a mixed one stays though it was purged.
+pub fn the_tried_row_stay()
+    ensures { TheTriedRowStay }
 {}

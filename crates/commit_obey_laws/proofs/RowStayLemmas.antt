@@ -1,0 +1,248 @@
+-- In every lawful run a sealed branch has a row at its node exactly where it is not gone.
+use Rattle.std.proofs.Common.{◌≡◌, ◌≢◌, ℕ, zero, suc, ◌+◌, ◌==◌, ◌||◌, ◌&&◌, not, Bool, true, false, true≢false, if◌then◌else◌, List, [], ◌∷◌, ◌++◌, filter, flat_map, map, take, Option, Some, None, inl, inr, refl, sym, ap, subst, subst₂, ◌∙◌, append-nil, arith}
+use Rattle.std.specs.Prelude.{IfSome}
+use Rattle.std.specs.Option.{option_to_list}
+use Rattle.std.specs.List.{list_any}
+use Rattle.std.proofs.lemmas.Bool.{and_parts, eq-eqb}
+use Rattle.tran_ids.proofs.BranchLemmas.{equal_from_same}
+use Rattle.redo_record.specs.Durable.{durable_after}
+use Rattle.redo_record.specs.Kept.{stands_at, kept_after}
+use Rattle.agreement.specs.Events.{Exit, Sealed, Decided, Quiet, Dropped, Event, exit_by, exit, learned}
+use Rattle.agreement.proofs.BookTests.{not_true}
+use Rattle.agreement.proofs.EventLemmas.{only_at_is}
+use Rattle.node_rules.specs.Data.{BranchId, Decision, KeptRow, RedoRecord, Place}
+use Rattle.node_rules.specs.Data.params
+use Rattle.node_rules.specs.Data.records
+use Rattle.node_rules.specs.NodeState.{NodeState, Stored}
+use Rattle.node_rules.specs.Records.{applied, nothing_stored, stored_by}
+use Rattle.node_rules.specs.Words.{same, numbered}
+use Rattle.run_rules.specs.Book.{is_sealed_of, stands}
+use Rattle.run_rules.specs.Data.{Entry, Turn, Happening, Command}
+use Rattle.node_rules.specs.Data.decisions
+use Rattle.run_rules.specs.Data.entries
+use Rattle.run_rules.specs.Data.happenings
+use Rattle.run_rules.specs.Each.{facts_upto}
+use Rattle.run_rules.specs.Entries.{entry_of, book_of}
+use Rattle.run_rules.specs.Facts.{Facts, first_facts, node_at, records_at, facts_after}
+use Rattle.run_rules.specs.Lawful.{IsPlace, MayHappen, History, IsLawfulRun, facts_at}
+use Rattle.run_rules.proofs.AtNodeLemmas.{turn_elsewhere, turn_here, start_elsewhere, start_here}
+use Rattle.run_base_laws.specs.EventRows.{MayStand}
+use Rattle.run_base_laws.specs.IdLaws.{IsRecordOf}
+use Rattle.run_base_laws.specs.NodeLaws.{unacked_row}
+use Rattle.run_base_laws.specs.RunEvents.{with_event, wrote_event, record_event, with_record, events_after, events_of}
+use Rattle.run_base_laws.proofs.EventsStandLemmas.{BranchStatus, node_so, owned_so, stand_on, stand_first, first_disk}
+use Rattle.run_base_laws.proofs.LaterLemmas.{Added, Later, Was_said, Was_quiet, Was_dropped, exit_later, exit_made, learned_same, later_learned, turn_added, stop_added, events_keep}
+use Rattle.run_base_laws.proofs.NodesStandLemmas.{stored_rows, LeavesAlone, wrote_elsewhere}
+use Rattle.run_base_laws.proofs.StoredLemmas.{stored_with, records_are_kept}
+use Rattle.run_base_laws.proofs.TurnEventLemmas.{cases_nat, record_may, record_own}
+use Rattle.run_branch_laws.proofs.KeptRowLemmas.{any_map}
+use Rattle.tree_laws.proofs.PrefixLemmas.{so_far}
+use Rattle.tree_laws.proofs.TimeLemmas.{part_lawful}
+use Rattle.book_laws.specs.DiskLaws.{node_of, is_of_node}
+use Rattle.book_laws.proofs.DiskLemmas.{books_are_of_disks}
+use Rattle.book_laws.proofs.RowLemmas.{run_book}
+use Rattle.commit_obey_laws.specs.RowStayLaws.{is_rollback_end_of, is_met_rollback_of, is_mixed_of, is_gone, has_row, EverySealedRowStays}
+use Rattle.commit_obey_laws.proofs.RowMarkLemmas.{marks, some_mark, has_marks}
+use Rattle.commit_obey_laws.proofs.RowToldLemmas.{Told, told_by, told_with, told_last, gone_by, left_by, just_sealed, nothing_told, RowStands, stands_same, first_right, on_record}
+
+-- ---- the records of a node
+
+-- the rows of a branch, by these records, stand as the events say
+abbrev RowAt : List Event → BranchId → List RedoRecord → Type 0
+RowAt t b rs = RowStands (exit t b) (learned t b) (marks b (stored_by nothing_stored rs).durable.kept) (told_by b b.node rs)
+
+module _ (b : BranchId) (t : List Event) (untaught : exit t b ≡ None → learned t b ≡ None) where
+  stored_on : (s : Stored) (x : Told) (r : RedoRecord) → MayStand t r → RowStands (exit t b) (learned t b) (marks b s.durable.kept) x
+      → RowStands (exit (with_event (record_event b.node r) t) b) (learned (with_event (record_event b.node r) t) b) (marks b (applied s r).durable.kept) (told_with b b.node x r)
+  unfolding applied durable_after kept_after
+  stored_on s x (records.Boot m) may now = on_record b b.node t untaught s.durable.kept x now (records.Boot m) may
+  stored_on s x (records.Table table) may now = on_record b b.node t untaught s.durable.kept x now (records.Table table) may
+  stored_on s x (records.Link l) may now = on_record b b.node t untaught s.durable.kept x now (records.Link l) may
+  stored_on s x (records.Synonym y) may now = on_record b b.node t untaught s.durable.kept x now (records.Synonym y) may
+  stored_on s x (records.Param (params.Recovery on)) may now = on_record b b.node t untaught s.durable.kept x now (records.Param (params.Recovery on)) may
+  stored_on s x (records.Param (params.Strength strength)) may now = on_record b b.node t untaught s.durable.kept x now (records.Param (params.Strength strength)) may
+  stored_on s x r may now = on_record b b.node t untaught s.durable.kept x now r may
+
+  wrote_on : (rs : List RedoRecord) (w : Option RedoRecord) → IfSome w (MayStand t) → RowAt t b rs → RowAt (with_event (wrote_event b.node w) t) b (rs ++ option_to_list w)
+  wrote_on rs None may now = subst (RowAt t b) (sym (append-nil rs)) now
+  wrote_on rs (Some r) may now =
+      let after : List Event = with_event (record_event b.node r) t in
+      subst₂ (λ (s : Stored) (x : Told). RowStands (exit after b) (learned after b) (marks b s.durable.kept) x) (sym (stored_with rs (Some r))) (sym (told_last b b.node rs r))
+      (stored_on (stored_by nothing_stored rs) (told_by b b.node rs) r may now)
+
+-- ---- later events
+
+later_unsealed : {before after : List BranchId} (b : BranchId) (m : ℕ) (e : Event) → Later before after e → exit_by e b ≡ Some (Sealed m) → ⊥
+later_unsealed b m e (Was_said x none) is = let no : None ≡ Some (Sealed m) = sym (none b).0 ∙ is in absurd cc
+later_unsealed b m e (Was_quiet c was gone) is = let at = only_at_is c b Quiet (Sealed m) is in absurd (cc (at.1))
+later_unsealed b m e (Was_dropped c was gone) is = let at = only_at_is c b Dropped (Sealed m) is in absurd (cc (at.1))
+
+module _ {bs cs : List BranchId} {t s : List Event} (more : Added (Later bs cs) t s) (b : BranchId) where
+  row_later : (rs : List RedoRecord) → RowAt t b rs → RowAt s b rs
+  row_later rs now =
+      subst (λ l. RowStands (exit s b) l ms x) (sym (learned_same b (λ e later. later_learned b e later) more)) (by (exit t b) (exit s b) refl refl now)
+    where
+      abbrev ms : List Bool
+      ms = marks b (stored_by nothing_stored rs).durable.kept
+
+      abbrev x : Told
+      x = told_by b b.node rs
+
+      by : (o p : Option Exit) → exit t b ≡ o → exit s b ≡ p → RowStands o (learned t b) ms x → RowStands p (learned t b) ms x
+      by (Some e) p before after now = (let same : Some e ≡ p = sym (exit_later b e more before) ∙ after in subst (λ o. RowStands o (learned t b) ms x) same now)
+      by None None before after now = now
+      by None (Some (Sealed m)) before after now = elim (exit_made b (Sealed m) more after) [
+        | inl old ↦ absurd (cc (old, before))
+        | inr made ↦ absurd (later_unsealed b m made.0 made.1 made.2)
+      ]
+      by None (Some (Decided m)) before after now = ap (λ (z : Told). z.sealed) now.1
+      by None (Some Quiet) before after now = ap (λ (z : Told). z.sealed) now.1
+      by None (Some Dropped) before after now = ap (λ (z : Told). z.sealed) now.1
+
+-- ---- happenings
+
+abbrev RowsStand : Facts → List Event → Type 0
+RowsStand f t = (b : BranchId) → RowAt t b (records_at f b.node)
+
+-- an event that leaves the branch alone
+alone_row : (o : Option Event) (t : List Event) (b : BranchId) (rs : List RedoRecord) → LeavesAlone o b → RowAt t b rs → RowAt (with_event o t) b rs
+alone_row None t b rs alone now = now
+alone_row (Some e) t b rs alone now = stands_same (first_right (exit t b) (exit_by e b) alone.0) (first_right (learned t b) _ alone.1) refl refl now
+
+module _ (places : List Place) (asked : List Command) (each : (n : ℕ) (p : Place) → numbered places n ≡ Some p → IsPlace places n p) (f : Facts) (t : List Event) (stand : BranchStatus places asked each f t)
+    (now : RowsStand f t) where
+  untaught : (b : BranchId) → exit t b ≡ None → learned t b ≡ None
+  untaught b none = (stand.1.untaught b none).0
+
+  module _ (u : Turn) (may : MayHappen places asked f (happenings.Turn u)) where
+    abbrev g : Facts
+    g = facts_after places asked f (happenings.Turn u)
+
+    may_stand : IfSome u.wrote (MayStand t)
+    may_stand = record_may places asked each f t u may.0 stand.1 stand.0.even (node_so places asked each f t stand) (owned_so places asked each f t stand) may.1
+
+    own_record : IfSome u.wrote (IsRecordOf (λ b. b.node ≡ u.node))
+    own_record = record_own places asked each f t u may.0 stand.1 stand.0.even (node_so places asked each f t stand) (owned_so places asked each f t stand) may.1
+
+    recorded : (b : BranchId) → RowAt (with_record u t) b (records_at g b.node)
+    recorded b = elim (cases_nat b.node u.node) [
+      | inl at ↦ (let its : records_at g b.node ≡ records_at f b.node ++ option_to_list u.wrote = subst (λ i. records_at g i ≡ records_at f i ++ option_to_list u.wrote) (sym at) (turn_here places asked f stand.0.even u may.0 may.1.up).1 in
+          subst₂ (λ i rs. RowAt (with_event (wrote_event i u.wrote) t) b rs) at (sym its) (wrote_on b t (untaught b) (records_at f b.node) u.wrote may_stand (now b)))
+      | inr other ↦ subst (RowAt (with_record u t) b) (sym (turn_elsewhere places asked f stand.0.even u b.node (λ e. other (sym e))).1)
+          (alone_row (wrote_event u.node u.wrote) t b (records_at f b.node) (wrote_elsewhere u.node u.wrote b own_record other) (now b))
+    ]
+
+    turn_rows : RowsStand g (events_after places asked f (happenings.Turn u) t)
+    turn_rows b = row_later (turn_added f g u t) b (records_at g b.node) (recorded b)
+
+  start_rows : (m boot : ℕ) → MayHappen places asked f (happenings.Started m boot) → RowsStand (facts_after places asked f (happenings.Started m boot)) t
+  start_rows m boot may b = elim (cases_nat b.node m) [
+    | inl at ↦ (let its : records_at h b.node ≡ records_at f b.node ++ records.Boot boot ∷ [] = subst (λ i. records_at h i ≡ records_at f i ++ records.Boot boot ∷ []) (sym at) (start_here places asked f stand.0.even m boot may.there.0 (omega (arith, may.there.1, stand.1.many))).1 in
+        subst (RowAt t b) (sym its) (wrote_on b t (untaught b) (records_at f b.node) (Some (records.Boot boot)) tt (now b)))
+    | inr other ↦ subst (RowAt t b) (sym (start_elsewhere places asked f stand.0.even m boot b.node (λ e. other (sym e))).1) (now b)
+  ]
+    where
+      abbrev h : Facts
+      h = facts_after places asked f (happenings.Started m boot)
+
+  rows_on : (h : Happening) → MayHappen places asked f h → RowsStand (facts_after places asked f h) (events_after places asked f h t)
+  unfolding facts_after
+  rows_on (happenings.Turn u) may = turn_rows u may
+  rows_on (happenings.Stopped n) may = λ b. row_later (stop_added f f n t) b (records_at f b.node) (now b)
+  rows_on (happenings.Started n boot) may = start_rows n boot may
+  rows_on _ may = now
+
+rows_first : (places : List Place) → RowsStand (first_facts places) []
+unfolding stored_by applied durable_after
+rows_first places b = first_disk (RowAt [] b) (refl, refl) (refl, refl) places b.node
+
+rows_end : (t : History) → IsLawfulRun t → RowsStand (facts_at t) (events_of t)
+rows_end t lawful =
+    (events_keep t.places t.commands (λ f s. BranchStatus t.places t.commands t.of_a_script.each f s × RowsStand f s)
+    (λ f s h now may. (stand_on t.places t.commands t.of_a_script.each f s h now.0 may, rows_on t.places t.commands t.of_a_script.each f s now.0 now.1 h may))
+    (first_facts t.places) t.trace [] (stand_first t.places t.commands t.of_a_script.each, rows_first t.places) lawful).1
+
+-- ---- the book
+
+-- what only entries of one node pass, is found among these
+any_there : (q p : Entry → Bool) (es : List Entry) → ((e : Entry) → p e ≡ false → q e ≡ false) → list_any q (filter p es) ≡ list_any q es
+any_there q p [] none = refl
+any_there q p (e ∷ es) none = by (p e) refl (any_there q p es none)
+  where
+    by : (k : Bool) → p e ≡ k → list_any q (filter p es) ≡ list_any q es → list_any q (if k then e ∷ filter p es else filter p es) ≡ (q e || list_any q es)
+    by true is rest = ap (λ z. q e || z) rest
+    by false is rest = rest ∙ ap (λ z. z || list_any q es) (sym (none e is))
+
+-- an entry that passes is of the branch's node
+module _ (b : BranchId) where
+  node_is : (c : BranchId) → same c b ≡ true → c.node ≡ b.node
+  node_is c is = ap (λ (z : BranchId). z.node) (equal_from_same c b is)
+
+  sealed_there : (e : Entry) → is_sealed_of b e ≡ true → node_of e ≡ b.node
+  sealed_there (entries.Sealed c g cs scn) is = node_is c is
+  sealed_there _ is = absurd (true≢false (sym is))
+
+  rolled_there : (e : Entry) → is_rollback_end_of b e ≡ true → node_of e ≡ b.node
+  rolled_there (entries.Ended c decisions.Rollback) is = node_is c is
+  rolled_there _ is = absurd (true≢false (sym is))
+
+  met_there : (e : Entry) → is_met_rollback_of b e ≡ true → node_of e ≡ b.node
+  met_there (entries.Met c decisions.Rollback mixed) is = node_is c is
+  met_there _ is = absurd (true≢false (sym is))
+
+  mixed_there : (e : Entry) → is_mixed_of b e ≡ true → node_of e ≡ b.node
+  mixed_there (entries.Met c d mixed) is = node_is c (and_parts (same c b) mixed is).0
+  mixed_there _ is = absurd (true≢false (sym is))
+
+module _ (t : History) (lawful : IsLawfulRun t) (b : BranchId) where
+  abbrev f : Facts
+  f = facts_at t
+
+  abbrev told : Told
+  told = told_by b b.node (records_at f b.node)
+
+  -- so the book tells of the branch what the records of its node do
+  as_told : (q : Entry → Bool) → ((e : Entry) → q e ≡ true → node_of e ≡ b.node) → stands q f.book ≡ stands q (flat_map (entry_of b.node) (records_at f b.node))
+  as_told q there =
+      ap (stands q) (run_book t)
+      ∙ (sym (any_there q (is_of_node b.node) (book_of t.trace) (λ e other. not_true (q e) (λ is. true≢false (sym (eq-eqb (node_of e) b.node (there e is)) ∙ other))))
+      ∙ ap (stands q) (books_are_of_disks t lawful b.node))
+
+  gone_told : is_gone f b ≡ gone_by told
+  gone_told =
+      ap (λ r. r || (not (stands (is_mixed_of b) f.book) && (stands (is_met_rollback_of b) f.book || told.forgot))) (as_told (is_rollback_end_of b) (rolled_there b))
+      ∙ (ap (λ m. told.rolled || (not m && (stands (is_met_rollback_of b) f.book || told.forgot))) (as_told (is_mixed_of b) (mixed_there b))
+      ∙ ap (λ q. told.rolled || (not told.mixed && (q || told.forgot))) (as_told (is_met_rollback_of b) (met_there b)))
+
+  marked : (gone : Bool) (m : Bool) → some_mark (if gone then [] else m ∷ []) ≡ not gone
+  marked true m = refl
+  marked false m = refl
+
+  -- a sealed branch has a row where it is not gone
+  row_stands : (e : Option Exit) (l : Option Decision) (ms : List Bool) (x : Told) → x.sealed ≡ true → RowStands e l ms x → some_mark ms ≡ not (gone_by x)
+  row_stands None l ms x sealed now = absurd (true≢false (sym sealed ∙ ap (λ (z : Told). z.sealed) now.1))
+  row_stands (Some (Sealed m)) None ms x sealed now = ap some_mark now.0 ∙ ap (λ z. not (gone_by z)) (sym now.1)
+  row_stands (Some (Sealed m)) (Some d) ms x sealed now = ap some_mark now ∙ marked (gone_by x) x.mixed
+  row_stands (Some (Decided m)) l ms x sealed now = absurd (true≢false (sym sealed ∙ now))
+  row_stands (Some Quiet) l ms x sealed now = absurd (true≢false (sym sealed ∙ now))
+  row_stands (Some Dropped) l ms x sealed now = absurd (true≢false (sym sealed ∙ now))
+
+  row_stays : (k : NodeState) → node_at f b.node ≡ Some k → stands (is_sealed_of b) f.book ≡ true → has_row k b ≡ not (is_gone f b)
+  row_stays k up sealed =
+      let rows : List KeptRow = (stored_by nothing_stored (records_at f b.node)).durable.kept in
+      let same_rows : list_any (stands_at b) k.stored.durable.kept ≡ list_any (stands_at b) rows
+      = sym (any_map b unacked_row (λ x. refl) k.stored.durable.kept) ∙ ap (λ (s : Stored). list_any (stands_at b) s.durable.kept) (records_are_kept t lawful b.node k up) in
+      same_rows ∙ (has_marks b rows ∙ (row_stands (exit (events_of t) b) (learned (events_of t) b) (marks b rows) told (sym (as_told (is_sealed_of b) (sealed_there b)) ∙ sealed) (rows_end t lawful b)
+      ∙ ap not (sym gone_told)))
+
+-- ---- each moment
+
+first_part : {A : Type 0} (xs : List A) (i : ℕ) → (rest : List A) × (take i xs ++ rest ≡ xs)
+first_part xs zero = (xs, refl)
+first_part [] (suc i) = ([], refl)
+first_part (x ∷ xs) (suc i) = let more = first_part xs i in (more.0, ap (λ ys. x ∷ ys) more.1)
+
+pub every_sealed_row_stays : EverySealedRowStays
+every_sealed_row_stays t whole i b k up sealed =
+    let part = first_part t.trace i in
+    row_stays (so_far t (take i t.trace)) (part_lawful t whole (take i t.trace) (record { rest = part.0; is = part.1 })) b k up sealed

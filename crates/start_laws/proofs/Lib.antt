@@ -1,0 +1,3 @@
+pub mod DoubtLockLemmas
+pub mod StartLemmas
+mod TriedStartLemmas
