@@ -1,5 +1,5 @@
 -- The rows of one branch among those that a node keeps, each told by its mark as mixed: what a change of rows leaves of them.
-use Rattle.std.proofs.Common.{◌≡◌, ◌&&◌, not, Bool, true, false, if◌then◌else◌, List, [], ◌∷◌, filter, map, refl, sym, ap, ◌∙◌}
+use Rattle.std.proofs.Common.{◌≡◌, ◌&&◌, ◌||◌, not, Bool, true, false, if◌then◌else◌, List, [], ◌∷◌, filter, map, refl, sym, ap, ◌∙◌}
 use Rattle.std.specs.List.{list_any}
 use Rattle.std.proofs.lemmas.Bool.{cond_both}
 use Rattle.tran_ids.specs.Branch.{branch_below}
@@ -24,7 +24,7 @@ module _ (b : BranchId) where
   has_marks [] = refl
   has_marks (x ∷ ks) = by (same x.me b) (has_marks ks)
     where
-      by : (q : Bool) → list_any (stands_at b) ks ≡ some_mark (marks ks) → (if q then true else list_any (stands_at b) ks) ≡ some_mark (if q then x.mixed ∷ marks ks else marks ks)
+      by : (q : Bool) → list_any (stands_at b) ks ≡ some_mark (marks ks) → (q || list_any (stands_at b) ks) ≡ some_mark (if q then x.mixed ∷ marks ks else marks ks)
       by true rest = refl
       by false rest = rest
 

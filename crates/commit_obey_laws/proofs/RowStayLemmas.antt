@@ -7,7 +7,7 @@ use Rattle.std.proofs.lemmas.Bool.{and_parts, eq-eqb}
 use Rattle.tran_ids.proofs.BranchLemmas.{equal_from_same}
 use Rattle.redo_record.specs.Durable.{durable_after}
 use Rattle.redo_record.specs.Kept.{stands_at, kept_after}
-use Rattle.agreement.specs.Events.{Exit, Sealed, Decided, Quiet, Dropped, Event, exit_by, exit, learned}
+use Rattle.agreement.specs.Events.{Exit, Sealed, Decided, Quiet, Dropped, Event, exit_by, exit, learned_by, learned}
 use Rattle.agreement.proofs.BookTests.{not_true}
 use Rattle.agreement.proofs.EventLemmas.{only_at_is}
 use Rattle.node_rules.specs.Data.{BranchId, Decision, KeptRow, RedoRecord, Place}
@@ -43,7 +43,7 @@ use Rattle.book_laws.proofs.DiskLemmas.{books_are_of_disks}
 use Rattle.book_laws.proofs.RowLemmas.{run_book}
 use Rattle.commit_obey_laws.specs.RowStayLaws.{is_rollback_end_of, is_met_rollback_of, is_mixed_of, is_gone, has_row, EverySealedRowStays}
 use Rattle.commit_obey_laws.proofs.RowMarkLemmas.{marks, some_mark, has_marks}
-use Rattle.commit_obey_laws.proofs.RowToldLemmas.{Told, told_by, told_with, told_last, gone_by, left_by, just_sealed, nothing_told, RowStands, stands_same, first_right, on_record}
+use Rattle.commit_obey_laws.proofs.RowToldLemmas.{Told, told_by, told_with, told_last, gone_by, RowStands, first_right, on_record}
 
 -- ---- the records of a node
 
@@ -77,27 +77,23 @@ later_unsealed b m e (Was_said x none) is = let no : None ≡ Some (Sealed m) = 
 later_unsealed b m e (Was_quiet c was gone) is = let at = only_at_is c b Quiet (Sealed m) is in absurd (cc (at.1))
 later_unsealed b m e (Was_dropped c was gone) is = let at = only_at_is c b Dropped (Sealed m) is in absurd (cc (at.1))
 
-module _ {bs cs : List BranchId} {t s : List Event} (more : Added (Later bs cs) t s) (b : BranchId) where
-  row_later : (rs : List RedoRecord) → RowAt t b rs → RowAt s b rs
-  row_later rs now =
-      subst (λ l. RowStands (exit s b) l ms x) (sym (learned_same b (λ e later. later_learned b e later) more)) (by (exit t b) (exit s b) refl refl now)
-    where
-      abbrev ms : List Bool
-      ms = marks b (stored_by nothing_stored rs).durable.kept
+module _ {bs cs : List BranchId} {t s : List Event} (more : Added (Later bs cs) t s) (b : BranchId) (ms : List Bool) (x : Told) where
+  row_later_by : (o p : Option Exit) → exit t b ≡ o → exit s b ≡ p → RowStands o (learned t b) ms x → RowStands p (learned t b) ms x
+  row_later_by (Some e) p before after now = (let same : Some e ≡ p = sym (exit_later b e more before) ∙ after in subst (λ o. RowStands o (learned t b) ms x) same now)
+  row_later_by None None before after now = now
+  row_later_by None (Some (Sealed m)) before after now = elim (exit_made b (Sealed m) more after) [
+    | inl old ↦ absurd (cc (old, before))
+    | inr made ↦ absurd (later_unsealed b m made.0 made.1 made.2)
+  ]
+  row_later_by None (Some (Decided m)) before after now = ap (λ (z : Told). z.sealed) now.1
+  row_later_by None (Some Quiet) before after now = ap (λ (z : Told). z.sealed) now.1
+  row_later_by None (Some Dropped) before after now = ap (λ (z : Told). z.sealed) now.1
 
-      abbrev x : Told
-      x = told_by b b.node rs
+  row_later : RowStands (exit t b) (learned t b) ms x → RowStands (exit s b) (learned s b) ms x
+  row_later now = subst (λ l. RowStands (exit s b) l ms x) (sym (learned_same b (λ e later. later_learned b e later) more)) (row_later_by (exit t b) (exit s b) refl refl now)
 
-      by : (o p : Option Exit) → exit t b ≡ o → exit s b ≡ p → RowStands o (learned t b) ms x → RowStands p (learned t b) ms x
-      by (Some e) p before after now = (let same : Some e ≡ p = sym (exit_later b e more before) ∙ after in subst (λ o. RowStands o (learned t b) ms x) same now)
-      by None None before after now = now
-      by None (Some (Sealed m)) before after now = elim (exit_made b (Sealed m) more after) [
-        | inl old ↦ absurd (cc (old, before))
-        | inr made ↦ absurd (later_unsealed b m made.0 made.1 made.2)
-      ]
-      by None (Some (Decided m)) before after now = ap (λ (z : Told). z.sealed) now.1
-      by None (Some Quiet) before after now = ap (λ (z : Told). z.sealed) now.1
-      by None (Some Dropped) before after now = ap (λ (z : Told). z.sealed) now.1
+at_later : {bs cs : List BranchId} {t s : List Event} → Added (Later bs cs) t s → (b : BranchId) (rs : List RedoRecord) → RowAt t b rs → RowAt s b rs
+at_later more b rs now = row_later more b (marks b (stored_by nothing_stored rs).durable.kept) (told_by b b.node rs) now
 
 -- ---- happenings
 
@@ -107,7 +103,11 @@ RowsStand f t = (b : BranchId) → RowAt t b (records_at f b.node)
 -- an event that leaves the branch alone
 alone_row : (o : Option Event) (t : List Event) (b : BranchId) (rs : List RedoRecord) → LeavesAlone o b → RowAt t b rs → RowAt (with_event o t) b rs
 alone_row None t b rs alone now = now
-alone_row (Some e) t b rs alone now = stands_same (first_right (exit t b) (exit_by e b) alone.0) (first_right (learned t b) _ alone.1) refl refl now
+alone_row (Some e) t b rs alone now =
+    let ms : List Bool = marks b (stored_by nothing_stored rs).durable.kept in
+    let x : Told = told_by b b.node rs in
+    subst (λ o. RowStands o (learned (e ∷ t) b) ms x) (sym (first_right (exit t b) (exit_by e b) alone.0))
+    (subst (λ o. RowStands (exit t b) o ms x) (sym (first_right (learned t b) (learned_by e b) alone.1)) now)
 
 module _ (places : List Place) (asked : List Command) (each : (n : ℕ) (p : Place) → numbered places n ≡ Some p → IsPlace places n p) (f : Facts) (t : List Event) (stand : BranchStatus places asked each f t)
     (now : RowsStand f t) where
@@ -133,22 +133,23 @@ module _ (places : List Place) (asked : List Command) (each : (n : ℕ) (p : Pla
     ]
 
     turn_rows : RowsStand g (events_after places asked f (happenings.Turn u) t)
-    turn_rows b = row_later (turn_added f g u t) b (records_at g b.node) (recorded b)
+    turn_rows b = at_later (turn_added f g u t) b (records_at g b.node) (recorded b)
 
-  start_rows : (m boot : ℕ) → MayHappen places asked f (happenings.Started m boot) → RowsStand (facts_after places asked f (happenings.Started m boot)) t
-  start_rows m boot may b = elim (cases_nat b.node m) [
-    | inl at ↦ (let its : records_at h b.node ≡ records_at f b.node ++ records.Boot boot ∷ [] = subst (λ i. records_at h i ≡ records_at f i ++ records.Boot boot ∷ []) (sym at) (start_here places asked f stand.0.even m boot may.there.0 (omega (arith, may.there.1, stand.1.many))).1 in
-        subst (RowAt t b) (sym its) (wrote_on b t (untaught b) (records_at f b.node) (Some (records.Boot boot)) tt (now b)))
-    | inr other ↦ subst (RowAt t b) (sym (start_elsewhere places asked f stand.0.even m boot b.node (λ e. other (sym e))).1) (now b)
-  ]
-    where
-      abbrev h : Facts
-      h = facts_after places asked f (happenings.Started m boot)
+  module _ (m boot : ℕ) (may : MayHappen places asked f (happenings.Started m boot)) where
+    abbrev h : Facts
+    h = facts_after places asked f (happenings.Started m boot)
+
+    start_rows : RowsStand h t
+    start_rows b = elim (cases_nat b.node m) [
+      | inl at ↦ (let its : records_at h b.node ≡ records_at f b.node ++ records.Boot boot ∷ [] = subst (λ i. records_at h i ≡ records_at f i ++ records.Boot boot ∷ []) (sym at) (start_here places asked f stand.0.even m boot may.there.0 (omega (arith, may.there.1, stand.1.many))).1 in
+          subst (RowAt t b) (sym its) (wrote_on b t (untaught b) (records_at f b.node) (Some (records.Boot boot)) tt (now b)))
+      | inr other ↦ subst (RowAt t b) (sym (start_elsewhere places asked f stand.0.even m boot b.node (λ e. other (sym e))).1) (now b)
+    ]
 
   rows_on : (h : Happening) → MayHappen places asked f h → RowsStand (facts_after places asked f h) (events_after places asked f h t)
   unfolding facts_after
   rows_on (happenings.Turn u) may = turn_rows u may
-  rows_on (happenings.Stopped n) may = λ b. row_later (stop_added f f n t) b (records_at f b.node) (now b)
+  rows_on (happenings.Stopped n) may = λ b. at_later (stop_added f f n t) b (records_at f b.node) (now b)
   rows_on (happenings.Started n boot) may = start_rows n boot may
   rows_on _ may = now
 

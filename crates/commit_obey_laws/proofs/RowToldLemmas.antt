@@ -5,7 +5,7 @@ use Rattle.std.specs.List.{list_any}
 use Rattle.std.proofs.lemmas.Bool.{cond_both}
 use Rattle.std.proofs.lemmas.List.Folds.{list_any-append}
 use Rattle.tran_ids.proofs.BranchLemmas.{equal_from_same}
-use Rattle.redo_record.specs.Kept.{stands_at, add_kept, keep_decided, ended_commit, ended, forced_state, in_state, forced, met_as, met, forgot_as, is_done, forgotten, hidden_as, kept_after}
+use Rattle.redo_record.specs.Kept.{stands_at, add_kept, keep_decided, ended_commit, ended, forced_state, in_state, forced, met_as, met, forgot_as, is_done, forgotten, hidden_as, hidden, kept_after}
 use Rattle.redo_record.specs.Rows.{sealed_as, decided_as, has_neighbors}
 use Rattle.agreement.specs.Events.{Exit, Sealed, Decided, Quiet, Dropped, Event, Make, Seal, Decide, Force, Learn, Forget, first, only_at, exit_by, exit, learned_by, learned, Knows}
 use Rattle.node_rules.specs.Data.{BranchId, Decision, KeptRow, RedoRecord, Sealed as SealedRecord, Decided as DecidedRecord}
@@ -47,14 +47,14 @@ abbrev pub told_with : BranchId → ℕ → Told → RedoRecord → Told
 told_with b n x r =
     told_more x (stands (is_sealed_of b) (entry_of n r)) (stands (is_rollback_end_of b) (entry_of n r)) (stands (is_mixed_of b) (entry_of n r)) (stands (is_met_rollback_of b) (entry_of n r)) (is_forgotten_of b r)
 
+abbrev told_of : Bool → Bool → Bool → Bool → Bool → Told
+told_of s r m q f = record { sealed = s; rolled = r; mixed = m; met = q; forgot = f }
+
 -- what is equal in all is one
-five : {s r m q f s' r' m' q' f' : Bool} → s ≡ s' → r ≡ r' → m ≡ m' → q ≡ q' → f ≡ f'
-    → record { sealed = s; rolled = r; mixed = m; met = q; forgot = f } ≡ (record { sealed = s'; rolled = r'; mixed = m'; met = q'; forgot = f' } : Told)
-five {s} {r} {m} {q} {f} {s'} {r'} {m'} {q'} {f'} a b c d e =
-    ap (λ z. record { sealed = z; rolled = r; mixed = m; met = q; forgot = f }) a
-    ∙ (ap (λ z. record { sealed = s'; rolled = z; mixed = m; met = q; forgot = f }) b
-    ∙ (ap (λ z. record { sealed = s'; rolled = r'; mixed = z; met = q; forgot = f }) c
-    ∙ (ap (λ z. record { sealed = s'; rolled = r'; mixed = m'; met = z; forgot = f }) d ∙ ap (λ z. record { sealed = s'; rolled = r'; mixed = m'; met = q'; forgot = z }) e)))
+five : (s r m q f s' r' m' q' f' : Bool) → s ≡ s' → r ≡ r' → m ≡ m' → q ≡ q' → f ≡ f' → told_of s r m q f ≡ told_of s' r' m' q' f'
+five s r m q f s' r' m' q' f' a b c d e =
+    ap (λ z. told_of z r m q f) a
+    ∙ (ap (λ z. told_of s' z m q f) b ∙ (ap (λ z. told_of s' r' z q f) c ∙ (ap (λ z. told_of s' r' m' z f) d ∙ ap (λ z. told_of s' r' m' q' z) e)))
 
 or_none : (q : Bool) → (q || false) ≡ q
 or_none true = refl
@@ -62,7 +62,7 @@ or_none false = refl
 
 -- nothing more
 pub told_same : (x : Told) → told_more x false false false false false ≡ x
-told_same x = five (or_none x.sealed) (or_none x.rolled) (or_none x.mixed) (or_none x.met) (or_none x.forgot)
+told_same x = five _ _ _ _ _ x.sealed x.rolled x.mixed x.met x.forgot (or_none x.sealed) (or_none x.rolled) (or_none x.mixed) (or_none x.met) (or_none x.forgot)
 
 flat_last : {A B : Type 0} (f : A → List B) (xs : List A) (x : A) (p : B → Bool) → list_any p (flat_map f (xs ++ x ∷ [])) ≡ (list_any p (flat_map f xs) || list_any p (f x))
 flat_last f [] x p = list_any-append p (f x) [] ∙ or_none (list_any p (f x))
@@ -76,7 +76,8 @@ flat_last f (y ∷ xs) x p =
 
 pub told_last : (b : BranchId) (n : ℕ) (rs : List RedoRecord) (r : RedoRecord) → told_by b n (rs ++ r ∷ []) ≡ told_with b n (told_by b n rs) r
 told_last b n rs r =
-    five (flat_last (entry_of n) rs r (is_sealed_of b)) (flat_last (entry_of n) rs r (is_rollback_end_of b)) (flat_last (entry_of n) rs r (is_mixed_of b)) (flat_last (entry_of n) rs r (is_met_rollback_of b))
+    five _ _ _ _ _ (told_with b n (told_by b n rs) r).sealed (told_with b n (told_by b n rs) r).rolled (told_with b n (told_by b n rs) r).mixed (told_with b n (told_by b n rs) r).met (told_with b n (told_by b n rs) r).forgot
+    (flat_last (entry_of n) rs r (is_sealed_of b)) (flat_last (entry_of n) rs r (is_rollback_end_of b)) (flat_last (entry_of n) rs r (is_mixed_of b)) (flat_last (entry_of n) rs r (is_met_rollback_of b))
     (list_any-append (is_forgotten_of b) rs (r ∷ []) ∙ ap (λ q. list_any (is_forgotten_of b) rs || q) (or_none (is_forgotten_of b r)))
 
 -- ---- rows, events and records
@@ -108,11 +109,6 @@ first_right : {A : Type 0} (o p : Option A) → p ≡ None → first o p ≡ o
 first_right None p is = is
 first_right (Some a) p is = refl
 
--- nothing that concerns the branch
-pub stands_same : {e e' : Option Exit} {l l' : Option Decision} {ms ms' : List Bool} {x x' : Told} → e' ≡ e → l' ≡ l → ms' ≡ ms → x' ≡ x → RowStands e l ms x → RowStands e' l' ms' x'
-stands_same {e} {e'} {l} {l'} {ms} {ms'} {x} {x'} exits learns rows told now =
-    subst (λ z. RowStands z l' ms' x') (sym exits) (subst (λ z. RowStands e z ms' x') (sym learns) (subst (λ z. RowStands e l z x') (sym rows) (subst (RowStands e l ms) (sym told) now)))
-
 module _ (b : BranchId) (n : ℕ) (t : List Event) (untaught : exit t b ≡ None → learned t b ≡ None) (ks : List KeptRow) (x : Told) (now : RowStands (exit t b) (learned t b) (marks b ks) x) where
   -- what stands with one event more, or with none
   abbrev StandsWith : Option Event → List KeptRow → Told → Type 0
@@ -123,14 +119,20 @@ module _ (b : BranchId) (n : ℕ) (t : List Event) (untaught : exit t b ≡ None
   sealed_now m sealed none = subst (λ o. RowStands (Some (Sealed m)) o (marks b ks) x) none (subst (λ o. RowStands o (learned t b) (marks b ks) x) sealed now)
 
   -- and it learns now
-  learns : (e : Event) (m : ℕ) (d : Decision) (rows : List KeptRow) (told : Told) → exit t b ≡ Some (Sealed m) → exit_by e b ≡ None → learned t b ≡ None → learned_by e b ≡ Some d → marks b rows ≡ left_by told → StandsWith (Some e) rows told
-  learns e m d rows told sealed stays none learns is =
+  learns : (e : Event) (m : ℕ) (d : Decision) (rows : List KeptRow) (told : Told) → exit t b ≡ Some (Sealed m) → learned t b ≡ None → learned_by e b ≡ Some d → marks b rows ≡ left_by told → StandsWith (Some e) rows told
+  learns e m d rows told sealed none teaches is =
       subst (λ o. RowStands (first o (exit_by e b)) (learned (e ∷ t) b) (marks b rows) told) (sym sealed)
-      (subst (λ o. RowStands (Some (Sealed m)) o (marks b rows) told) (sym (ap (λ o. first o (learned_by e b)) none ∙ learns)) is)
+      (subst (λ o. RowStands (Some (Sealed m)) o (marks b rows) told) (sym (ap (λ o. first o (learned_by e b)) none ∙ teaches)) is)
+
+  -- rows of which nothing changed for it
+  rests : (rows : List KeptRow) (told : Told) → marks b rows ≡ marks b ks → told ≡ x → RowStands (exit t b) (learned t b) (marks b rows) told
+  rests rows told same_rows same_told = subst (λ ms. RowStands (exit t b) (learned t b) ms told) (sym same_rows) (subst (λ z. RowStands (exit t b) (learned t b) (marks b ks) z) (sym same_told) now)
 
   -- an event that does not concern it
   passes : (e : Event) (rows : List KeptRow) (told : Told) → exit_by e b ≡ None → learned_by e b ≡ None → marks b rows ≡ marks b ks → told ≡ x → StandsWith (Some e) rows told
-  passes e rows told leaves teaches same_rows same_told = stands_same (first_right (exit t b) (exit_by e b) leaves) (first_right (learned t b) (learned_by e b) teaches) same_rows same_told now
+  passes e rows told leaves teaches same_rows same_told =
+      subst (λ o. RowStands o (learned (e ∷ t) b) (marks b rows) told) (sym (first_right (exit t b) (exit_by e b) leaves))
+      (subst (λ o. RowStands (exit t b) o (marks b rows) told) (sym (first_right (learned t b) (learned_by e b) teaches)) (rests rows told same_rows same_told))
 
   at_b : {A : Type 0} (c : BranchId) (a : A) → same c b ≡ true → only_at c b a ≡ Some a
   at_b c a own = ap (λ q. if q then Some a else None) own
@@ -182,7 +184,7 @@ module _ (b : BranchId) (n : ℕ) (t : List Event) (untaught : exit t b ≡ None
     -- what it leaves, by what the record tells of a branch that was just sealed
     learns_so : (d : Decision) (mark : Option Bool) (rows : List KeptRow) (r : RedoRecord) (ms : List Bool) → marks b rows ≡ ms → left_by (told_with b n just_sealed r) ≡ ms → StandsWith (Some (Learn c d mark)) rows (told_with b n x r)
     learns_so d mark rows r ms is left =
-        learns (Learn c d mark) m d rows (told_with b n x r) (subst (λ z. exit t z ≡ Some (Sealed m)) me sealed) refl (subst (λ z. learned t z ≡ None) me none) (at_b c d own)
+        learns (Learn c d mark) m d rows (told_with b n x r) (subst (λ z. exit t z ≡ Some (Sealed m)) me sealed) (subst (λ z. learned t z ≡ None) me none) (at_b c d own)
         (is ∙ sym (ap (λ z. left_by (told_with b n z r)) before.1 ∙ left))
 
     ends_own : (d : Decision) → StandsWith (Some (Learn c d None)) (ended ks c d) (told_with b n x (records.Ended c d))
@@ -252,8 +254,12 @@ module _ (b : BranchId) (n : ℕ) (t : List Event) (untaught : exit t b ≡ None
     where
       by : (q : Bool) → same c b ≡ q → StandsWith (Some (Forget c)) (forgotten ks c) (told_with b n x (records.Forgot c))
       by true own =
-          stands_same (first_right (exit t b) None refl) (first_right (learned t b) None refl) (marks_kept b c forgot_as (λ y. refl) (λ y. refl) (drop_where (is_done c) ks) ∙ done_own b c own ks)
-          (ap (λ q. told_more x false false false false q) own) (forgets_own (exit t b) (learned t b) untaught may.0 (subst (λ z. Knows t z may.0) (equal_from_same c b own) may.1) now)
+          let rows : marks b (forgotten ks c) ≡ filter (λ z. z) (marks b ks) = marks_kept b c forgot_as (λ y. refl) (λ y. refl) (drop_where (is_done c) ks) ∙ done_own b c own ks in
+          let told : told_with b n x (records.Forgot c) ≡ told_more x false false false false true = ap (λ q. told_more x false false false false q) own in
+          let now_so : RowStands (exit t b) (learned t b) (filter (λ z. z) (marks b ks)) (told_more x false false false false true) = forgets_own (exit t b) (learned t b) untaught may.0 (subst (λ z. Knows t z may.0) (equal_from_same c b own) may.1) now in
+          subst (λ o. RowStands o (first (learned t b) None) (marks b (forgotten ks c)) (told_with b n x (records.Forgot c))) (sym (first_right (exit t b) None refl))
+          (subst (λ o. RowStands (exit t b) o (marks b (forgotten ks c)) (told_with b n x (records.Forgot c))) (sym (first_right (learned t b) None refl))
+          (subst (λ ms. RowStands (exit t b) (learned t b) ms (told_with b n x (records.Forgot c))) (sym rows) (subst (λ z. RowStands (exit t b) (learned t b) (filter (λ z. z) (marks b ks)) z) (sym told) now_so)))
       by false other =
           passes (Forget c) (forgotten ks c) (told_with b n x (records.Forgot c)) refl refl (marks_kept b c forgot_as (λ y. refl) (λ y. refl) (drop_where (is_done c) ks) ∙ done_other b c other ks)
           (ap (λ q. told_more x false false false false q) other ∙ told_same x)
@@ -277,9 +283,9 @@ module _ (b : BranchId) (n : ℕ) (t : List Event) (untaught : exit t b ≡ None
   on_record (records.Forced c d given) may =
       passes (Force c d) (forced ks c d) (told_with b n x (records.Forced c d given)) refl refl (marks_kept b c (in_state (forced_state d)) (λ y. refl) (λ y. refl) ks) (told_same x)
   on_record (records.Forgot c) may = on_forgot c may
-  on_record (records.Hidden c) may = stands_same refl refl (marks_kept b c hidden_as (λ y. refl) (λ y. refl) ks) (told_same x) now
+  on_record (records.Hidden c) may = rests (hidden ks c) (told_with b n x (records.Hidden c)) (marks_kept b c hidden_as (λ y. refl) (λ y. refl) ks) (told_same x)
   on_record (records.Table table) may = passes (Make n table) ks (told_with b n x (records.Table table)) refl refl refl (told_same x)
-  on_record (records.Boot m) may = stands_same refl refl refl (told_same x) now
-  on_record (records.Link l) may = stands_same refl refl refl (told_same x) now
-  on_record (records.Synonym y) may = stands_same refl refl refl (told_same x) now
-  on_record (records.Param setting) may = stands_same refl refl refl (told_same x) now
+  on_record (records.Boot m) may = rests ks (told_with b n x (records.Boot m)) refl (told_same x)
+  on_record (records.Link l) may = rests ks (told_with b n x (records.Link l)) refl (told_same x)
+  on_record (records.Synonym y) may = rests ks (told_with b n x (records.Synonym y)) refl (told_same x)
+  on_record (records.Param setting) may = rests ks (told_with b n x (records.Param setting)) refl (told_same x)

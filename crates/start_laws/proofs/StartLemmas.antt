@@ -116,7 +116,7 @@ module _ (table : List ℕ) (key : Value) where
   own_doubter n book =
       ap (find (has_changed (own_entries n book) table key)) (own_in_doubt n book)
       ∙ same_find (has_changed (own_entries n book) table key) (has_changed book table key) (in_doubt book n)
-          (λ b there. ap (list_any (is_change_to table key)) (own_changes_of n book b (open_of book n b there).here))
+      (λ b there. ap (list_any (is_change_to table key)) (own_changes_of n book b (open_of book n b there).here))
 
 -- ---- a start
 
