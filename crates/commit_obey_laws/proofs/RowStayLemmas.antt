@@ -1,5 +1,5 @@
 -- In every lawful run a sealed branch has a row at its node exactly where it is not gone.
-use Rattle.std.proofs.Common.{◌≡◌, ◌≢◌, ℕ, zero, suc, ◌+◌, ◌==◌, ◌||◌, ◌&&◌, not, Bool, true, false, true≢false, if◌then◌else◌, List, [], ◌∷◌, ◌++◌, filter, flat_map, map, take, Option, Some, None, inl, inr, refl, sym, ap, subst, subst₂, ◌∙◌, append-nil, arith}
+use Rattle.std.proofs.Common.{◌≡◌, ℕ, zero, suc, ◌||◌, ◌&&◌, not, Bool, true, false, true≢false, if◌then◌else◌, List, [], ◌∷◌, ◌++◌, filter, flat_map, take, Option, Some, None, inl, inr, refl, sym, ap, subst, subst₂, ◌∙◌, append-nil, arith}
 use Rattle.std.specs.Prelude.{IfSome}
 use Rattle.std.specs.Option.{option_to_list}
 use Rattle.std.specs.List.{list_any}
@@ -21,7 +21,6 @@ use Rattle.run_rules.specs.Data.{Entry, Turn, Happening, Command}
 use Rattle.node_rules.specs.Data.decisions
 use Rattle.run_rules.specs.Data.entries
 use Rattle.run_rules.specs.Data.happenings
-use Rattle.run_rules.specs.Each.{facts_upto}
 use Rattle.run_rules.specs.Entries.{entry_of, book_of}
 use Rattle.run_rules.specs.Facts.{Facts, first_facts, node_at, records_at, facts_after}
 use Rattle.run_rules.specs.Lawful.{IsPlace, MayHappen, History, IsLawfulRun, facts_at}
@@ -32,7 +31,7 @@ use Rattle.run_base_laws.specs.NodeLaws.{unacked_row}
 use Rattle.run_base_laws.specs.RunEvents.{with_event, wrote_event, record_event, with_record, events_after, events_of}
 use Rattle.run_base_laws.proofs.EventsStandLemmas.{BranchStatus, node_so, owned_so, stand_on, stand_first, first_disk}
 use Rattle.run_base_laws.proofs.LaterLemmas.{Added, Later, Was_said, Was_quiet, Was_dropped, exit_later, exit_made, learned_same, later_learned, turn_added, stop_added, events_keep}
-use Rattle.run_base_laws.proofs.NodesStandLemmas.{stored_rows, LeavesAlone, wrote_elsewhere}
+use Rattle.run_base_laws.proofs.NodesStandLemmas.{LeavesAlone, wrote_elsewhere}
 use Rattle.run_base_laws.proofs.StoredLemmas.{stored_with, records_are_kept}
 use Rattle.run_base_laws.proofs.TurnEventLemmas.{cases_nat, record_may, record_own}
 use Rattle.run_branch_laws.proofs.KeptRowLemmas.{any_map}

@@ -1,11 +1,11 @@
 -- Nodes that differ in which rows are hidden alone do the same about each call of a client but a purge, about a call that is given
 -- up, and when they recover.
 use Rattle.std.proofs.Common.{◌≡◌, ℕ, ◌+◌, ◌++◌, ◌&&◌, Bool, true, false, true≢false, if◌then◌else◌, List, [], ◌∷◌, filter, flat_map, fold, map, not, Option, Some, None, Result, Ok, Err, refl, sym, ap, subst, ◌∙◌}
-use Rattle.reco.specs.Asks.{to_one, put_asking, asks_live, asks_kept, acks_again, missing, tells_commit, recovers}
+use Rattle.reco.specs.Asks.{to_one, put_asking, asks_live, asks_kept, acks_again, missing, recovers}
 use Rattle.force_cmds.specs.Named.{named_among}
 use Rattle.force_cmds.specs.declared.id_names.IdNames.TheVariants as id_names
 use Rattle.prepare_phase.specs.Acts.{first_act}
-use Rattle.node_rules.specs.Data.{Answer, BranchId, Decision, Done, Input, KeptRow, Live, Msg, PendingCall, Place, RedoRecord, Refusal, Stmt}
+use Rattle.node_rules.specs.Data.{Answer, BranchId, Decision, Done, Input, KeptRow, Live, PendingCall, Place, RedoRecord, Refusal, Stmt}
 use Rattle.node_rules.specs.Data.decisions
 use Rattle.node_rules.specs.Data.dones
 use Rattle.node_rules.specs.Data.inputs
@@ -14,20 +14,18 @@ use Rattle.node_rules.specs.Data.params
 use Rattle.node_rules.specs.Data.pending
 use Rattle.node_rules.specs.Data.records
 use Rattle.node_rules.specs.Data.stmts
-use Rattle.node_rules.specs.Client.{refuses, did, begun_by, begun, root_by, root_at, statement_by, statement_call, commit_by, commit_call, rollback_by, writes, is_used, is_link, call_turn, read_turn, given_up_code, commit_given_up, statement_given_up, give_up_by, give_up_turn}
-use Rattle.node_rules.specs.Commit.{beyond, all_acked, knows_commit}
-use Rattle.node_rules.specs.Force.{is_named_by, branch_to_force, only_one, one_named, forces, force_commit, force_rollback}
-use Rattle.node_rules.specs.NodeState.{NodeState, TurnDraft, Branch, ending, branch_at, live_at, kept_row_at, kept_row_id, with_work}
+use Rattle.node_rules.specs.Client.{refuses, begun_by, begun, root_by, root_at, statement_by, statement_call, commit_by, commit_call, rollback_by, writes, is_used, is_link, call_turn, read_turn, given_up_code, commit_given_up, statement_given_up, give_up_by}
+use Rattle.node_rules.specs.Commit.{beyond}
+use Rattle.node_rules.specs.Force.{is_named_by, branch_to_force, one_named, forces, force_commit, force_rollback}
+use Rattle.node_rules.specs.NodeState.{NodeState, Branch, ending, branch_at, live_at, kept_row_at, kept_row_id, with_work}
 use Rattle.node_rules.specs.Prepare.{collecting, with_comment, without_read_keys}
-use Rattle.node_rules.specs.Records.{with_record}
 use Rattle.node_rules.specs.Recovery.{recovery}
-use Rattle.node_rules.specs.Refusals.{ora}
 use Rattle.node_rules.specs.Sessions.{session_at, with_call, commit_ended, commit_answer, tran_refusal}
 use Rattle.node_rules.specs.Turn.{clock_raised_by, draft_of, turn_of}
 use Rattle.node_rules.specs.Words.{item_at}
-use Rattle.node_purge_laws.specs.PurgeLaws.{row_as, RowsLike, rows_of, with_rows, IsLike, ActsLike, is_purge, PurgesChangeNothingElse}
+use Rattle.node_purge_laws.specs.PurgeLaws.{row_as, RowsLike, rows_of, with_rows, ActsLike, is_purge, PurgesChangeNothingElse}
 use Rattle.node_purge_laws.proofs.RowLikeLemmas.{OneLike, FoundLike, IsBlind, blind_by, drop_one, id_same, found_like}
-use Rattle.node_purge_laws.proofs.LikeLemmas.{DraftsLike, all_acked_same, beyond_same, sessions_like, recorded, rests, either, act_like, statement_like, acts_like, kind_like, stand_like}
+use Rattle.node_purge_laws.proofs.LikeLemmas.{DraftsLike, all_acked_same, beyond_same, sessions_like, recorded, rests, act_like, statement_like, acts_like, kind_like, stand_like}
 
 -- ---- what does not see rows
 

@@ -1,5 +1,5 @@
 -- In every lawful run each turn but a purge is what it would be at a node with other rows hidden.
-use Rattle.std.proofs.Common.{◌≡◌, Bool, true, false, List, Option, Some, None, inl, inr, ◌∙◌}
+use Rattle.std.proofs.Common.{Bool, true, false, List, inl, inr, ◌∙◌}
 use Rattle.node_rules.specs.Data.{Place}
 use Rattle.node_rules.specs.NodeState.{NodeState}
 use Rattle.node_rules.specs.Turn.{turn_of}

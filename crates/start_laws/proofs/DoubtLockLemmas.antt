@@ -1,10 +1,10 @@
 -- The locks of a node that has just started: each key that a branch in doubt has changed is locked for the first such branch.
 use Rattle.std.proofs.Common.{◌≡◌, ℕ, ◌&&◌, ◌||◌, Bool, true, false, true≢false, if◌then◌else◌, List, [], ◌∷◌, find, fold, map, Option, Some, None, refl, sym, ap, subst, ◌∙◌}
-use Rattle.std.specs.List.{AllByRecursion, list_any}
+use Rattle.std.specs.List.{list_any}
 use Rattle.std.specs.Option.{option_map}
 use Rattle.std.specs.Str.{bytes_eq}
 use Rattle.std.specs.Cmp.Lexicographic.{bytes_decides}
-use Rattle.std.proofs.lemmas.Bool.{and_parts, and_from}
+use Rattle.std.proofs.lemmas.Bool.{and_parts}
 use Rattle.dtx_values.specs.Order.{same_value}
 use Rattle.dtx_values.proofs.ValueOrder.{equal_from_same}
 use Rattle.row_locks.specs.Locks.{Lock, is_lock_on, new_lock, taken, doubted}

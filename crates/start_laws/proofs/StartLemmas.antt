@@ -1,6 +1,6 @@
 -- After each start of a lawful run its node keeps what book and records say: the laws of rows, of records and of branches in
 -- doubt, at the moment of the start.
-use Rattle.std.proofs.Common.{◌≡◌, ℕ, zero, suc, ◌+◌, ◌||◌, ◌&&◌, Bool, true, false, true≢false, if◌then◌else◌, List, [], ◌∷◌, ◌++◌, filter, find, flat_map, fold, map, replicate, slice_get, take, unwrap_or, Option, Some, None, inl, inr, refl, sym, ap, subst, ◌∙◌, arith}
+use Rattle.std.proofs.Common.{◌≡◌, ℕ, zero, suc, ◌+◌, ◌||◌, ◌&&◌, Bool, true, false, true≢false, if◌then◌else◌, List, [], ◌∷◌, ◌++◌, filter, find, flat_map, fold, map, replicate, slice_get, take, unwrap_or, Some, None, inl, inr, refl, sym, ap, subst, ◌∙◌, arith}
 use Rattle.std.specs.List.{AllByRecursion, list_any}
 use Rattle.std.specs.Option.{option_map}
 use Rattle.std.proofs.lemmas.List.Folds.{list_any-append}
@@ -118,6 +118,25 @@ module _ (table : List ℕ) (key : Value) where
       ∙ same_find (has_changed (own_entries n book) table key) (has_changed book table key) (in_doubt book n)
       (λ b there. ap (list_any (is_change_to table key)) (own_changes_of n book b (open_of book n b there).here))
 
+-- ---- what they hold back
+
+-- a branch with its changes, by these entries
+abbrev changed_by : List Entry → BranchId → BranchId × List Change
+changed_by es b = (b, changes_of es b)
+
+held_by : (es : List Entry) (ds : List Doubt) → AllByRecursion (λ d. d.changes ≡ changes_of es d.branch) ds → map (λ d. (d.branch, d.changes)) ds ≡ map (changed_by es) (map doubt_id ds)
+held_by es [] all = refl
+held_by es (d ∷ ds) all = ap (λ cs. (d.branch, cs) ∷ map (λ d. (d.branch, d.changes)) ds) all.0 ∙ ap (λ more. changed_by es d.branch ∷ more) (held_by es ds all.1)
+
+same_map : (es book : List Entry) (bs : List BranchId) → ((b : BranchId) → IsOne b bs → changes_of es b ≡ changes_of book b) → map (changed_by es) bs ≡ map (changed_by book) bs
+same_map es book [] same = refl
+same_map es book (b ∷ bs) same = ap (λ cs. (b, cs) ∷ map (changed_by es) bs) (same b (inl refl)) ∙ ap (λ more. changed_by book b ∷ more) (same_map es book bs (λ c there. same c (inr there)))
+
+own_held : (n : ℕ) (book : List Entry) → map (changed_by (own_entries n book)) (in_doubt (own_entries n book) n) ≡ map (changed_by book) (in_doubt book n)
+own_held n book =
+    ap (map (changed_by (own_entries n book))) (own_in_doubt n book)
+    ∙ same_map (own_entries n book) book (in_doubt book n) (λ b there. own_changes_of n book b (open_of book n b there).here)
+
 -- ---- a start
 
 module _ (t : History) (whole : IsLawfulRun t) (hs : List Happening) (n boot : ℕ) (rest : List Happening) (is : hs ++ happenings.Started n boot ∷ rest ≡ t.trace) where
@@ -152,13 +171,23 @@ module _ (t : History) (whole : IsLawfulRun t) (hs : List Happening) (n boot : �
   is_up : node_at g n ≡ Some k
   is_up = ap (λ (f : Facts). node_at f n) (one_on t hs h) ∙ (begun.0 ∙ ap (λ xs. Some (start_of xs)) (sym its_records))
 
+  disk : own_entries n (book_of s.trace) ≡ flat_map (entry_of n) rs
+  disk = books_are_of_disks s lawful n
+
+  stand : DoubtsStand n (flat_map (entry_of n) rs) (stored_by nothing_stored rs).doubts
+  stand = disk_stands n rs (subst (EachAgainst (ComesHere n) []) disk (all_here n (book_of s.trace) (runs_agree s lawful).0))
+
+  -- what the branches in doubt of the disk hold back, is what the book has of them
+  its_doubts : map (λ d. (d.branch, d.changes)) (stored_by nothing_stored rs).doubts ≡ map (changed_by g.book) (in_doubt g.book n)
+  its_doubts =
+      held_by (flat_map (entry_of n) rs) (stored_by nothing_stored rs).doubts stand.changes
+      ∙ (ap (map (changed_by (flat_map (entry_of n) rs))) stand.branches
+      ∙ (ap (λ es. map (changed_by es) (in_doubt es n)) (sym disk) ∙ (own_held n (book_of s.trace) ∙ ap (λ es. map (changed_by es) (in_doubt es n)) (sym (run_book s)))))
+
   module _ (table : List ℕ) (key : Value) where
     -- the branch in doubt of the disk is that of the book
     its_doubter : option_map doubt_id (find (has_it table key) (stored_by nothing_stored rs).doubts) ≡ doubter_of g.book n table key
     its_doubter =
-        let disk : own_entries n (book_of s.trace) ≡ flat_map (entry_of n) rs = books_are_of_disks s lawful n in
-        let comes : EachAgainst (ComesHere n) [] (flat_map (entry_of n) rs) = subst (EachAgainst (ComesHere n) []) disk (all_here n (book_of s.trace) (runs_agree s lawful).0) in
-        let stand : DoubtsStand n (flat_map (entry_of n) rs) (stored_by nothing_stored rs).doubts = disk_stands n rs comes in
         doubter_by table key (flat_map (entry_of n) rs) (stored_by nothing_stored rs).doubts stand.changes
         ∙ (ap (find (has_changed (flat_map (entry_of n) rs) table key)) stand.branches
         ∙ (ap (λ es. doubter_of es n table key) (sym disk) ∙ (own_doubter table key n (book_of s.trace) ∙ ap (λ es. doubter_of es n table key) (sym (run_book s)))))
@@ -173,6 +202,7 @@ module _ (t : History) (whole : IsLawfulRun t) (hs : List Happening) (n boot : �
     rows = λ table key none. rows_agree s lawful n k is_up table key (not_in_doubt table key g.book n none);
     committed = λ table. rows_are_told s lawful n k is_up table ∙ ap (λ (es : List Entry). rows_by_book es n table) (sym (run_book s));
     locks = its_lock;
+    doubts = its_doubts;
     kept = durable_by nothing_stored rs;
     lives = refl;
     owns = refl;

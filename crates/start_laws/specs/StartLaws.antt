@@ -1,7 +1,7 @@
 -- What a node has right after a start, by the book and by the records on its disk, whatever was cut before: committed rows, the
 -- keys of branches in doubt and their holders, catalog and kept rows; and nobody is live there. (Database Administrator's Guide,
 -- "Distributed Transactions Concepts": in-doubt transactions, locks of in-doubt transactions.)
-use Rattle.std.specs.Prelude.{◌≡◌, ℕ, ◌+◌, ◌&&◌, Bool, true, List, [], find, slice_get, Option, Some, None}
+use Rattle.std.specs.Prelude.{◌≡◌, ℕ, ◌+◌, ◌&&◌, Bool, true, List, [], find, map, slice_get, Option, Some, None}
 use Rattle.std.specs.List.{list_any}
 use Rattle.std.specs.Option.{option_map}
 use Rattle.redo_record.specs.Durable.{durable}
@@ -46,6 +46,8 @@ pub record IsRestored (f : Facts) (n : ℕ) (k : NodeState) : Type 0 where
   pub committed : (table : List ℕ) → rows_of_table k.stored.rows table ≡ rows_by_book f.book n table
   -- a key is locked where a branch in doubt has changed it, by that branch, and no other key is
   pub locks : (table : List ℕ) (key : Value) → find (is_lock_on table key) k.locks ≡ option_map (lock_in_doubt table key) (doubter_of f.book n table key)
+  -- it holds back the changes of the branches in doubt, in the order of their seals
+  pub doubts : map (λ d. (d.branch, d.changes)) k.stored.doubts ≡ map (λ b. (b, changes_of f.book b)) (in_doubt f.book n)
   -- catalog, settings and kept rows are those of its records
   pub kept : k.stored.durable ≡ durable (records_at f n)
   -- no branch is live: none has changes or calls, and no link is open

@@ -1,14 +1,13 @@
 -- A start, tried on the run of two nodes: B seals its branch, stops and starts, and has no row, but the key locked by its
 -- branch in doubt; after the commit it stops and starts again, and has the row of the book, and no lock.
-use Rattle.std.specs.Prelude.{◌≡◌, ℕ, List, [], ◌∷◌, ◌++◌, codes, find, take, option_to_list, Option, Some, None}
+use Rattle.std.specs.Prelude.{◌≡◌, List, [], ◌∷◌, ◌++◌, codes, find, take, Option, Some, None}
 use Rattle.std.specs.Option.{option_map}
 use Rattle.redo_record.specs.Durable.{durable}
 use Rattle.row_locks.specs.Locks.{Lock, is_lock_on}
-use Rattle.node_rules.specs.Data.{BranchId, Durable, Row, KeptRow}
-use Rattle.node_rules.specs.NodeState.{NodeState}
+use Rattle.node_rules.specs.Data.{Durable, Row}
 use Rattle.node_rules.specs.Rows.{get, rows_of_table}
-use Rattle.run_rules.specs.Book.{rows_of, rows_by_book}
-use Rattle.run_rules.specs.Data.{Turn, Happening}
+use Rattle.run_rules.specs.Book.{rows_of}
+use Rattle.run_rules.specs.Data.{Turn}
 use Rattle.run_rules.specs.Data.happenings
 use Rattle.run_rules.specs.Facts.{Facts, first_facts, node_at, records_at, facts_of}
 use Rattle.run_branch_laws.specs.TriedRun.{places, played, coming, one, b}
