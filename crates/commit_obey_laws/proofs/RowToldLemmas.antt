@@ -26,7 +26,7 @@ pub record Told : Type 0 where
   pub sealed : Bool
   pub rolled : Bool
   pub mixed : Bool
-  pub met : Bool
+  pub met_back : Bool
   pub forgot : Bool
 
 -- what the entries and the records of a node tell of a branch
@@ -35,20 +35,20 @@ told_by b n rs = record {
   sealed = stands (is_sealed_of b) (flat_map (entry_of n) rs);
   rolled = stands (is_rollback_end_of b) (flat_map (entry_of n) rs);
   mixed = stands (is_mixed_of b) (flat_map (entry_of n) rs);
-  met = stands (is_met_rollback_of b) (flat_map (entry_of n) rs);
+  met_back = stands (is_met_rollback_of b) (flat_map (entry_of n) rs);
   forgot = list_any (is_forgotten_of b) rs;
 }
 
 -- with what one record more tells
 abbrev pub told_more : Told → Bool → Bool → Bool → Bool → Bool → Told
-told_more x s r m q f = record { sealed = x.sealed || s; rolled = x.rolled || r; mixed = x.mixed || m; met = x.met || q; forgot = x.forgot || f }
+told_more x s r m q f = record { sealed = x.sealed || s; rolled = x.rolled || r; mixed = x.mixed || m; met_back = x.met_back || q; forgot = x.forgot || f }
 
 abbrev pub told_with : BranchId → ℕ → Told → RedoRecord → Told
 told_with b n x r =
     told_more x (stands (is_sealed_of b) (entry_of n r)) (stands (is_rollback_end_of b) (entry_of n r)) (stands (is_mixed_of b) (entry_of n r)) (stands (is_met_rollback_of b) (entry_of n r)) (is_forgotten_of b r)
 
 abbrev told_of : Bool → Bool → Bool → Bool → Bool → Told
-told_of s r m q f = record { sealed = s; rolled = r; mixed = m; met = q; forgot = f }
+told_of s r m q f = record { sealed = s; rolled = r; mixed = m; met_back = q; forgot = f }
 
 -- what is equal in all is one
 five : (s r m q f s' r' m' q' f' : Bool) → s ≡ s' → r ≡ r' → m ≡ m' → q ≡ q' → f ≡ f' → told_of s r m q f ≡ told_of s' r' m' q' f'
@@ -62,7 +62,7 @@ or_none false = refl
 
 -- nothing more
 pub told_same : (x : Told) → told_more x false false false false false ≡ x
-told_same x = five _ _ _ _ _ x.sealed x.rolled x.mixed x.met x.forgot (or_none x.sealed) (or_none x.rolled) (or_none x.mixed) (or_none x.met) (or_none x.forgot)
+told_same x = five _ _ _ _ _ x.sealed x.rolled x.mixed x.met_back x.forgot (or_none x.sealed) (or_none x.rolled) (or_none x.mixed) (or_none x.met_back) (or_none x.forgot)
 
 flat_last : {A B : Type 0} (f : A → List B) (xs : List A) (x : A) (p : B → Bool) → list_any p (flat_map f (xs ++ x ∷ [])) ≡ (list_any p (flat_map f xs) || list_any p (f x))
 flat_last f [] x p = list_any-append p (f x) [] ∙ or_none (list_any p (f x))
@@ -76,7 +76,7 @@ flat_last f (y ∷ xs) x p =
 
 pub told_last : (b : BranchId) (n : ℕ) (rs : List RedoRecord) (r : RedoRecord) → told_by b n (rs ++ r ∷ []) ≡ told_with b n (told_by b n rs) r
 told_last b n rs r =
-    five _ _ _ _ _ (told_with b n (told_by b n rs) r).sealed (told_with b n (told_by b n rs) r).rolled (told_with b n (told_by b n rs) r).mixed (told_with b n (told_by b n rs) r).met (told_with b n (told_by b n rs) r).forgot
+    five _ _ _ _ _ (told_with b n (told_by b n rs) r).sealed (told_with b n (told_by b n rs) r).rolled (told_with b n (told_by b n rs) r).mixed (told_with b n (told_by b n rs) r).met_back (told_with b n (told_by b n rs) r).forgot
     (flat_last (entry_of n) rs r (is_sealed_of b)) (flat_last (entry_of n) rs r (is_rollback_end_of b)) (flat_last (entry_of n) rs r (is_mixed_of b)) (flat_last (entry_of n) rs r (is_met_rollback_of b))
     (list_any-append (is_forgotten_of b) rs (r ∷ []) ∙ ap (λ q. list_any (is_forgotten_of b) rs || q) (or_none (is_forgotten_of b r)))
 
@@ -84,17 +84,17 @@ told_last b n rs r =
 
 -- whether the records say that the branch is gone
 abbrev pub gone_by : Told → Bool
-gone_by x = x.rolled || (not x.mixed && (x.met || x.forgot))
+gone_by x = x.rolled || (not x.mixed && (x.met_back || x.forgot))
 
 -- the mark of its row then
 abbrev pub left_by : Told → List Bool
 left_by x = if gone_by x then [] else x.mixed ∷ []
 
 abbrev pub nothing_told : Told
-nothing_told = record { sealed = false; rolled = false; mixed = false; met = false; forgot = false }
+nothing_told = record { sealed = false; rolled = false; mixed = false; met_back = false; forgot = false }
 
 abbrev pub just_sealed : Told
-just_sealed = record { sealed = true; rolled = false; mixed = false; met = false; forgot = false }
+just_sealed = record { sealed = true; rolled = false; mixed = false; met_back = false; forgot = false }
 
 -- by how the branch stopped being live and what it learned: its rows, and what the records tell
 abbrev pub RowStands : Option Exit → Option Decision → List Bool → Told → Type 0
@@ -244,7 +244,7 @@ module _ (b : BranchId) (n : ℕ) (t : List Event) (untaught : exit t b ≡ None
   forgets_own None l untaught k (inr is) now = (let none : l ≡ None = untaught refl in absurd (cc (none, is)))
   forgets_own (Some (Sealed m)) None untaught k (inl is) now = absurd cc
   forgets_own (Some (Sealed m)) None untaught k (inr is) now = absurd cc
-  forgets_own (Some (Sealed m)) (Some d) untaught k knows now = ap (filter (λ z. z)) now ∙ forget_left x.rolled x.mixed x.met x.forgot
+  forgets_own (Some (Sealed m)) (Some d) untaught k knows now = ap (filter (λ z. z)) now ∙ forget_left x.rolled x.mixed x.met_back x.forgot
   forgets_own (Some (Decided m)) l untaught k knows now = or_none x.sealed ∙ now
   forgets_own (Some Quiet) l untaught k knows now = or_none x.sealed ∙ now
   forgets_own (Some Dropped) l untaught k knows now = or_none x.sealed ∙ now

@@ -1,11 +1,11 @@
 -- Nodes that differ in which rows are hidden alone do the same about each call of a client but a purge, about a call that is given
 -- up, and when they recover.
-use Rattle.std.proofs.Common.{◌≡◌, ℕ, ◌+◌, ◌++◌, ◌&&◌, Bool, true, false, true≢false, if◌then◌else◌, List, [], ◌∷◌, filter, flat_map, fold, map, not, Option, Some, None, Result, Ok, Err, refl, sym, ap, subst, ◌∙◌}
+use Rattle.std.proofs.Common.{◌≡◌, ℕ, ◌+◌, ◌++◌, ◌&&◌, Bool, true, false, true≢false, if◌then◌else◌, List, [], ◌∷◌, filter, flat_map, fold, map, not, unwrap_or, Option, Some, None, Result, Ok, Err, refl, sym, ap, subst, ◌∙◌}
 use Rattle.reco.specs.Asks.{to_one, put_asking, asks_live, asks_kept, acks_again, missing, recovers}
 use Rattle.force_cmds.specs.Named.{named_among}
 use Rattle.force_cmds.specs.declared.id_names.IdNames.TheVariants as id_names
 use Rattle.prepare_phase.specs.Acts.{first_act}
-use Rattle.node_rules.specs.Data.{Answer, BranchId, Decision, Done, Input, KeptRow, Live, PendingCall, Place, RedoRecord, Refusal, Stmt}
+use Rattle.node_rules.specs.Data.{Answer, BranchId, Decision, Done, Input, KeptRow, Live, PendingCall, Place, Post, RedoRecord, Refusal, Stmt}
 use Rattle.node_rules.specs.Data.decisions
 use Rattle.node_rules.specs.Data.dones
 use Rattle.node_rules.specs.Data.inputs
@@ -19,7 +19,7 @@ use Rattle.node_rules.specs.Commit.{beyond}
 use Rattle.node_rules.specs.Force.{is_named_by, branch_to_force, one_named, forces, force_commit, force_rollback}
 use Rattle.node_rules.specs.NodeState.{NodeState, Branch, ending, branch_at, live_at, kept_row_at, kept_row_id, with_work}
 use Rattle.node_rules.specs.Prepare.{collecting, with_comment, without_read_keys}
-use Rattle.node_rules.specs.Recovery.{recovery}
+use Rattle.node_rules.specs.Recovery.{Asking, recovery}
 use Rattle.node_rules.specs.Sessions.{session_at, with_call, commit_ended, commit_answer, tran_refusal}
 use Rattle.node_rules.specs.Turn.{clock_raised_by, draft_of, turn_of}
 use Rattle.node_rules.specs.Words.{item_at}
@@ -125,8 +125,8 @@ module _ (k : NodeState) (ks : List KeptRow) (like : RowsLike (rows_of k) ks) (p
   call_like n (stmts.Delete table cs) no = rows_call_like n (stmts.Delete table cs)
   call_like n (stmts.Select list table cs for_update) no = rows_call_like n (stmts.Select list table cs for_update)
   call_like n (stmts.Commit comment) no =
-      subst (λ o. DraftsLike (commit_call k n comment) (commit_by (with_rows k ks) n _ (session_at k.sessions n).code o)) (sym (root_same k ks like (session_at k.sessions n).root))
-      (commit_by_like k ks like n _ (session_at k.sessions n).code (root_at k n))
+      subst (λ o. DraftsLike (commit_call k n comment) (commit_by (with_rows k ks) n (unwrap_or comment []) (session_at k.sessions n).code o)) (sym (root_same k ks like (session_at k.sessions n).root))
+      (commit_by_like k ks like n (unwrap_or comment []) (session_at k.sessions n).code (root_at k n))
   call_like n (stmts.CommitForce id scn) no =
       subst (λ o. DraftsLike (call_turn p k n (stmts.CommitForce id scn)) (force_commit (with_rows k ks) n scn o)) (sym (force_same id)) (force_commit_like n scn (branch_to_force p.names (rows_of k) id))
   call_like n stmts.Rollback no =
@@ -179,8 +179,11 @@ module _ (k : NodeState) (ks : List KeptRow) (like : RowsLike (rows_of k) ks) wh
         ∙ ap (λ q. missing s.me n (beyond s) ++ (if q && not s.forgot then to_one s.me kinds.Ack s.toward else [])) (all_acked_same s h)
     recovers_same (Some decisions.Rollback) = refl
 
+  abbrev asking_of : BranchId → List Post → Asking
+  asking_of me says = record { me = me; says = says }
+
   asks_one : (x y : KeptRow) → OneLike x y → asks_kept y ≡ asks_kept x
-  asks_one x y is = ap asks_kept is ∙ ap (λ ps. record { me = x.me; says = ps }) (recovers_same x y.hidden x.decision)
+  asks_one x y is = ap asks_kept is ∙ ap (asking_of x.me) (recovers_same x y.hidden x.decision)
 
   asks_same : (xs ys : List KeptRow) → RowsLike xs ys → map asks_kept xs ≡ map asks_kept ys
   asks_same [] [] like = refl

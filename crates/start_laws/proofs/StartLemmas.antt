@@ -35,7 +35,7 @@ use Rattle.book_laws.proofs.DoubtLemmas.{open_of}
 use Rattle.book_laws.proofs.NodeBookLemmas.{own_entries, own_in_doubt, own_changes_of, ComesHere, all_here}
 use Rattle.book_laws.proofs.NodeDoubtLemmas.{DoubtsStand, disk_stands}
 use Rattle.book_laws.proofs.RowLemmas.{run_book, rows_agree}
-use Rattle.start_laws.specs.StartLaws.{is_change_to, has_changed, doubter_of, lock_in_doubt, IsRestored, EveryStartRestores}
+use Rattle.start_laws.specs.StartLaws.{is_change_to, has_changed, doubter_of, lock_in_doubt, held_back, changed_by, IsRestored, EveryStartRestores}
 use Rattle.start_laws.proofs.DoubtLockLemmas.{has_it, doubts_lock}
 
 -- ---- what stands on a disk, and sessions
@@ -120,17 +120,19 @@ module _ (table : List ℕ) (key : Value) where
 
 -- ---- what they hold back
 
--- a branch with its changes, by these entries
-abbrev changed_by : List Entry → BranchId → BranchId × List Change
-changed_by es b = (b, changes_of es b)
+abbrev pair_of : BranchId → List Change → BranchId × List Change
+pair_of b cs = (b, cs)
 
-held_by : (es : List Entry) (ds : List Doubt) → AllByRecursion (λ d. d.changes ≡ changes_of es d.branch) ds → map (λ d. (d.branch, d.changes)) ds ≡ map (changed_by es) (map doubt_id ds)
+with_its : (b : BranchId) {cs ds : List Change} → cs ≡ ds → pair_of b cs ≡ pair_of b ds
+with_its b same = ap (pair_of b) same
+
+held_by : (es : List Entry) (ds : List Doubt) → AllByRecursion (λ d. d.changes ≡ changes_of es d.branch) ds → map held_back ds ≡ map (changed_by es) (map doubt_id ds)
 held_by es [] all = refl
-held_by es (d ∷ ds) all = ap (λ cs. (d.branch, cs) ∷ map (λ d. (d.branch, d.changes)) ds) all.0 ∙ ap (λ more. changed_by es d.branch ∷ more) (held_by es ds all.1)
+held_by es (d ∷ ds) all = ap (λ b. b ∷ map held_back ds) (with_its d.branch all.0) ∙ ap (λ more. changed_by es d.branch ∷ more) (held_by es ds all.1)
 
 same_map : (es book : List Entry) (bs : List BranchId) → ((b : BranchId) → IsOne b bs → changes_of es b ≡ changes_of book b) → map (changed_by es) bs ≡ map (changed_by book) bs
 same_map es book [] same = refl
-same_map es book (b ∷ bs) same = ap (λ cs. (b, cs) ∷ map (changed_by es) bs) (same b (inl refl)) ∙ ap (λ more. changed_by book b ∷ more) (same_map es book bs (λ c there. same c (inr there)))
+same_map es book (b ∷ bs) same = ap (λ c. c ∷ map (changed_by es) bs) (with_its b (same b (inl refl))) ∙ ap (λ more. changed_by book b ∷ more) (same_map es book bs (λ c there. same c (inr there)))
 
 own_held : (n : ℕ) (book : List Entry) → map (changed_by (own_entries n book)) (in_doubt (own_entries n book) n) ≡ map (changed_by book) (in_doubt book n)
 own_held n book =
@@ -178,7 +180,7 @@ module _ (t : History) (whole : IsLawfulRun t) (hs : List Happening) (n boot : �
   stand = disk_stands n rs (subst (EachAgainst (ComesHere n) []) disk (all_here n (book_of s.trace) (runs_agree s lawful).0))
 
   -- what the branches in doubt of the disk hold back, is what the book has of them
-  its_doubts : map (λ d. (d.branch, d.changes)) (stored_by nothing_stored rs).doubts ≡ map (changed_by g.book) (in_doubt g.book n)
+  its_doubts : map held_back (stored_by nothing_stored rs).doubts ≡ map (changed_by g.book) (in_doubt g.book n)
   its_doubts =
       held_by (flat_map (entry_of n) rs) (stored_by nothing_stored rs).doubts stand.changes
       ∙ (ap (map (changed_by (flat_map (entry_of n) rs))) stand.branches

@@ -6,7 +6,7 @@ use Rattle.std.specs.List.{list_any}
 use Rattle.std.specs.Option.{option_map}
 use Rattle.redo_record.specs.Durable.{durable}
 use Rattle.row_locks.specs.Locks.{Lock, is_lock_on}
-use Rattle.node_rules.specs.Data.{Value, Change, BranchId}
+use Rattle.node_rules.specs.Data.{Value, Change, BranchId, Doubt}
 use Rattle.node_rules.specs.NodeState.{NodeState}
 use Rattle.node_rules.specs.Rows.{same_value, get, rows_of_table}
 use Rattle.node_rules.specs.Sessions.{fresh_session, session_at}
@@ -36,6 +36,14 @@ doubter_of book n table key = find (has_changed book table key) (in_doubt book n
 abbrev pub lock_in_doubt : List ℕ → Value → BranchId → Lock
 lock_in_doubt table key b = record { table = table; key = key; branch = b; writes = true; in_doubt = true }
 
+-- a branch in doubt with the changes that its node holds back
+abbrev pub held_back : Doubt → BranchId × List Change
+held_back d = (d.branch, d.changes)
+
+-- and with those that it has by the book
+abbrev pub changed_by : List Entry → BranchId → BranchId × List Change
+changed_by book b = (b, changes_of book b)
+
 -- ---- a node that has just started
 
 -- A node that keeps what book and records say, and nothing else.
@@ -47,7 +55,7 @@ pub record IsRestored (f : Facts) (n : ℕ) (k : NodeState) : Type 0 where
   -- a key is locked where a branch in doubt has changed it, by that branch, and no other key is
   pub locks : (table : List ℕ) (key : Value) → find (is_lock_on table key) k.locks ≡ option_map (lock_in_doubt table key) (doubter_of f.book n table key)
   -- it holds back the changes of the branches in doubt, in the order of their seals
-  pub doubts : map (λ d. (d.branch, d.changes)) k.stored.doubts ≡ map (λ b. (b, changes_of f.book b)) (in_doubt f.book n)
+  pub doubts : map held_back k.stored.doubts ≡ map (changed_by f.book) (in_doubt f.book n)
   -- catalog, settings and kept rows are those of its records
   pub kept : k.stored.durable ≡ durable (records_at f n)
   -- no branch is live: none has changes or calls, and no link is open
