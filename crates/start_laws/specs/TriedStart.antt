@@ -42,6 +42,6 @@ pub record TheTriedStart : Type 0 where
   pub lock : lock_at_b in_doubt ≡ Some (Some (lock_in_doubt (codes "T") one b))
   pub kept : rows_kept_at_b in_doubt ≡ Some (b ∷ [])
   pub settled : doubter_of done.book 2 (codes "T") one ≡ None
-  pub row : row_at_b done ≡ Some (get (rows_of done.book 2 (codes "T")) one)
-  pub some : row_at_b done ≡ Some (Some (record { cells = one ∷ [] }))
+  pub book : get (rows_of done.book 2 (codes "T")) one ≡ Some (record { cells = one ∷ [] })
+  pub row : row_at_b done ≡ Some (Some (record { cells = one ∷ [] }))
   pub free : lock_at_b done ≡ Some None
