@@ -14,3 +14,4 @@ pub mod CreateStepLemmas
 pub mod CreateCourseLemmas
 pub mod QuietLemmas
 mod TriedCourseLemmas
+mod TriedQuietLemmas
