@@ -11,7 +11,10 @@ What is left, and why: a call that is named for the message that comes (`on_ack`
 two parts of what it does; a method with the short name of its type's field of work (`Catalog::set_recovery`, `Store::commit`)
 beside a definition that names the state after it; words of the field that several layers use in their one sense (`commit`,
 `rollback`, `insert`, `recovery`, `heard`); the parts of grammars and of formats, which are built alike (`tested`, `mapped`,
-`optional`); and the variables of a module's parameters, which are no definitions of a reader's.
+`optional`); what each layer says of its own values in one sense (`IsIntact`, `IsUsable`, `IsBroken` of two logs, `IsExact`
+and `Fails` of formats and grammars, `FailsOn`, `EndsUnread` of two programs); a law of lawful runs and the same law of the runs
+that world keeps (`DueMessagesAreThere`, `EachStartsSeldom`); the names of tried runs (`script`, `trail`, `facts_when`); and the
+variables of a module's parameters, which are no definitions of a reader's.
 """
 
 import collections
