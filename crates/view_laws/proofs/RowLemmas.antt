@@ -188,7 +188,6 @@ forgets_by s false true mb fg = refl
 forgets_by s false false true fg = none_mixed (record s { back = false; met_back = true; forgot = fg }) true (first_row s.sealed s.decided)
 forgets_by s false false false fg = none_mixed (record s { back = false; met_back = false; forgot = fg }) (fg && true) (first_row s.sealed s.decided)
 
-
 module _ (b : BranchId) (ks : List KeptRow) where
   abbrev row_at : List KeptRow → Option KeptRow
   row_at xs = item_at kept_row_id xs b
@@ -293,7 +292,7 @@ module _ (b : BranchId) (ks : List KeptRow) where
         let to : Says = record s { forgot = true } in
         let sum : plus s (one true (records.Forgot c)) ≡ to = λ i. record (plus_none s i) { forgot = or_some s.forgot i } in
         subst (λ m. row_at (kept_after ks (records.Forgot m)) ≡ option_map forgot_as (if_mixed (row_at ks))) (sym (equal_from_same c b here))
-            (changed_same b forgot_as (λ x. refl) (drop_where (is_done b) ks) ∙ ap (option_map forgot_as) (dropped_done b ks single))
+        (changed_same b forgot_as (λ x. refl) (drop_where (is_done b) ks) ∙ ap (option_map forgot_as) (dropped_done b ks single))
         ∙ (ap (λ o. option_map forgot_as (if_mixed o)) now ∙ (forgets_by s s.mixed s.back s.met_back s.forgot ∙ sym (ap row_with sum)))
     own_row _ here fits = absurd cc
 
