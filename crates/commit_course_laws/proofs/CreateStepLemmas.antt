@@ -32,7 +32,7 @@ module _ (node session : ℕ) (s : Stmt) (running : ℕ) (k : Option NodeState) 
   abbrev v : RunReport
   v = without_following (delivered_more (turn_appends t u.node u.input k o) u.took) u.input
 
-  -- of which the CREATE itself is none
+  -- After a whole turn the command is at a stage again, with the answers of its COMMIT that the turn gave.
   pub turn_stage : (came : Type 0) (told : List Answer) → u.cut ≡ false → t.next_call ≡ None → Stage node session s came told t → Stage node session s came (told ++ said node session s running u o) (report_turned running k t u o)
   turn_stage came told uncut alone (Commits c at follows all none unsaid) =
       let before = turn_before t u.node u.input k o u.took in

@@ -6,12 +6,12 @@ use Rattle.std.specs.List.{AllByRecursion}
 use Rattle.tran_ids.proofs.NumberedLemmas.{set_or_before}
 use Rattle.redo_record.specs.Kept.{kept_after}
 use Rattle.redo_record.specs.Durable.{durable_after, no_durable, durable}
-use Rattle.agreement.specs.Events.{Event, exit, learned}
+use Rattle.agreement.specs.Events.{Event}
 use Rattle.node_rules.specs.Data.{BranchId, RedoRecord, Durable, Input}
 use Rattle.node_rules.specs.Data.params
 use Rattle.node_rules.specs.Data.records
 use Rattle.node_rules.specs.Words.{numbered, set_numbered, item_at}
-use Rattle.node_rules.specs.NodeState.{Stored, kept_row_id}
+use Rattle.node_rules.specs.NodeState.{kept_row_id}
 use Rattle.node_rules.specs.Records.{nothing_stored}
 use Rattle.run_rules.specs.Branches.{no_trail}
 use Rattle.run_rules.specs.Data.{Turn, Happening}
@@ -22,7 +22,7 @@ use Rattle.run_claims.specs.Knowledge.{IsPurge}
 use Rattle.run_base_laws.specs.EventLaws.{TellsAsEvents, EachEventFrom}
 use Rattle.run_base_laws.specs.EventRows.{MayStand}
 use Rattle.run_base_laws.specs.NodeLaws.{EachFactFrom, count_of}
-use Rattle.run_base_laws.specs.RunEvents.{wrote_event, with_event, with_record, with_happening, events_after, events_from}
+use Rattle.run_base_laws.specs.RunEvents.{wrote_event, with_event, with_record, events_after, events_from}
 use Rattle.run_base_laws.proofs.EventsStandLemmas.{BranchStatus, first_disk, run_stands, turns_tell_as_events}
 use Rattle.run_base_laws.proofs.LaterLemmas.{Any, Added, Nothing_more, added_on, added_wider, wrote_added, turn_added, stop_added}
 use Rattle.run_rules.proofs.ListLemmas.{all_append, all_weaker}

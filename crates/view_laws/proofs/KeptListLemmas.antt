@@ -1,5 +1,5 @@
 -- The row of a branch in a list of rows, after the changes that a record makes of them.
-use Rattle.std.proofs.Common.{◌≡◌, ℕ, ◌+◌, ◌≤◌, ◌&&◌, not, Bool, true, false, if◌then◌else◌, List, [], ◌∷◌, option_map, Option, Some, None, refl, sym, ap, ◌∙◌, arith}
+use Rattle.std.proofs.Common.{◌≡◌, ◌+◌, ◌≤◌, ◌&&◌, not, Bool, true, false, if◌then◌else◌, List, [], ◌∷◌, option_map, Option, Some, None, refl, sym, ap, ◌∙◌, arith}
 use Rattle.tran_ids.specs.Branch.{branch_below}
 use Rattle.tran_ids.proofs.BranchLemmas.{equal_from_same}
 use Rattle.redo_record.specs.Kept.{stands_at, add_kept, is_done}

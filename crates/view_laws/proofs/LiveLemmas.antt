@@ -1,9 +1,7 @@
 -- Where a command begins, a branch that is live by the branch history is live at its node, and is collecting there.
 use Rattle.std.proofs.Common.{◌≡◌, ◌≢◌, ℕ, ◌&&◌, not, Bool, true, false, if◌then◌else◌, List, [], ◌∷◌, ◌++◌, map, slice_get, is_some, is_none, Option, Some, None, inl, inr, refl, sym, ap, subst, ◌∙◌}
-use Rattle.std.specs.List.{AllByRecursion}
 use Rattle.tran_ids.proofs.ListedLemmas.{item_is}
 use Rattle.pending_view.specs.Views.{Pending, is_working, has_sent_prepare, pending_live}
-use Rattle.session_tree.specs.Live.{children_of}
 use Rattle.agreement.specs.Events.{Exit, exit}
 use Rattle.node_rules.specs.Data.{BranchId, Edge, Live, Phase}
 use Rattle.node_rules.specs.Data.phases
@@ -12,7 +10,7 @@ use Rattle.run_rules.specs.Births.{births_of, born_at}
 use Rattle.run_rules.specs.Branches.{Seen, seen_id, seen_at, is_among}
 use Rattle.run_rules.specs.Data.{Happening}
 use Rattle.run_rules.specs.Data.happenings
-use Rattle.run_rules.specs.Facts.{Facts, node_at}
+use Rattle.run_rules.specs.Facts.{node_at}
 use Rattle.run_rules.specs.Lawful.{History, IsLawfulRun, NothingComesFirst}
 use Rattle.run_base_laws.specs.RunEvents.{lives_at}
 use Rattle.run_base_laws.proofs.BirthRunLemmas.{born_are_live_or_left}

@@ -1,9 +1,8 @@
 -- The row of a branch that its node keeps is the one that the node's records say, and one record more keeps it so.
 use Rattle.std.proofs.Common.{◌≡◌, ℕ, ◌≤◌, ◌||◌, ◌&&◌, not, Bool, true, false, if◌then◌else◌, List, [], ◌∷◌, ◌++◌, option_map, Option, Some, None, refl, sym, ap, subst, ◌∙◌}
-use Rattle.std.specs.List.{list_any}
 use Rattle.std.proofs.lemmas.Bool.{and_left}
 use Rattle.tran_ids.proofs.BranchLemmas.{equal_from_same, same_from_equal}
-use Rattle.redo_record.specs.Kept.{stands_at, add_kept, keep_decided, ended_commit, forced_state, in_state, met_as, is_done, forgot_as, hidden_as, kept_after}
+use Rattle.redo_record.specs.Kept.{stands_at, add_kept, ended_commit, forced_state, in_state, met_as, is_done, forgot_as, hidden_as, kept_after}
 use Rattle.redo_record.specs.Lists.{drop_where}
 use Rattle.redo_record.specs.Rows.{sealed_as, decided_as, has_neighbors}
 use Rattle.agreement.specs.Events.{first}

@@ -1,5 +1,5 @@
 -- What the records on a disk say of a branch, the events of the run say too, so a record that may stand fits what is said.
-use Rattle.std.proofs.Common.{◌≡◌, ℕ, ◌||◌, ◌&&◌, Bool, true, false, if◌then◌else◌, List, [], ◌∷◌, Option, Some, None, inl, inr, refl, sym, ap, subst, ◌∙◌}
+use Rattle.std.proofs.Common.{◌≡◌, ℕ, ◌||◌, ◌&&◌, Bool, true, false, if◌then◌else◌, List, [], ◌∷◌, Option, Some, None, inl, inr, refl, ap, subst, ◌∙◌}
 use Rattle.std.specs.Prelude.{◌⊎◌}
 use Rattle.std.specs.List.{AllByRecursion, list_any}
 use Rattle.tran_ids.proofs.BranchLemmas.{equal_from_same}
@@ -13,8 +13,8 @@ use Rattle.node_rules.specs.Words.{same}
 use Rattle.run_base_laws.specs.EventRows.{MayStand}
 use Rattle.run_base_laws.specs.RunEvents.{record_event, with_event}
 use Rattle.run_base_laws.proofs.LaterLemmas.{Added, Nothing_more, One_more, exit_later, learned_later}
-use Rattle.view_laws.specs.BranchRows.{meets_back, meets_mixed, forgets, forced_as, committed_at, is_mixed}
-use Rattle.view_laws.proofs.OneMoreLemmas.{Says, says, plus, learned_as, says_on}
+use Rattle.view_laws.specs.BranchRows.{meets_back, forgets, forced_as, committed_at, is_mixed}
+use Rattle.view_laws.proofs.OneMoreLemmas.{says, plus, learned_as, says_on}
 use Rattle.view_laws.proofs.RowLemmas.{about, nothing_said, one, one_of_none, says_one, row_with, Fits}
 
 -- a branch has stopped being live

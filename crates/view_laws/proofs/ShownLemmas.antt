@@ -1,13 +1,11 @@
 -- What the views show of a row that a node keeps is what the records say of its branch.
-use Rattle.std.proofs.Common.{◌≡◌, ◌≢◌, ℕ, ◌||◌, ◌&&◌, not, Bool, true, false, if◌then◌else◌, List, [], ◌∷◌, ◌++◌, map, slice_get, is_some, option_map, option_to_list, Option, Some, None, inl, inr, refl, sym, ap, subst, ◌∙◌}
-use Rattle.std.specs.Prelude.{codes}
+use Rattle.std.proofs.Common.{◌≡◌, ◌≢◌, ℕ, ◌||◌, ◌&&◌, not, Bool, true, false, if◌then◌else◌, List, [], ◌∷◌, ◌++◌, map, slice_get, is_some, option_map, option_to_list, Option, Some, None, inr, refl, sym, ap, subst, ◌∙◌}
 use Rattle.std.specs.List.{AllByRecursion}
 use Rattle.tran_ids.proofs.BranchLemmas.{equal_from_same}
 use Rattle.redo_record.specs.declared.record.Peer.{Peer}
 use Rattle.redo_record.specs.Rows.{kid_of, toward_of, sealed_as, decided_as}
 use Rattle.redo_record.specs.Rows as rules
-use Rattle.session_tree.specs.Live.{is_branch}
-use Rattle.pending_view.specs.Views.{Pending, Neighbor, known_number, state_text, state_number, pending_kept, in_row, out_row, neighbors_of}
+use Rattle.pending_view.specs.Views.{Pending, known_number, state_text, state_number, pending_kept, in_row, out_row, neighbors_of}
 use Rattle.agreement.specs.Events as exits
 use Rattle.agreement.specs.Events.{Event, exit, first}
 use Rattle.node_rules.specs.Data.{BranchId, Decision, RedoRecord, Sealed, Decided, KeptRow}
@@ -144,7 +142,7 @@ module _ (e : List Event) (rs : List RedoRecord) (all : AllByRecursion (Stood e)
   pub neighbors_are : (names : List (List ℕ)) (s : KeptRow) → row_with x ≡ Some s → s.hidden ≡ false → (if is_shown rs b then neighbors_first names (sealed_in rs b) (decided_in rs b) else []) ≡ neighbors_of names s
   neighbors_are names s found seen = let it = view_of s found seen in ap (λ q. if q then neighbors_first names (sealed_in rs b) (decided_in rs b) else []) it.shown ∙ it.neighbors names
 
-  -- A branch of which the records show something has a row that is not hidden.
+  -- A branch whose row the records show has a kept row, and that row is not hidden.
   pub record HasRow : Type 0 where
     pub row : KeptRow
     pub found : row_with x ≡ Some row

@@ -1,8 +1,8 @@
 -- In every lawful run the views of pending transactions show the rows of the branches.
-use Rattle.std.proofs.Common.{◌≡◌, ◌≢◌, ℕ, ◌+◌, ◌≤◌, ◌==◌, ◌||◌, not, Bool, true, false, if◌then◌else◌, List, [], ◌∷◌, ◌++◌, map, filter, flat_map, Option, Some, None, inl, inr, refl, sym, ap, subst, ◌∙◌, arith}
+use Rattle.std.proofs.Common.{◌≡◌, ◌≢◌, ℕ, ◌+◌, ◌≤◌, ◌==◌, ◌||◌, not, Bool, true, false, if◌then◌else◌, List, [], ◌∷◌, ◌++◌, map, filter, flat_map, Option, Some, None, refl, sym, ap, subst, ◌∙◌, arith}
 use Rattle.std.specs.Prelude.{fold}
 use Rattle.std.specs.Option.{option_map_or}
-use Rattle.std.specs.List.{AllByRecursion, list_any}
+use Rattle.std.specs.List.{AllByRecursion}
 use Rattle.std.proofs.lemmas.Bool.{or_left, or_right, eq-eqb, eqb-true}
 use Rattle.std.proofs.lemmas.List.Folds.{list_any-append}
 use Rattle.std.proofs.lemmas.List.{map-append}
@@ -10,8 +10,7 @@ use Rattle.tran_ids.specs.Branch.{put_by_branch}
 use Rattle.redo_record.specs.Durable.{durable_after, no_durable, durable}
 use Rattle.redo_record.specs.Order.{AreInOrder}
 use Rattle.view_laws.proofs.RowOrderLemmas.{after_in_order}
-use Rattle.pending_view.specs.Views.{Pending, Neighbor, pending_kept, pending_live, has_sent_prepare, in_view, pending_rows, out_row, in_row, neighbors_of, neighbor_rows, pending_view, neighbors_view}
-use Rattle.agreement.specs.Events.{Event, exit}
+use Rattle.pending_view.specs.Views.{Pending, pending_kept, pending_live, has_sent_prepare, in_view, pending_rows, out_row, in_row, neighbors_of, neighbor_rows, pending_view, neighbors_view}
 use Rattle.node_rules.specs.Data.{BranchId, RedoRecord, KeptRow, Kid, Durable, Live}
 use Rattle.node_rules.specs.Words.{same, item_at}
 use Rattle.node_rules.specs.NodeState.{NodeState, Stored, live_id, live_at, kept_row_id}
@@ -19,12 +18,10 @@ use Rattle.node_rules.specs.Records.{nothing_stored}
 use Rattle.run_rules.specs.Branches.{is_among, seen_at}
 use Rattle.run_rules.specs.BranchRecords.{sealed_in, decided_in}
 use Rattle.run_rules.specs.Data.{Happening}
-use Rattle.run_rules.specs.Data.commands
 use Rattle.run_rules.specs.Data.happenings
-use Rattle.run_rules.specs.Facts.{Facts, names_in, node_at, records_at}
+use Rattle.run_rules.specs.Facts.{names_in, node_at, records_at}
 use Rattle.run_rules.specs.Lawful.{History, IsLawfulRun}
-use Rattle.run_rules.specs.Shown.{shown}
-use Rattle.run_rules.proofs.ListLemmas.{all_weaker, all_append, all_map, all_filter}
+use Rattle.run_rules.proofs.ListLemmas.{all_append, all_map, all_filter}
 use Rattle.run_base_laws.specs.IdLaws.{AreOwn}
 use Rattle.run_base_laws.specs.NodeLaws.{count_of, unacked_kid, unacked_row}
 use Rattle.run_base_laws.proofs.CountingLemmas.{count_filter}
@@ -33,13 +30,13 @@ use Rattle.run_base_laws.proofs.FreshLemmas.{ids_are_fresh}
 use Rattle.run_base_laws.proofs.StoredLemmas.{records_are_kept}
 use Rattle.book_laws.proofs.KeptLemmas.{durable_stored}
 use Rattle.tree_laws.proofs.PrefixLemmas.{so_far, f_at, e_at}
-use Rattle.tree_laws.proofs.TimeLemmas.{Part, part_lawful, part_of}
+use Rattle.tree_laws.proofs.TimeLemmas.{part_lawful, part_of}
 use Rattle.tree_trail_laws.proofs.MomentLemmas.{tr_at, by_moment}
 use Rattle.view_laws.specs.BranchRows.{OpenColumns, is_shown, pending_first, pending_seen, pending_recorded, pending_at, neighbors_at}
-use Rattle.view_laws.specs.ViewLaws.{AreAscending, AreRowsOf, pending_lines, neighbor_lines, ShowsPending, ShowsNeighbors, ViewsAreRight, ViewsWhere, ViewsAreOfBranches}
+use Rattle.view_laws.specs.ViewLaws.{AreAscending, pending_lines, neighbor_lines, ShowsPending, ShowsNeighbors, ViewsWhere, ViewsAreOfBranches}
 use Rattle.view_laws.proofs.OneMoreLemmas.{Says, says}
 use Rattle.view_laws.proofs.RowLemmas.{nothing_said, row_with}
-use Rattle.view_laws.proofs.SaidLemmas.{HasLeft, Stood, unsaid, row_left}
+use Rattle.view_laws.proofs.SaidLemmas.{HasLeft, unsaid, row_left}
 use Rattle.view_laws.proofs.DiskRunLemmas.{kept_of, Disk, disks_at}
 use Rattle.view_laws.proofs.ShownLemmas.{HasRow, pending_is, neighbors_are, has_row, has_row_too}
 use Rattle.view_laws.proofs.SortLemmas.{sorted_rows, rows_flat, strict, ascend_filter, apart_by, found_each, count_mapped, found_among, count_joined}
