@@ -16,7 +16,7 @@ use Rattle.run_rules.specs.Lawful.{NothingComesFirst}
 use Rattle.run_rules.specs.Lines.{spent}
 use Rattle.run_rules.specs.Reported.{IsBetweenCommands}
 use Rattle.run_rules.specs.RunReport.{Call, Past, RunReport, orders_at}
-use Rattle.commit_course_laws.proofs.DueLemmas.{follows_due}
+use Rattle.answer_origin_laws.proofs.DueLemmas.{follows_due}
 
 -- What stands between two commands.
 pub record IsSettled (asked : List Command) (f : Facts) (t : RunReport) : Type 0 where

@@ -16,7 +16,7 @@ use Rattle.answer_origin_laws.proofs.CallAtLemmas.{AreShaped}
 use Rattle.answer_origin_laws.proofs.CallTurnLemmas.{all_so}
 use Rattle.answer_origin_laws.proofs.ComeLemmas.{due_there}
 use Rattle.answer_origin_laws.proofs.UptoLemmas.{due_at, next_is, none_more, one_more}
-use Rattle.commit_course_laws.proofs.DueLemmas.{begins_is}
+use Rattle.answer_origin_laws.proofs.DueLemmas.{begins_is}
 use Rattle.answer_once_laws.specs.OnceLaws.{AnswersOnce, said_of, EachIsAnsweredOnce, AllAreAnsweredOnce}
 use Rattle.answer_once_laws.proofs.BetweenLemmas.{ends_over}
 use Rattle.answer_once_laws.proofs.CallListLemmas.{pends}

@@ -19,7 +19,7 @@ use Rattle.run_ready_laws.proofs.OtherStandLemmas.{IsQuiet}
 use Rattle.answer_origin_laws.proofs.ComeLemmas.{due_there}
 use Rattle.answer_origin_laws.proofs.UptoLemmas.{may_at}
 use Rattle.answer_done_laws.proofs.LineStayLemmas.{Has, found_has, stopped_grows}
-use Rattle.commit_course_laws.proofs.WayLemmas.{stopped_way}
+use Rattle.answer_origin_laws.proofs.WayLemmas.{stopped_way}
 use Rattle.answer_once_laws.specs.OnceLaws.{Ends_pending_call, Node_is_down}
 use Rattle.answer_once_laws.proofs.CallListLemmas.{pends}
 use Rattle.answer_once_laws.proofs.PageEndLemmas.{stopped_pages, stop_pages, start_pages}

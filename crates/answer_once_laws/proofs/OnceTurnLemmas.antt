@@ -20,7 +20,7 @@ use Rattle.answer_origin_laws.proofs.DueCallLemmas.{ComesNow, DueIs}
 use Rattle.answer_origin_laws.proofs.SameToldLemmas.{ToldBefore}
 use Rattle.answer_origin_laws.proofs.UptoLemmas.{facts_there, may_at}
 use Rattle.answer_done_laws.proofs.LineStayLemmas.{Has, finished_grows}
-use Rattle.commit_course_laws.proofs.WayLemmas.{finished_way, input_way, turn_before}
+use Rattle.answer_origin_laws.proofs.WayLemmas.{finished_way, input_way, turn_before}
 use Rattle.answer_once_laws.proofs.CallListLemmas.{pends, pending_one, all_both, apart_found, one_session}
 use Rattle.answer_once_laws.proofs.OwnEndLemmas.{completes_own}
 use Rattle.answer_once_laws.proofs.PageEndLemmas.{finished_pages, input_pages}

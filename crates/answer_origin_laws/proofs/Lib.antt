@@ -4,6 +4,8 @@ pub mod DueCallLemmas
 pub mod CallAtLemmas
 pub mod ComeLemmas
 pub mod CallTurnLemmas
+pub mod WayLemmas
+pub mod DueLemmas
 mod TriedCallLemmas
 pub mod TaleLemmas
 pub mod PlainLemmas

@@ -57,7 +57,7 @@ use Rattle.commit_answer_laws.specs.CommitCauses.{AllAgree, CommitCause, IsInDou
 use Rattle.commit_answer_laws.specs.CommitEndLaws.{row_knows}
 use Rattle.commit_answer_laws.proofs.CauseBookLemmas.{commit_in_book, none_in_book, doubt_in_book, decided_before}
 use Rattle.commit_answer_laws.proofs.EndStepLemmas.{StepEnd, Has_decided, Has_no_site, Has_forgotten, Hears_abort, Is_given_up, Ends_back, Meets_back, Is_known, Is_in_doubt, Is_forced}
-use Rattle.commit_answer_laws.proofs.NoSiteLemmas.{plan_there}
+use Rattle.tree_trail_laws.proofs.NoSiteLemmas.{plan_there}
 use Rattle.commit_answer_laws.proofs.RootHoldLemmas.{Holds}
 use Rattle.commit_answer_laws.proofs.RootHoldRunLemmas.{roots_hold}
 use Rattle.commit_answer_laws.proofs.RowHoldLemmas.{well_row}

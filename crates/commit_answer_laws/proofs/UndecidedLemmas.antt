@@ -51,12 +51,13 @@ use Rattle.commit_point_laws.specs.EndLaws.{EntryIs}
 use Rattle.commit_point_laws.proofs.BookEndLemmas.{entries_are_exits}
 use Rattle.tree_laws.proofs.MoreLemmas.{forest, events_lawful, added_end, inv_end, inv_at}
 use Rattle.commit_answer_laws.specs.CommitEndLaws.{row_knows, LeavesUnrecorded}
-use Rattle.commit_answer_laws.specs.UndecidedLaws.{EndedWith, IsDecided, IsUndecided, HadNoSite, RefusedAreUndecided, KnownAreDecided, CompleteAreDecided}
-use Rattle.commit_answer_laws.proofs.BookLemmas.{decided_stands}
+use Rattle.commit_answer_laws.specs.UndecidedLaws.{EndedWith, IsDecided, IsUndecided, RefusedAreUndecided, KnownAreDecided, CompleteAreDecided}
+use Rattle.commit_point_laws.proofs.BookLemmas.{decided_stands}
 use Rattle.commit_answer_laws.proofs.BornLemmas.{High, born_high, session_low}
 use Rattle.commit_answer_laws.proofs.EndRunLemmas.{ends_for, fits}
 use Rattle.commit_answer_laws.proofs.EndStepLemmas.{StepEnd, Has_decided, Has_no_site, Has_forgotten, Hears_abort, Is_given_up, Ends_back, Meets_back, Is_known, Is_in_doubt, Is_forced}
-use Rattle.commit_answer_laws.proofs.NoSiteLemmas.{had_no_site}
+use Rattle.tree_trail_laws.specs.NoSite.{HadNoSite}
+use Rattle.tree_trail_laws.proofs.NoSiteLemmas.{had_no_site}
 use Rattle.tree_laws.proofs.AtPart.{at_part}
 use Rattle.tree_trail_laws.proofs.OwnAfterLemmas.{all_at as slice_all}
 

@@ -21,7 +21,8 @@ use Rattle.run_rules.specs.Scripts.{IsTheRunOf}
 use Rattle.run_claims.specs.Places.{node_line, reported_of}
 use Rattle.run_claims.specs.ReportedDone.{CameTo}
 use Rattle.commit_answer_laws.specs.CommitCauses.{HasItsCause}
-use Rattle.commit_answer_laws.specs.UndecidedLaws.{IsDecided, IsUndecided, HadNoSite}
+use Rattle.tree_trail_laws.specs.NoSite.{HadNoSite}
+use Rattle.commit_answer_laws.specs.UndecidedLaws.{IsDecided, IsUndecided}
 
 -- What the answer of a COMMIT says of the transaction that its session had, if it had one.
 pub data IsTrueOf (t : History) (transaction : Option BranchId) (a : Answer) : Type 0 where

@@ -1,18 +1,17 @@
 -- What a client may rest on who is told that its COMMIT rolled back: no branch of the transaction has decided, nor ever does.
 -- (Error Messages: ORA-02050; Database Administrator's Guide, "Distributed Transactions Concepts".)
-use Rattle.std.specs.Prelude.{◌≡◌, ◌⊎◌, ℕ, true, false, List, ◌∷◌, ◌++◌, Some}
+use Rattle.std.specs.Prelude.{◌≡◌, ◌⊎◌, ℕ, false, List, ◌∷◌, ◌++◌, Some}
 use Rattle.node_rules.specs.Data.{Answer, BranchId, Change}
 use Rattle.node_rules.specs.NodeState.{NodeState}
 use Rattle.node_rules.specs.Sessions.{commit_complete, tran_refusal}
 use Rattle.node_rules.specs.Turn.{turn_of}
 use Rattle.run_rules.specs.Book.{At}
-use Rattle.run_rules.specs.Branches.{no_trail, plan_at}
 use Rattle.run_rules.specs.Data.{Turn, Happening}
 use Rattle.run_rules.specs.Data.entries
 use Rattle.run_rules.specs.Data.happenings
 use Rattle.run_rules.specs.Facts.{first_facts, facts_of, node_at, place_at}
 use Rattle.run_rules.specs.Lawful.{History, IsLawfulRun, facts_at}
-use Rattle.run_rules.specs.Trail.{has_no_site, trail_of}
+use Rattle.tree_trail_laws.specs.NoSite.{HadNoSite}
 use Rattle.commit_answer_laws.specs.CommitEndLaws.{CommitPends, EndsCall, LeavesUnrecorded}
 
 -- The COMMIT of g was pending, and ended in a whole turn of a run with this answer.
@@ -39,10 +38,6 @@ IsDecided t g = (b : BranchId) × (cs : List Change) × (n i : ℕ) × At (facts
 -- none does, at whatever place
 abbrev pub IsUndecided : History → BranchId → Type 0
 IsUndecided t g = (i : ℕ) (b : BranchId) (cs : List Change) (n : ℕ) → At (facts_at t).book i (entries.Decided b g cs n) → ⊥
-
--- its COMMIT was accepted, and no branch of its session tree had changes then
-abbrev pub HadNoSite : History → BranchId → Type 0
-HadNoSite t g = has_no_site (plan_at (trail_of t.places t.commands (first_facts t.places) no_trail t.trace) g) ≡ true
 
 -- In every lawful run no decision of a transaction whose COMMIT was answered ORA-02050 stands in the book, up to its end.
 abbrev pub RefusedAreUndecided : Type 0

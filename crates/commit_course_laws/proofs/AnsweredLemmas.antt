@@ -18,7 +18,7 @@ use Rattle.run_rules.proofs.FactLemmas.{facts_next}
 use Rattle.run_ready_laws.proofs.PendingLemmas.{found_so, at_parts, line_same}
 use Rattle.answer_origin_laws.proofs.ComeLemmas.{input_same}
 use Rattle.run_claims.specs.Undisturbed.{answers_in, answers_from}
-use Rattle.commit_course_laws.proofs.WayLemmas.{finished_so, turn_so}
+use Rattle.answer_origin_laws.proofs.WayLemmas.{finished_so, turn_so}
 use Rattle.commit_course_laws.proofs.FlowLemmas.{IsItsCall, HasOne, one_ends, one_before, one_turn, IsWholeTurn}
 
 -- no call is such

@@ -18,8 +18,8 @@ use Rattle.run_claims.specs.Places.{past_upto}
 use Rattle.run_rules.specs.RunReport.{Call, Past, RunReport}
 use Rattle.answer_origin_laws.proofs.UptoLemmas.{one_more, none_more, next_is, due_at}
 use Rattle.commit_course_laws.specs.CommandCalls.{is_hold, hold_by, HoldIsKept, CommandsFindNoCall, CommandsFindNothingInFlight, HasItsCallAlone, CommandsHoldTheirCall}
-use Rattle.commit_course_laws.proofs.WayLemmas.{stopped_way, turn_way, stopped_so, turn_so}
-use Rattle.commit_course_laws.proofs.DueLemmas.{begun_over}
+use Rattle.answer_origin_laws.proofs.WayLemmas.{stopped_way, turn_way, stopped_so, turn_so}
+use Rattle.answer_origin_laws.proofs.DueLemmas.{begun_over}
 
 module _ (t : History) (p : Past) where
   open p use {facts as f, run_report as told}

@@ -33,8 +33,8 @@ use Rattle.run_claims.specs.Undisturbed.{Commit, facts_by, answers_from}
 use Rattle.commit_course_laws.specs.CommandCalls.{is_hold}
 use Rattle.run_claims.specs.CommitCourse.{past_by, GoesWell, CommitIsUnderWay, Delivers, CommitsFlow, CommitsEnd}
 use Rattle.commit_course_laws.proofs.CommandLemmas.{commands_hold_their_call, fresh_deliveries}
-use Rattle.commit_course_laws.proofs.WayLemmas.{turn_way}
-use Rattle.commit_course_laws.proofs.DueLemmas.{stands_here, follows_here}
+use Rattle.answer_origin_laws.proofs.WayLemmas.{turn_way}
+use Rattle.answer_origin_laws.proofs.DueLemmas.{stands_here, follows_here}
 use Rattle.commit_course_laws.proofs.FlowLemmas.{IsWholeTurn, IsItsCall, HasOne, Flows, flows_turn, Comes, Delivery, Give_up, comes_so, end_due, Course, course}
 use Rattle.commit_course_laws.proofs.AnsweredLemmas.{none_pending, answered_none}
 

@@ -14,7 +14,7 @@ use Rattle.run_rules.specs.RunReport.{Call, RunReport}
 use Rattle.run_rules.specs.Trail.{ended_by}
 use Rattle.run_ready_laws.proofs.PendingLemmas.{at_parts, line_same}
 use Rattle.answer_origin_laws.proofs.ComeLemmas.{input_same}
-use Rattle.commit_course_laws.proofs.WayLemmas.{finished_so}
+use Rattle.answer_origin_laws.proofs.WayLemmas.{finished_so}
 use Rattle.commit_course_laws.proofs.FlowLemmas.{IsItsCall}
 use Rattle.commit_course_laws.proofs.AnsweredLemmas.{IsNoCall, HasNone}
 

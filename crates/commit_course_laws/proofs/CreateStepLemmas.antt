@@ -19,8 +19,8 @@ use Rattle.run_rules.specs.Past.{delivered_more, is_call, without_following, end
 use Rattle.run_rules.specs.Reported.{IsBetweenCommands}
 use Rattle.run_rules.specs.RunReport.{Call, Past, RunReport}
 use Rattle.run_claims.specs.CommitCourse.{GoesWell}
-use Rattle.commit_course_laws.proofs.WayLemmas.{turn_before, turn_way, turn_so}
-use Rattle.commit_course_laws.proofs.DueLemmas.{told_first, flow_due, follows_due}
+use Rattle.answer_origin_laws.proofs.WayLemmas.{turn_before, turn_way, turn_so}
+use Rattle.answer_origin_laws.proofs.DueLemmas.{told_first, flow_due, follows_due}
 use Rattle.commit_course_laws.proofs.FlowLemmas.{IsItsCall, HasOne, one_turn, one_after, Comes, delivery_comes, delivery_between}
 use Rattle.commit_course_laws.proofs.AnsweredLemmas.{IsNoCall, HasNone, answered_end}
 use Rattle.commit_course_laws.proofs.CreateFlowLemmas.{of_none, IsOf, Stage, Commits, Follows, Created, Refused, same_stage, said, commits_on}

@@ -22,8 +22,8 @@ use Rattle.run_ready_laws.proofs.PendingLemmas.{found_so, line_same}
 use Rattle.answer_origin_laws.proofs.ComeLemmas.{input_same}
 use Rattle.run_claims.specs.CommitCourse.{GoesWell}
 use Rattle.run_claims.specs.Undisturbed.{is_create}
-use Rattle.commit_course_laws.proofs.WayLemmas.{turn_before, turn_way, finished_so}
-use Rattle.commit_course_laws.proofs.DueLemmas.{turn_is, delivery_is, told_first, flow_due}
+use Rattle.answer_origin_laws.proofs.WayLemmas.{turn_before, turn_way, finished_so}
+use Rattle.answer_origin_laws.proofs.DueLemmas.{turn_is, delivery_is, told_first, flow_due}
 
 -- a turn that is whole
 abbrev pub IsWholeTurn : Happening → Type 0

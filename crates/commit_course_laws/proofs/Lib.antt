@@ -1,7 +1,5 @@
 mod SiteLemmas
 pub mod CompleteLemmas
-pub mod WayLemmas
-pub mod DueLemmas
 pub mod CommandLemmas
 pub mod FlowLemmas
 pub mod AnsweredLemmas

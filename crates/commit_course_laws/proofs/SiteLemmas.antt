@@ -49,9 +49,9 @@ use Rattle.commit_point_laws.proofs.ReadyEndLemmas.{all as tree_all}
 use Rattle.commit_point_laws.proofs.WalkEndLemmas.{undisturbed_walks_end}
 use Rattle.commit_leave_laws.proofs.PendLemmas.{calm_so}
 use Rattle.commit_leave_laws.proofs.RootActLemmas.{upsets}
-use Rattle.commit_answer_laws.specs.UndecidedLaws.{HadNoSite}
-use Rattle.commit_answer_laws.proofs.BookLemmas.{decided_stands}
-use Rattle.commit_answer_laws.proofs.NoSiteLemmas.{had_no_site}
+use Rattle.tree_trail_laws.specs.NoSite.{HadNoSite}
+use Rattle.commit_point_laws.proofs.BookLemmas.{decided_stands}
+use Rattle.tree_trail_laws.proofs.NoSiteLemmas.{had_no_site}
 
 -- ---- lists
 

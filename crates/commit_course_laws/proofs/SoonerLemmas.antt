@@ -23,7 +23,7 @@ use Rattle.tree_laws.proofs.TimeLemmas.{part_lawful}
 use Rattle.run_claims.specs.Undisturbed.{Commit, Undisturbed, CommitIsComplete, UndisturbedCommitsAreComplete, IsInCourse, LostNone, HasNotStopped, NoneComesIn, facts_by, branches_in, branches_by, answers_in, answers_from, commit_answers_from}
 use Rattle.commit_length_laws.specs.FewLaws.{DeliveriesStayBelow, deliveries_in}
 use Rattle.commit_course_laws.proofs.FlowLemmas.{IsWholeTurn, IsNoCreate}
-use Rattle.commit_course_laws.proofs.WayLemmas.{turn_way}
+use Rattle.answer_origin_laws.proofs.WayLemmas.{turn_way}
 use Rattle.commit_course_laws.proofs.EarlierLemmas.{all_front, all_back, lost_back, births_more, among_more, all_fewer, lost_fewer, calm_fewer, stopped_back}
 
 -- What a quiet COMMIT has beside its course.

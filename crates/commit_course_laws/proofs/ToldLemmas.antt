@@ -31,7 +31,7 @@ use Rattle.answer_origin_laws.proofs.ComeLemmas.{input_same}
 use Rattle.answer_done_laws.proofs.LineRunLemmas.{answer_told, told_at_last}
 use Rattle.run_claims.specs.Undisturbed.{answers_from}
 use Rattle.run_claims.specs.CommitCourse.{past_by, AnsweredCommitsAreReported}
-use Rattle.commit_course_laws.proofs.WayLemmas.{turn_before}
+use Rattle.answer_origin_laws.proofs.WayLemmas.{turn_before}
 use Rattle.commit_course_laws.proofs.FlowLemmas.{IsWholeTurn, IsItsCall, HasOne, one_ends, one_before, one_turn}
 use Rattle.commit_course_laws.proofs.CourseLemmas.{slice_mid, take_first, p, parts, upto, there, own, its, facts_before, plain, one_call, its_course}
 

@@ -16,4 +16,5 @@ pub mod ReadyEndLemmas
 pub mod WalkEndLemmas
 pub mod AskedEndLemmas
 pub mod BookEndLemmas
+pub mod BookLemmas
 mod TriedPointLemmas

@@ -1,3 +1,3 @@
 mod InOrder
 mod Searched
-mod OrderKept
+pub mod OrderKept

@@ -55,5 +55,6 @@ pub mod OwnTurnLemmas
 pub mod OwnAfterLemmas
 pub mod OwnFollowLemmas
 pub mod SeenRunLemmas
+pub mod NoSiteLemmas
 mod TriedTrailLemmas
 mod TriedOwnsLemmas

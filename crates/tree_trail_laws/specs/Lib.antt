@@ -4,5 +4,6 @@ pub mod SeenLaws
 pub mod TopLaws
 pub mod LeaveLaws
 pub mod OwnLaws
+pub mod NoSite
 pub mod TriedTrail
 pub mod TriedOwns

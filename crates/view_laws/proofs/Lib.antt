@@ -1,5 +1,4 @@
 mod OneMoreLemmas
-mod RowOrderLemmas
 mod KeptListLemmas
 mod RowLemmas
 mod SaidLemmas

@@ -9,7 +9,7 @@ use Rattle.std.proofs.lemmas.List.{map-append}
 use Rattle.tran_ids.specs.Branch.{put_by_branch}
 use Rattle.redo_record.specs.Durable.{durable_after, no_durable, durable}
 use Rattle.redo_record.specs.Order.{AreInOrder}
-use Rattle.view_laws.proofs.RowOrderLemmas.{after_in_order}
+use Rattle.redo_record.proofs.OrderKept.{after_in_order}
 use Rattle.pending_view.specs.Views.{Pending, pending_kept, pending_live, has_sent_prepare, in_view, pending_rows, out_row, in_row, neighbors_of, neighbor_rows, pending_view, neighbors_view}
 use Rattle.node_rules.specs.Data.{BranchId, RedoRecord, KeptRow, Kid, Durable, Live}
 use Rattle.node_rules.specs.Words.{same, item_at}

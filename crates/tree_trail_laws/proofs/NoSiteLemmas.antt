@@ -17,7 +17,7 @@ use Rattle.tree_trail_laws.proofs.PlanLemmas.{plan_stays}
 use Rattle.tree_trail_laws.proofs.SeenRunLemmas.{all_is_seen}
 use Rattle.tree_trail_laws.proofs.TopFinishLemmas.{Earlier, same_plans, ends_siteless_planned}
 use Rattle.tree_laws.proofs.TopStepLemmas.{Finishes}
-use Rattle.commit_answer_laws.specs.UndecidedLaws.{HadNoSite}
+use Rattle.tree_trail_laws.specs.NoSite.{HadNoSite}
 
 module _ (t : History) (whole : IsLawfulRun t) where
   owns : AtEach (λ places f tr h. TracesOwns f tr) t
