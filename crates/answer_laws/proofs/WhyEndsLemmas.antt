@@ -1,13 +1,12 @@
 -- Why a call of a client ends in a turn: with a refusal, in the call's own turn, on a Reply, or as a COMMIT that was pending.
-use Rattle.std.proofs.Common.{◌≡◌, ◌≢◌, ℕ, ◌⊎◌, Bool, true, false, if◌then◌else◌, List, [], ◌∷◌, ◌++◌, Option, Some, None, inl, inr, refl, sym, ap, subst, ◌∙◌}
+use Rattle.std.proofs.Common.{◌≡◌, ℕ, ◌⊎◌, Bool, true, false, if◌then◌else◌, List, [], ◌∷◌, ◌++◌, Option, Some, None, inl, inr, refl, sym, ap, subst, ◌∙◌}
 use Rattle.std.proofs.lemmas.Bool.{cond_both, and_parts}
 use Rattle.commit_forget.specs.declared.next.Next.TheVariants as nexts
-use Rattle.node_rules.specs.Data.{Stmt, Answer, Advice, BranchId, Decision, Refusal, Live, Act, Place, Input}
+use Rattle.node_rules.specs.Data.{Stmt, Answer, BranchId, Decision, Refusal, Live, Act, Place, Input}
 use Rattle.node_rules.specs.Data.acts
 use Rattle.node_rules.specs.Data.answers
 use Rattle.node_rules.specs.Data.decisions
 use Rattle.node_rules.specs.Data.inputs
-use Rattle.node_rules.specs.Data.kinds
 use Rattle.node_rules.specs.Data.stmts
 use Rattle.node_rules.specs.declared.session.Finished.{Finished}
 use Rattle.node_rules.specs.declared.session.PendingCall.{PendingCall}
@@ -17,8 +16,7 @@ use Rattle.node_rules.specs.Words.{set_numbered}
 use Rattle.node_rules.specs.Calls.{answer_ends, hears_reply}
 use Rattle.node_rules.specs.Client.{new_root, begun_by}
 use Rattle.node_rules.specs.Commit.{decision_answers}
-use Rattle.node_rules.specs.Inputs.{Came}
-use Rattle.node_rules.specs.NodeState.{NodeState, Branch, TurnDraft, live_at}
+use Rattle.node_rules.specs.NodeState.{NodeState, Branch, TurnDraft}
 use Rattle.node_rules.specs.Prepare.{abandon_ends, is_alone, act_turn}
 use Rattle.node_rules.specs.Sessions.{session_at, with_call, is_commit, commit_is_pending, commit_answer}
 use Rattle.node_rules.specs.Statement.{ran, after_run}
@@ -27,6 +25,7 @@ use Rattle.node_rules.proofs.Steps as steps
 use Rattle.node_rules.proofs.Steps.{Step, Asked}
 use Rattle.run_base_laws.proofs.RootLemmas.{SessionsFit, session_or_before, begun_so, pends_so}
 use Rattle.session_tree.specs.Live.{is_branch}
+use Rattle.answer_origin_laws.proofs.ExecLemmas.{ExecsBelow}
 use Rattle.answer_laws.specs.EndLaws.{EndsFor, Is_refused, Is_own, Is_replied, Was_commit, forces_outcome, EndsFew, Ends_none, Ends_one, Ends_forced}
 
 is_commit_call : (c : PendingCall) → is_commit c ≡ true → c ≡ pending.Commit
@@ -108,10 +107,6 @@ set_commit ss n m s so is = elim (session_or_before ss n m s) [
 ]
 
 -- ---- each step
-
--- an Exec comes to no root
-abbrev pub ExecsBelow : Input → NodeState → Type 0
-ExecsBelow input k = (from to : BranchId) (call given : ℕ) (advice : Option Advice) (s : Stmt) → Came input from to (kinds.Exec call given advice s) → (l : Live) → live_at k to ≡ Some l → l.parent ≢ None
 
 -- a statement that came to a root is its client's
 asked_own : {input : Input} {k : NodeState} {x : Branch} {s : Stmt} {given : ℕ} → SessionsFit k → ExecsBelow input k → Asked k input x s given → (l : Live) → l.me ≡ x.live.me → l.parent ≡ x.live.parent → (a : Answer)

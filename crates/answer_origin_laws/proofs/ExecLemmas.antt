@@ -34,6 +34,10 @@ use Rattle.answer_origin_laws.proofs.TaleLemmas.{NoReply, IsMute, other_reply, S
 use Rattle.tree_trail_laws.proofs.OwnAskLemmas.{target_no as way_target_not}
 use Rattle.tree_trail_laws.proofs.LowerLivesLemmas.{bool_cases as bool_by}
 
+-- an Exec comes to no root
+abbrev pub ExecsBelow : Input → NodeState → Type 0
+ExecsBelow input k = (from to : BranchId) (call given : ℕ) (advice : Option Advice) (s : Stmt) → Came input from to (kinds.Exec call given advice s) → (l : Live) → live_at k to ≡ Some l → l.parent ≢ None
+
 -- a statement runs where its table is
 way_new_not : (p : Place) (l : Live) (given node : ℕ) (link table : List ℕ) (t : Table) → way_new p l given node link table ≡ Runs_here t → ⊥
 way_new_not p l given node link table t is = by (nat_le depth_limit l.depth || (room l given == 0)) (nat_le p.links (length l.edges)) is

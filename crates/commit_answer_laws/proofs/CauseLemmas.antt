@@ -40,7 +40,7 @@ use Rattle.run_base_laws.proofs.RootLemmas.{root_alone}
 use Rattle.run_branch_laws.specs.PhaseLaws.{PhaseFits}
 use Rattle.run_branch_laws.proofs.PhaseLemmas.{phases_fit}
 use Rattle.run_cause_laws.proofs.KnowLemmas.{every_turn_knows}
-use Rattle.run_cause_laws.proofs.LeftExitLemmas.{abort_came, abort_first}
+use Rattle.tree_trail_laws.proofs.LeftExitLemmas.{abort_came, abort_first}
 use Rattle.run_cause_laws.proofs.OnceLemmas.{IsOnly, disks_only}
 use Rattle.book_laws.specs.LeaveLaws.{IsLastAnswer}
 use Rattle.tree_laws.proofs.PrefixLemmas.{so_far, f_at, e_at, one_on}

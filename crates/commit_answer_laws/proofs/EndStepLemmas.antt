@@ -36,7 +36,7 @@ use Rattle.node_rules.proofs.Steps as steps
 use Rattle.node_rules.proofs.Steps.{Step, Answers, Asked, Acting, Collects, Collected}
 use Rattle.run_branch_laws.proofs.QuietLemmas.{NoRows, acting_apart, came_apart}
 use Rattle.run_base_laws.proofs.RootLemmas.{SessionsFit, session_or_before, begun_so, pends_so}
-use Rattle.answer_laws.proofs.WhyEndsLemmas.{ExecsBelow}
+use Rattle.answer_origin_laws.proofs.ExecLemmas.{ExecsBelow}
 use Rattle.tree_laws.proofs.TopStepLemmas.{Finishes, On_answer}
 use Rattle.run_claims.specs.Knowledge.{neighbors_of}
 use Rattle.commit_answer_laws.specs.CommitEndLaws as laws

@@ -38,8 +38,8 @@ use Rattle.tree_trail_laws.proofs.FullLemmas.{Sees, SeesAll, full}
 use Rattle.tree_trail_laws.proofs.MomentLemmas.{tr_at, at_moment, by_moment}
 use Rattle.tree_trail_laws.proofs.SeenRunLemmas.{all_is_seen}
 use Rattle.run_cause_laws.specs.AbortLaws.{MayAbort, AbortsDuly, AbortsAreDue}
-use Rattle.run_cause_laws.proofs.LeftExitLemmas.{abort_first, abort_came}
-use Rattle.run_cause_laws.proofs.LeftLemmas.{IsToldLeft, left_are_told}
+use Rattle.tree_trail_laws.proofs.LeftExitLemmas.{abort_first, abort_came}
+use Rattle.tree_trail_laws.proofs.LeftLemmas.{IsToldLeft, left_are_told}
 use Rattle.run_branch_laws.proofs.AbortStepLemmas.{Was_gone, Hears_one, AbortSo, aborts_on}
 use Rattle.tree_laws.proofs.AtTurn.{at_turn}
 use Rattle.tree_trail_laws.proofs.AtTrail.{at_trail}

@@ -47,7 +47,7 @@ use Rattle.tree_trail_laws.proofs.SeenLemmas.{item_mapped, turned, seen_turned}
 use Rattle.tree_trail_laws.proofs.SeenRunLemmas.{all_is_seen}
 use Rattle.run_cause_laws.specs.ForgetLaws.{SiteMayForget, ForgetsDuly, SitesForgetDuly}
 use Rattle.run_cause_laws.proofs.AckStepLemmas.{RowHasAcks, Heard, IsOfDecision, ForgetsSo, acks_stored, acks_on, forgets_on}
-use Rattle.run_cause_laws.proofs.LeftLemmas.{IsToldLeft, left_are_told}
+use Rattle.tree_trail_laws.proofs.LeftLemmas.{IsToldLeft, left_are_told}
 use Rattle.run_cause_laws.proofs.OnceLemmas.{IsOnly, disks_only}
 use Rattle.tree_laws.proofs.AtTurn.{at_turn}
 use Rattle.tree_trail_laws.proofs.AtTrail.{at_trail}

@@ -1,7 +1,3 @@
-pub mod LeftStepLemmas
-pub mod LeftRecordLemmas
-pub mod LeftExitLemmas
-pub mod LeftLemmas
 pub mod AbortLemmas
 pub mod AckStepLemmas
 pub mod OnceLemmas

@@ -23,7 +23,7 @@ use Rattle.run_rules.proofs.ListLemmas.{all_weaker, all_append}
 use Rattle.run_base_laws.proofs.TurnEventLemmas.{all_both}
 use Rattle.tree_laws.proofs.PrefixLemmas.{f_at, e_at, one_on, more_on}
 use Rattle.tree_laws.proofs.TimeLemmas.{Part, each_at, exit_on, keep_on}
-use Rattle.run_cause_laws.proofs.LeftRecordLemmas.{first_by}
+use Rattle.tree_trail_laws.proofs.LeftRecordLemmas.{first_by}
 
 -- the branch of a seal and of a decision has left
 abbrev pub HasLeft : List Event → RedoRecord → Type 0

@@ -46,7 +46,7 @@ use Rattle.tree_trail_laws.proofs.SeenLemmas.{item_mapped, brings, turned, seen_
 use Rattle.tree_trail_laws.proofs.SeenRunLemmas.{all_is_seen}
 use Rattle.tree_trail_laws.proofs.TopSeqLemmas.{births_high}
 use Rattle.run_cause_laws.specs.QuietLaws.{MaySayReadOnly, SaysReadOnlyDuly, ReadOnlyIsDue}
-use Rattle.run_cause_laws.proofs.LeftLemmas.{IsToldLeft, left_are_told}
+use Rattle.tree_trail_laws.proofs.LeftLemmas.{IsToldLeft, left_are_told}
 use Rattle.run_cause_laws.proofs.QuietAskLemmas.{run_none, own_of_left}
 use Rattle.run_cause_laws.proofs.QuietStepLemmas.{Quits, QuitsBy, sent_quits, quits_so}
 use Rattle.run_cause_laws.proofs.QuietTreeLemmas.{IsQuiet, all_numbered, no_changes}

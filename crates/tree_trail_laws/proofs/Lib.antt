@@ -56,5 +56,9 @@ pub mod OwnAfterLemmas
 pub mod OwnFollowLemmas
 pub mod SeenRunLemmas
 pub mod NoSiteLemmas
+pub mod LeftStepLemmas
+pub mod LeftRecordLemmas
+pub mod LeftExitLemmas
+pub mod LeftLemmas
 mod TriedTrailLemmas
 mod TriedOwnsLemmas

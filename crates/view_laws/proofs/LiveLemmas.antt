@@ -29,7 +29,7 @@ use Rattle.tree_trail_laws.proofs.TopBackLemmas.{Back}
 use Rattle.tree_trail_laws.proofs.TopBirthLemmas.{IsBorn}
 use Rattle.tree_trail_laws.proofs.TopFollowLemmas.{tops_at}
 use Rattle.tree_trail_laws.proofs.TopTurnLemmas.{Tops}
-use Rattle.run_cause_laws.proofs.LeftLemmas.{IsToldLeft, left_are_told}
+use Rattle.tree_trail_laws.proofs.LeftLemmas.{IsToldLeft, left_are_told}
 use Rattle.view_laws.specs.BranchRows.{OpenColumns, is_collecting, pending_collecting, pending_seen}
 
 -- the open columns of a live branch, as its node keeps them

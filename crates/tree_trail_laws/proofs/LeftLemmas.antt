@@ -42,9 +42,9 @@ use Rattle.tree_trail_laws.specs.LowerLaws.{IsTracedLive}
 use Rattle.tree_trail_laws.proofs.FullLemmas.{Sees, SeesAll}
 use Rattle.tree_trail_laws.proofs.MomentLemmas.{tr_at, trail_one_on, at_moment}
 use Rattle.tree_trail_laws.proofs.SeenLemmas.{item_mapped, planned, brings, turned, seen_turned}
-use Rattle.run_cause_laws.proofs.LeftExitLemmas.{whole_left, exit_or, stopped_me, stopped_left, stopped_there, none_among, kind_so, abort_so}
-use Rattle.run_cause_laws.proofs.LeftStepLemmas.{Why, By_record, By_quiet, By_abort, By_rollback, By_parent, By_ask, why_on}
-use Rattle.run_cause_laws.proofs.LeftRecordLemmas.{wrote_exit, exit_live}
+use Rattle.tree_trail_laws.proofs.LeftExitLemmas.{whole_left, exit_or, stopped_me, stopped_left, stopped_there, none_among, kind_so, abort_so}
+use Rattle.tree_trail_laws.proofs.LeftStepLemmas.{Why, By_record, By_quiet, By_abort, By_rollback, By_parent, By_ask, why_on}
+use Rattle.tree_trail_laws.proofs.LeftRecordLemmas.{wrote_exit, exit_live}
 use Rattle.tree_laws.proofs.AtTurn.{at_turn}
 use Rattle.tree_trail_laws.proofs.AtTrail.{at_trail}
 
