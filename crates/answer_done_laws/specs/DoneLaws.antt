@@ -2,16 +2,10 @@
 -- (SQL Language Reference: CREATE TABLE, CREATE DATABASE LINK, CREATE SYNONYM; Database Administrator's Guide, "Managing
 -- Distributed Transactions": manually overriding in-doubt transactions, purging pending rows, DBMS_TRANSACTION, disabling
 -- and enabling RECO.)
-use Rattle.std.specs.Prelude.{◌≡◌, ℕ, ◌+◌, ◌==◌, ◌⊎◌, Bool, true, false, if◌then◌else◌, List, [], ◌∷◌, map, filter, find, IfSome, Option, Some, None, Ok}
+use Rattle.std.specs.Prelude.{◌≡◌, ℕ, ◌==◌, ◌⊎◌, Bool, true, false, if◌then◌else◌, List, [], ◌∷◌, map, filter, IfSome, Option, Some, None}
 use Rattle.std.specs.List.{list_any}
-use Rattle.node_rules.specs.Data.{Table, Link, Synonym, Stmt, Done, Answer, Refusal, BranchId, RedoRecord, KeptRow, Place}
+use Rattle.node_rules.specs.Data.{Stmt, Done, Answer, Refusal, RedoRecord, Place}
 use Rattle.node_rules.specs.Data.answers
-use Rattle.node_rules.specs.Data.decisions
-use Rattle.node_rules.specs.Data.dones
-use Rattle.node_rules.specs.Data.params
-use Rattle.node_rules.specs.Data.records
-use Rattle.node_rules.specs.Data.stmts
-use Rattle.node_rules.specs.Force.{branch_to_force, may_purge}
 use Rattle.node_rules.specs.Inputs.{IsCall}
 use Rattle.node_rules.specs.NodeState.{NodeState, TurnOutput}
 use Rattle.run_rules.specs.Data.{Finished, Turn, Happening}

@@ -50,7 +50,6 @@ use Rattle.run_base_laws.proofs.RootLemmas.{SessionsFit}
 use Rattle.run_base_laws.proofs.SaidPostLemmas.{unborn_silent}
 use Rattle.run_base_laws.proofs.StoredLemmas.{records_are_kept}
 use Rattle.tree_laws.proofs.PrefixLemmas.{f_at}
-use Rattle.tree_laws.proofs.TimeLemmas.{part_on}
 use Rattle.tree_trail_laws.proofs.CallLemmas.{call_free}
 use Rattle.answer_origin_laws.proofs.CatalogLemmas.{extends_same, catalog, catalog_on}
 use Rattle.answer_origin_laws.proofs.GivenLemmas.{GivenLast, CalledLast, last_soon, still_known}

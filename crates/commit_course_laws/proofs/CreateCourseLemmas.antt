@@ -14,7 +14,7 @@ use Rattle.node_rules.specs.Turn.{turn_of}
 use Rattle.net_bag.specs.Net.{first_flying}
 use Rattle.run_rules.specs.Calls.{is_call_at, call_at, is_complete}
 use Rattle.run_rules.specs.Commands.{commits_first}
-use Rattle.run_rules.specs.Data.{Command, Happening, Turn}
+use Rattle.run_rules.specs.Data.{Happening, Turn}
 use Rattle.run_rules.specs.Data.commands
 use Rattle.run_rules.specs.Data.happenings
 use Rattle.run_rules.specs.Due.{due_of, IsTheRun}

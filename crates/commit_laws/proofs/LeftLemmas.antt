@@ -38,7 +38,7 @@ use Rattle.tree_laws.proofs.WhyLemmas.{WroteWhy, why_on}
 use Rattle.tree_laws.specs.LeaveLaws.{LeftSo}
 use Rattle.tree_laws.proofs.FateLemmas.{drops_alone}
 use Rattle.tree_laws.proofs.LeaveLemmas.{messages_exit, all_quiet, wrote_quiet, was_there}
-use Rattle.tree_laws.proofs.TimeLemmas.{Part, part_on, exit_on, born_end, keep_on}
+use Rattle.tree_laws.proofs.TimeLemmas.{Part, exit_on, born_end, keep_on}
 use Rattle.commit_laws.specs.DeliveryLaws.{is_answer}
 use Rattle.commit_laws.specs.WaitLaws.{NodeHasStopped, LeftHaveAnswered}
 use Rattle.commit_laws.proofs.ListLemmas.{all_at}

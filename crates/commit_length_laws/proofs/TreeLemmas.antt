@@ -1,8 +1,7 @@
 -- The branches of the transaction of a COMMIT: who is one by the messages of its course, and what nodes keep of them. The message that a
 -- delivery takes.
-use Rattle.std.proofs.Common.{◌≡◌, ℕ, ◌<◌, ◌&&◌, ◌||◌, Bool, true, false, cond, List, [], ◌∷◌, ◌++◌, map, filter, Option, Some, None, inl, inr, refl, sym, ap, subst, ◌∙◌}
+use Rattle.std.proofs.Common.{◌≡◌, ℕ, ◌<◌, ◌&&◌, ◌||◌, Bool, true, false, List, [], ◌∷◌, ◌++◌, Option, Some, None, inl, inr, refl, sym, ap, subst, ◌∙◌}
 use Rattle.std.specs.List.{AllByRecursion}
-use Rattle.tran_ids.proofs.BranchLemmas.{same_from_equal}
 use Rattle.tran_ids.proofs.ListedLemmas.{item_is}
 use Rattle.node_rules.specs.Data.{BranchId, Input, Kind, Live, Msg, KeptRow}
 use Rattle.node_rules.specs.Data.inputs
@@ -10,9 +9,8 @@ use Rattle.node_rules.specs.Data.kinds
 use Rattle.node_rules.specs.Words.{same}
 use Rattle.node_rules.specs.NodeState.{NodeState, live_id, live_at, kept_row_id, kept_row_at}
 use Rattle.net_bag.specs.Net.{packet_at}
-use Rattle.run_rules.specs.Births.{Born, births_of, born_id, born_at}
+use Rattle.run_rules.specs.Births.{Born, births_of}
 use Rattle.run_base_laws.specs.BirthLaws.{Began, GoesSo, IsChild, AreNeighbors, LiveIs, KeptIs}
-use Rattle.run_rules.specs.Branches.{is_among}
 use Rattle.run_rules.specs.Data.{Packet, Took, Happening}
 use Rattle.run_rules.specs.Data.fates
 use Rattle.run_rules.specs.Facts.{Facts, node_at}
@@ -24,7 +22,7 @@ use Rattle.tree_laws.specs.Forests.{forest_of}
 use Rattle.tree_laws.proofs.ForestLemmas as trees
 use Rattle.tree_laws.proofs.ForestRunLemmas.{run_known, runs_have_forests}
 use Rattle.tree_laws.proofs.TimeLemmas.{born_end}
-use Rattle.run_claims.specs.Undisturbed.{Commit, branches_in}
+use Rattle.run_claims.specs.Undisturbed.{Commit}
 use Rattle.tree_laws.proofs.FitRowLemmas.{RowFits, rows_fit}
 use Rattle.commit_length_laws.proofs.SayLemmas.{in_course}
 use Rattle.tree_laws.proofs.AtTurn.{at_happening}

@@ -35,7 +35,7 @@ use Rattle.run_branch_laws.proofs.PhaseLemmas.{phases_fit}
 use Rattle.tree_laws.specs.AskLaws.{way_of}
 use Rattle.tree_laws.proofs.AskRunLemmas.{sent_from, collects_as_told}
 use Rattle.tree_laws.proofs.PrefixLemmas.{so_far, f_at, e_at, one_on}
-use Rattle.tree_laws.proofs.TimeLemmas.{part_on, part_lawful, exit_end, born_end}
+use Rattle.tree_laws.proofs.TimeLemmas.{part_lawful, exit_end, born_end}
 use Rattle.commit_laws.specs.DeliveryLaws.{CameInTurn}
 use Rattle.commit_laws.proofs.CameLemmas.{deliveries_came}
 use Rattle.commit_point_laws.specs.PointLaws.{is_point, IsNotLive, PointsAreHeard}

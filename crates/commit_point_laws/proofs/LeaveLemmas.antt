@@ -30,7 +30,7 @@ use Rattle.tree_laws.specs.LeaveLaws.{LeftSo}
 use Rattle.tree_laws.proofs.FateLemmas.{drops_alone}
 use Rattle.tree_laws.proofs.FrozenLemmas.{path_down}
 use Rattle.tree_laws.proofs.LeaveLemmas.{was_there}
-use Rattle.tree_laws.proofs.TimeLemmas.{Part, part_on, part_of, part_lawful, may_of, each_at}
+use Rattle.tree_laws.proofs.TimeLemmas.{Part, part_of, part_lawful, may_of, each_at}
 use Rattle.commit_point_laws.specs.PointLaws.{QuietTellNone}
 use Rattle.commit_point_laws.proofs.MomentLemmas.{LeftThen, left_then, none_at_first}
 use Rattle.commit_point_laws.proofs.PassLemmas.{told_kid}

@@ -27,7 +27,7 @@ use Rattle.node_rules.specs.NodeState.{live_id}
 use Rattle.tree_laws.specs.LeaveLaws.{LeftSo}
 use Rattle.tree_laws.proofs.FateLemmas.{drops_alone}
 use Rattle.tree_laws.proofs.LeaveLemmas.{was_there}
-use Rattle.tree_laws.proofs.TimeLemmas.{part_on, sent_end}
+use Rattle.tree_laws.proofs.TimeLemmas.{sent_end}
 use Rattle.commit_laws.specs.WaitLaws.{NodeHasStopped}
 use Rattle.commit_laws.proofs.ReadyStepLemmas.{one_sent}
 use Rattle.commit_laws.proofs.StopLemmas.{cut_stops, stopped_end}

@@ -35,7 +35,7 @@ use Rattle.tree_laws.proofs.AnswerRunLemmas.{lives_heard}
 use Rattle.tree_laws.proofs.FoundLemmas.{lives_found}
 use Rattle.tree_laws.proofs.PrefixLemmas.{so_far, f_at, e_at, one_on, more_on}
 use Rattle.tree_laws.proofs.FateLemmas.{node_back, drops_alone}
-use Rattle.tree_laws.proofs.TimeLemmas.{Part, part_on, part_lawful, may_of, exit_on, born_end, keep_on}
+use Rattle.tree_laws.proofs.TimeLemmas.{Part, part_lawful, may_of, exit_on, born_end, keep_on}
 use Rattle.commit_spread_laws.specs.GotLaws.{GotPrepare, CollectorsGotPrepare, LeaversGotPrepare}
 use Rattle.commit_spread_laws.proofs.GotLeaveLemmas.{WasThere, left_was}
 use Rattle.commit_spread_laws.proofs.GotStepLemmas.{PrepareCame, Got, AllGot, OfRoots, first_got, got_on}

@@ -34,7 +34,7 @@ use Rattle.run_base_laws.proofs.SaidLemmas.{came_said}
 use Rattle.tree_laws.specs.Forests.{forest_of}
 use Rattle.tree_laws.proofs.AckForestLemmas.{gone_before}
 use Rattle.tree_laws.proofs.PrefixLemmas.{so_far, e_at, more_on}
-use Rattle.tree_laws.proofs.TimeLemmas.{Part, part_on, part_lawful, may_of, exit_end}
+use Rattle.tree_laws.proofs.TimeLemmas.{Part, part_lawful, may_of, exit_end}
 use Rattle.commit_laws.specs.DeliveryLaws.{CameInTurn}
 use Rattle.commit_laws.specs.WaitLaws.{NodeHasStopped}
 use Rattle.commit_laws.proofs.CameLemmas.{deliveries_came}

@@ -16,7 +16,7 @@ use Rattle.run_rules.proofs.ListLemmas.{all_weaker}
 use Rattle.run_base_laws.proofs.NodesStandLemmas.{some_or_none}
 use Rattle.run_base_laws.proofs.SaidLemmas.{sent_after}
 use Rattle.tree_laws.proofs.PrefixLemmas.{f_at, one_on, more_on}
-use Rattle.tree_laws.proofs.TimeLemmas.{part_on, exit_on, keep_on}
+use Rattle.tree_laws.proofs.TimeLemmas.{exit_on, keep_on}
 use Rattle.commit_laws.specs.StillLaws.{DroppedNone, AbortsNone}
 use Rattle.run_claims.specs.Undisturbed.{Commit, Undisturbed}
 use Rattle.commit_laws.specs.WaitLaws.{NodeHasStopped}

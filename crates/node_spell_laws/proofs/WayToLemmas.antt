@@ -19,7 +19,7 @@ use Rattle.node_rules.specs.LiveBranches.{EachLive}
 use Rattle.node_rules.specs.Client.{begun_by}
 use Rattle.node_rules.specs.Turn.{heard, turn_of}
 use Rattle.node_rules.proofs.Steps as steps
-use Rattle.node_rules.proofs.Steps.{Step, Acting, Collected, Pointed}
+use Rattle.node_rules.proofs.Steps.{Step, Acting}
 use Rattle.node_rules.proofs.StepLemmas.{acting_so, made_so}
 use Rattle.node_rules.proofs.LiveLemmas.{each_begun}
 use Rattle.node_rules.proofs.TurnLemmas.{step_of}

@@ -25,7 +25,7 @@ use Rattle.node_rules.specs.Commit.{acked_by}
 use Rattle.node_rules.specs.Client.{new_root, begun_by}
 use Rattle.node_rules.specs.Turn.{start_of}
 use Rattle.node_rules.proofs.Steps as steps
-use Rattle.node_rules.proofs.Steps.{Step, Makes}
+use Rattle.node_rules.proofs.Steps.{Step}
 use Rattle.node_rules.proofs.StandLemmas.{live_so}
 use Rattle.run_rules.specs.Lawful.{boots}
 use Rattle.run_base_laws.specs.NodeLaws.{IdsAreFresh}

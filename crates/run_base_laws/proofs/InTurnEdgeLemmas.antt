@@ -10,7 +10,6 @@ use Rattle.node_rules.specs.Words.{numbered}
 use Rattle.node_rules.specs.NodeState.{NodeState, Branch}
 use Rattle.node_rules.specs.Calls.{with_edge, hears_reply}
 use Rattle.node_rules.proofs.Steps as steps
-use Rattle.node_rules.proofs.Steps.{Step, Asked, Acting, Says}
 use Rattle.run_rules.specs.Births.{Born}
 use Rattle.run_base_laws.specs.InTurnLaws.{newest_exec, newest_reply, WaitsFor, call_at}
 use Rattle.run_rules.proofs.AtNodeLemmas.{range_of}
@@ -18,7 +17,7 @@ use Rattle.node_rules.specs.LiveBranches.{EachLive}
 use Rattle.run_base_laws.proofs.NeighborLemmas.{reply_is}
 use Rattle.run_base_laws.proofs.CallTurnLemmas.{Free}
 use Rattle.run_base_laws.proofs.InTurnLemmas as turns
-use Rattle.run_base_laws.proofs.InTurnLemmas.{IsDumb, dumb_decisions, dumb_silent, peer, numbered_map, map_set, map_last, length_peers, numbered_before, numbered_last, numbered_split, calls_before, reply_for, one_waits, opened_none}
+use Rattle.run_base_laws.proofs.InTurnLemmas.{peer, numbered_map, map_set, map_last, length_peers, numbered_before, numbered_last, numbered_split, calls_before, reply_for, one_waits, opened_none}
 
 -- one that waits has a statement
 waits_some : (i : ℕ) (o : Option Going) → WaitsFor i o → (g : Going) × (o ≡ Some g)

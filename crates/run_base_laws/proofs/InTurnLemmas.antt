@@ -19,7 +19,7 @@ use Rattle.node_rules.specs.NodeState.{NodeState, Branch, TurnDraft, live_id, wo
 use Rattle.session_tree.specs.Tree.{room}
 use Rattle.node_rules.specs.Calls.{reply_fields, kept_reply, with_answer, answer_says, advice_of, next_call, called, exec_to, reply_edge, reply_waits, reply_going, reply_of}
 use Rattle.node_rules.proofs.Steps as steps
-use Rattle.node_rules.proofs.Steps.{Step, Asked, Acting, Says}
+use Rattle.node_rules.proofs.Steps.{Asked}
 use Rattle.node_rules.proofs.StandLemmas.{live_so}
 use Rattle.run_base_laws.specs.InTurnLaws.{exec_number, reply_number, newest_exec, newest_reply, WaitsFor, call_at}
 use Rattle.node_rules.specs.LiveBranches.{EachLive}

@@ -43,7 +43,6 @@ use Rattle.run_base_laws.proofs.RestRunLemmas.{NodeRests, heard_rests, free_by, 
 use Rattle.run_base_laws.proofs.CodeLemmas.{AllNeed, codes_on}
 use Rattle.run_base_laws.proofs.CallTurnLemmas.{Silent, Answered, InTurn, stays_in_turn, in_turn_goes}
 use Rattle.run_base_laws.proofs.InTurnLemmas as turns
-use Rattle.run_base_laws.proofs.InTurnLemmas.{peer}
 use Rattle.run_base_laws.proofs.KidLemmas.{edge_of, parent_in, parent_of, child_edge, child_parent, kids_of, above_of, child_of}
 use Rattle.run_base_laws.proofs.InTurnStepLemmas.{NewBorn, Granted, turns_on}
 use Rattle.run_base_laws.proofs.SaidPostLemmas.{posts_back, posts_of, said_after, execs_are_low, replies_are_low, unborn_silent}

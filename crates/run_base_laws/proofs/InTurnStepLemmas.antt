@@ -43,7 +43,7 @@ use Rattle.run_base_laws.proofs.KindSayLemmas.{AllSay, one_says, each_says, prep
 use Rattle.run_base_laws.proofs.CallTurnLemmas.{Silent, silent_none, one_exec, one_reply, if_zero, silent_other, silent_kind, answered_more, again_in_turn, opens_in_turn, gives_up_in_turn}
 use Rattle.run_base_laws.proofs.InTurnLemmas as turns
 use Rattle.run_base_laws.proofs.InTurnEdgeLemmas.{opened_free, opened_first, heard_free}
-use Rattle.run_base_laws.proofs.InTurnLemmas.{IsDumb, dumb_decisions, dumb_silent, peer, numbered_map, map_set, map_last, length_peers, numbered_before, numbered_last, numbered_split, calls_before, reply_for, one_waits, opened_none}
+use Rattle.run_base_laws.proofs.InTurnLemmas.{IsDumb, dumb_decisions, dumb_silent, peer}
 
 -- a gone branch is not live
 gone_by : (k : NodeState) (b : BranchId) (o : Option Live) → live_at k b ≡ o → live_or (with_work k o) (kept_row_at k b) ≡ Is_gone → o ≡ None

@@ -26,7 +26,7 @@ use Rattle.reco.specs.declared.told.Told.TheVariants as tolds
 use Rattle.node_rules.specs.Recovery.{told_by, told_kind, Asking, asking_id, asks_live, asks_kept, acks_again, recovers, askings, tells, ask_answer}
 use Rattle.node_rules.specs.Inputs.{Came}
 use Rattle.node_rules.proofs.Steps as steps
-use Rattle.node_rules.proofs.Steps.{Step, Says, Doing, IsKept}
+use Rattle.node_rules.proofs.Steps.{Step, Says}
 use Rattle.run_base_laws.specs.RunEvents.{with_event, wrote_event}
 use Rattle.run_base_laws.specs.EventRows.{RowIs, RowsAre, IsKnown, MaySayByEvents}
 use Rattle.run_rules.proofs.ListLemmas.{all_weaker, all_append, all_map, all_each, all_put}

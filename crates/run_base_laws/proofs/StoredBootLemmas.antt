@@ -1,19 +1,14 @@
 -- What a node stores of its starts is how often it was started.
-use Rattle.std.proofs.Common.{◌≡◌, ℕ, ◌+◌, List, [], ◌∷◌, ◌++◌, Option, Some, None, refl, sym, ap, ◌∙◌, append-nil, arith}
+use Rattle.std.proofs.Common.{◌≡◌, ℕ, ◌+◌, List, ◌++◌, Option, Some, None, refl, sym, ap, ◌∙◌}
 use Rattle.std.specs.Prelude.{IfSome}
 use Rattle.std.specs.Option.{option_to_list}
 use Rattle.redo_record.specs.Durable.{durable_after}
-use Rattle.node_rules.specs.Data.{RedoRecord, Place, Input}
+use Rattle.node_rules.specs.Data.{RedoRecord}
 use Rattle.node_rules.specs.Data.params
 use Rattle.node_rules.specs.Data.records
-use Rattle.node_rules.specs.Data.acts
-use Rattle.commit_forget.specs.declared.next.Next.TheVariants as nexts
-use Rattle.node_rules.specs.NodeState.{NodeState, Stored, TurnDraft}
+use Rattle.node_rules.specs.NodeState.{Stored}
 use Rattle.node_rules.specs.Records.{applied, nothing_stored, stored_by}
-use Rattle.node_rules.proofs.Steps as steps
-use Rattle.node_rules.proofs.Steps.{Step}
 use Rattle.run_rules.specs.Lawful.{boots}
-use Rattle.node_rules.proofs.StepLemmas.{made_so}
 use Rattle.run_base_laws.proofs.StoredLemmas.{stored_with}
 use Rattle.run_rules.proofs.BootLemmas.{IsOfTurn, boots_last, boots_with}
 

@@ -42,7 +42,7 @@ use Rattle.run_base_laws.proofs.SaidPostLemmas.{posts_back, posts_of, said_after
 use Rattle.run_base_laws.proofs.KidLemmas.{edge_of, parent_in, parent_of, child_parent, above_of}
 use Rattle.run_base_laws.proofs.InTurnLemmas as turns
 use Rattle.run_base_laws.proofs.InTurnRunLemmas as calls
-use Rattle.run_base_laws.proofs.InTurnRunLemmas.{CallsStand, CallsOf, heard_calls, each_both, calls_stand_on, first_calls, run_calls, branch_calls}
+use Rattle.run_base_laws.proofs.InTurnRunLemmas.{CallsStand, CallsOf, heard_calls, each_both, calls_stand_on, first_calls, branch_calls}
 use Rattle.run_branch_laws.specs.WalkLaws.{OneWay, WalksAreOne}
 use Rattle.run_branch_laws.proofs.FreezeLemmas.{AskedAnswered, Frozen, stays_frozen}
 use Rattle.run_branch_laws.proofs.FreezeStepLemmas.{Ice, Prepared, Unasking, Freezes, freezes_on}

@@ -27,7 +27,7 @@ use Rattle.node_rules.specs.Prepare.{path_of, prepares, site_neighbors, with_pre
 use Rattle.node_rules.specs.Commit.{beyond}
 use Rattle.node_rules.specs.Recovery.{kept_told}
 use Rattle.node_rules.proofs.Steps as steps
-use Rattle.node_rules.proofs.Steps.{Step, Asked, Acting, Collects, Collected, Says}
+use Rattle.node_rules.proofs.Steps.{Step, Asked, Acting, Collects, Says}
 use Rattle.node_rules.proofs.StandLemmas.{live_so}
 use Rattle.run_rules.specs.Births.{Born}
 use Rattle.run_base_laws.specs.InTurnLaws.{newest_exec, newest_reply, call_at}

@@ -27,7 +27,7 @@ use Rattle.node_rules.specs.Calls.{with_edge, hears_reply}
 use Rattle.node_rules.specs.Prepare.{sealed_record, decided_record, with_prepare_sent, ready, voted, has_voted, is_awaited, answers_first}
 use Rattle.node_rules.specs.Commit.{acked_by}
 use Rattle.node_rules.proofs.Steps as steps
-use Rattle.node_rules.proofs.Steps.{Step, IsKept, Asked, Answers, Acting, vote_kind}
+use Rattle.node_rules.proofs.Steps.{Step, Asked, Answers, Acting, vote_kind}
 use Rattle.node_rules.proofs.StandLemmas.{live_so}
 use Rattle.run_branch_laws.specs.HeardLaws.{VoteIs, EdgeIs, AnswersAre, AcksAre}
 use Rattle.run_rules.proofs.ListLemmas.{all_weaker, all_filter, all_append, all_map, all_each, all_put}

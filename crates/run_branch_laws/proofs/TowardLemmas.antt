@@ -20,7 +20,7 @@ use Rattle.node_rules.specs.NodeState.{NodeState, TurnDraft, kept_row_id}
 use Rattle.node_rules.specs.Commit.{acked_by}
 use Rattle.node_rules.specs.Turn.{heard, draft_of}
 use Rattle.node_rules.proofs.Steps as steps
-use Rattle.node_rules.proofs.Steps.{Step, Doing, IsKept}
+use Rattle.node_rules.proofs.Steps.{Step, Doing}
 use Rattle.run_rules.specs.Data.{Turn, Happening, Command}
 use Rattle.run_rules.specs.Data.happenings
 use Rattle.run_rules.specs.Facts.{Facts, first_facts, place_at}

@@ -20,7 +20,7 @@ use Rattle.node_rules.specs.Records.{applied, with_record}
 use Rattle.node_rules.specs.Prepare.{sealed_of, own_changes}
 use Rattle.node_rules.specs.Statement.{ran, ground_of, owns_after, view}
 use Rattle.node_rules.proofs.Steps as steps
-use Rattle.node_rules.proofs.Steps.{Step, IsOfRows, IsKept, Collects, By_commit, By_prepare, Acting, Asks_down, Has_no_children, Hears_abort, Waits_on, Hears_last, At_point, Drops, By_rollback, By_parent, Doing, Ends_so}
+use Rattle.node_rules.proofs.Steps.{Step, IsOfRows, Collects, By_commit, By_prepare, Acting, Asks_down, Has_no_children, Hears_abort, Waits_on, Hears_last, At_point, Drops, By_rollback, By_parent, Doing, Ends_so}
 use Rattle.node_rules.proofs.StandLemmas.{live_so}
 use Rattle.run_key_laws.specs.ChangedLaws.{ChangesAreOfLives}
 use Rattle.run_key_laws.specs.KeyLaws.{KeysHeld}

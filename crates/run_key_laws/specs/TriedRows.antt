@@ -1,12 +1,11 @@
 -- The tried run once more, as to what its nodes keep of rows: both nodes end with the row that the book tells; the root at A
 -- holds its key before the COMMIT, and the branch at B holds its own in doubt once it sealed.
-use Rattle.std.specs.Prelude.{◌≡◌, ℕ, Bool, true, false, List, [], ◌∷◌, codes, take, Option, Some, None}
-use Rattle.node_rules.specs.Data.{Keyed, RedoRecord}
+use Rattle.std.specs.Prelude.{◌≡◌, ℕ, true, List, [], ◌∷◌, codes, take, Option, Some, None}
+use Rattle.node_rules.specs.Data.{Keyed}
 use Rattle.row_locks.specs.Locks.{Lock}
 use Rattle.node_rules.specs.Rows.{rows_of_table}
 use Rattle.node_rules.specs.NodeState.{NodeState}
 use Rattle.node_rules.specs.Records.{nothing_stored, stored_by}
-use Rattle.run_rules.specs.Data.{Happening}
 use Rattle.run_rules.specs.Entries.{book_of}
 use Rattle.run_rules.specs.Book.{rows_by_book}
 use Rattle.run_rules.specs.Facts.{Facts, first_facts, node_at, records_at, facts_of}

@@ -26,7 +26,7 @@ use Rattle.node_rules.specs.Prepare.{abandoned_sessions, ready, is_alone, act_tu
 use Rattle.node_rules.specs.Commit.{decided_sessions}
 use Rattle.node_rules.specs.Client.{begun_by, new_root, fresh_root}
 use Rattle.node_rules.proofs.Steps as steps
-use Rattle.node_rules.proofs.Steps.{Step, Asked, Acting}
+use Rattle.node_rules.proofs.Steps.{Step, Acting}
 use Rattle.node_rules.proofs.StepLemmas.{branch_found, acting_so}
 use Rattle.run_base_laws.specs.CallLaws.{RootWaits}
 use Rattle.run_base_laws.proofs.RootLemmas.{SessionsFit, session_or_before, root_alone}

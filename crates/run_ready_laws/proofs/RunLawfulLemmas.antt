@@ -36,7 +36,7 @@ use Rattle.run_base_laws.proofs.EventsStandLemmas.{first_node}
 use Rattle.run_base_laws.proofs.RestRunLemmas.{RootsStand, roots_stand_on, first_rests}
 use Rattle.run_ready_laws.proofs.CallEndLemmas.{is_pending, pends_at, and_false, same_number}
 use Rattle.run_ready_laws.proofs.FlightLemmas.{FlyFree, flies_on, all_at}
-use Rattle.run_ready_laws.proofs.DueLemmas.{MakesNoCall, ComesBeside, IsDue, due_so}
+use Rattle.run_ready_laws.proofs.DueLemmas.{ComesBeside, IsDue, due_so}
 use Rattle.run_ready_laws.proofs.DueLemmas as due
 use Rattle.run_ready_laws.proofs.PendingLemmas.{IsOf, called_at, follows_at, there_called, found_so, at_parts}
 use Rattle.run_ready_laws.proofs.TurnCallLemmas.{made_by, AllLive, turn_leaves_so, all_live_on, first_live}

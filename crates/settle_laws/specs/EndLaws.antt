@@ -1,5 +1,5 @@
 -- Where it is so of all nodes, nothing flies any more, and each live root works, nothing is in doubt.
-use Rattle.std.specs.Prelude.{◌≡◌, ◌≢◌, ℕ, false, List, Some, None}
+use Rattle.std.specs.Prelude.{◌≡◌, ◌≢◌, ℕ, false, Some, None}
 use Rattle.std.specs.List.{AllByRecursion}
 use Rattle.node_rules.specs.Data.{BranchId}
 use Rattle.node_rules.specs.Data.phases

@@ -1,15 +1,15 @@
 -- A stretch of a run in which nothing is lost and no node stops, of whole turns by RECO and by first deliveries; and what is
 -- so of the branches of nodes that have recovered in it. (Database Administrator's Guide, "Distributed Transactions
 -- Concepts": automatic resolution of in-doubt transactions, the recoverer process RECO.)
-use Rattle.std.specs.Prelude.{◌≡◌, ◌≢◌, ℕ, ◌⊎◌, Bool, true, false, List, [], ◌∷◌, ◌++◌, length, Option, Some, None}
+use Rattle.std.specs.Prelude.{◌≡◌, ◌≢◌, ℕ, ◌⊎◌, Bool, true, false, List, [], ◌∷◌, ◌++◌, length, Some, None}
 use Rattle.std.specs.List.{AllByRecursion}
 use Rattle.commit_forget.specs.Beyond.{is_neighbor}
 use Rattle.net_bag.specs.Net.{lost_at_once}
-use Rattle.node_rules.specs.Data.{BranchId, Kind, Live, Msg, Place, KeptRow}
+use Rattle.node_rules.specs.Data.{BranchId, Kind, Live, Msg, KeptRow}
 use Rattle.node_rules.specs.Data.inputs
 use Rattle.node_rules.specs.Data.kinds
 use Rattle.node_rules.specs.NodeState.{NodeState, live_at, kept_row_at}
-use Rattle.run_rules.specs.Data.{Command, Happening, Packet, Took, Turn}
+use Rattle.run_rules.specs.Data.{Happening, Packet, Took, Turn}
 use Rattle.run_rules.specs.Data.happenings
 use Rattle.run_rules.specs.Facts.{Facts, first_facts, facts_of, node_at, taken}
 use Rattle.run_base_laws.specs.FreezeLaws.{was_asked}

@@ -1,6 +1,6 @@
 -- Who tells a rollback is live no more, and whom a row names off toward is beyond. (Database Administrator's Guide,
 -- "Distributed Transactions Concepts": commit phase.)
-use Rattle.std.specs.Prelude.{◌≡◌, ◌≢◌, ℕ, true, false, Bool, List, Some, None}
+use Rattle.std.specs.Prelude.{◌≡◌, ◌≢◌, ℕ, true, false, Bool, Some, None}
 use Rattle.std.specs.List.{AllByRecursion}
 use Rattle.commit_forget.specs.Beyond.{is_neighbor}
 use Rattle.session_tree.specs.Live.{is_branch}

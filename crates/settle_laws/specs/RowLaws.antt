@@ -1,6 +1,6 @@
 -- What each row of a node tells, whatever stops its node had: of the Acks that it holds, of Forgot, of its neighbours.
 -- (Database Administrator's Guide, "Distributed Transactions Concepts": commit phase and forget phase.)
-use Rattle.std.specs.Prelude.{◌≡◌, ℕ, ◌⊎◌, Bool, true, false, List, Some, None}
+use Rattle.std.specs.Prelude.{◌≡◌, ℕ, ◌⊎◌, true, false, List, Some, None}
 use Rattle.std.specs.List.{AllByRecursion}
 use Rattle.commit_forget.specs.Beyond.{beyond, all_acked, is_neighbor}
 use Rattle.commit_forget.specs.Next.{knows_commit}

@@ -44,7 +44,7 @@ use Rattle.tree_laws.proofs.RecordRunLemmas.{records_are_as_told}
 use Rattle.tree_laws.proofs.SettleRunLemmas.{known}
 use Rattle.tree_laws.specs.DecideLaws.{SeesTree}
 use Rattle.tree_laws.proofs.FindLemmas.{WasFound}
-use Rattle.tree_laws.proofs.TimeLemmas.{Part, part_lawful, part_on, may_of, fact_at, each_at, exit_end, born_end}
+use Rattle.tree_laws.proofs.TimeLemmas.{Part, part_lawful, may_of, fact_at, each_at, exit_end, born_end}
 use Rattle.tree_laws.proofs.WeighLemmas.{placed_of}
 use Rattle.tree_trail_laws.proofs.FullLemmas.{Sees, SeesAll, full}
 use Rattle.tree_trail_laws.proofs.MomentLemmas.{tr_at, trail_one_on, at_moment, by_moment}

@@ -48,7 +48,7 @@ use Rattle.tree_laws.specs.LeaveLaws.{Begins_by, LeftSo}
 use Rattle.tree_laws.proofs.CommitLemmas.{Ends_record, Commits_root, commit_changes, commit_writes}
 use Rattle.tree_laws.proofs.FateLemmas.{node_back, drops_alone}
 use Rattle.tree_laws.proofs.LeaveLemmas.{messages_exit, all_quiet, wrote_quiet, was_there}
-use Rattle.tree_laws.proofs.TimeLemmas.{part_on, may_of, fact_at, exit_end, born_end, keep_on}
+use Rattle.tree_laws.proofs.TimeLemmas.{may_of, fact_at, exit_end, born_end, keep_on}
 use Rattle.tree_laws.proofs.WorkLemmas.{Works, first_works, works_on}
 use Rattle.tree_laws.proofs.AtTurn.{at_happening}
 

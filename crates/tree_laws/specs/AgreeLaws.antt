@@ -1,14 +1,13 @@
 -- The turns of a lawful run do what the forest of its Prepares allows, and so the run agrees.
-use Rattle.std.specs.Prelude.{◌≡◌, ℕ, ◌<◌, List, [], Some, None}
-use Rattle.agreement.specs.Events.{Event, Decided, exit, forced, site_of}
-use Rattle.node_rules.specs.Data.{BranchId}
+use Rattle.std.specs.Prelude.{List, []}
+use Rattle.agreement.specs.Events.{Event}
 use Rattle.run_rules.specs.Data.{Happening}
 use Rattle.run_rules.specs.Data.happenings
 use Rattle.run_rules.specs.Entries.{book_of as trace_book}
 use Rattle.run_rules.specs.Book.{Agreement, MixedIsMarked, AboveSeals}
-use Rattle.run_rules.specs.Facts.{Facts, first_facts, node_at, facts_after, records_at}
-use Rattle.run_rules.specs.Lawful.{History, IsLawfulRun, facts_at}
-use Rattle.run_base_laws.specs.RunEvents.{events_of, lives_at, with_record}
+use Rattle.run_rules.specs.Facts.{Facts, first_facts, node_at, facts_after}
+use Rattle.run_rules.specs.Lawful.{History, IsLawfulRun}
+use Rattle.run_base_laws.specs.RunEvents.{lives_at, with_record}
 use Rattle.run_base_laws.specs.EventLaws.{AtEachEvent}
 use Rattle.run_branch_laws.specs.TreeJust.{TreeLeaves, GoByTree}
 use Rattle.tree_laws.specs.Forests.{forest_of}

@@ -38,7 +38,7 @@ use Rattle.run_base_laws.proofs.OwnLemmas.{all_found}
 use Rattle.run_base_laws.proofs.SaidPostLemmas.{said_after}
 use Rattle.run_base_laws.proofs.TurnEventLemmas.{number_is}
 use Rattle.tree_laws.proofs.PrefixLemmas.{so_far, f_at, one_on}
-use Rattle.tree_laws.proofs.TimeLemmas.{part_on, may_of, born_end}
+use Rattle.tree_laws.proofs.TimeLemmas.{may_of, born_end}
 use Rattle.tree_trail_laws.specs.ChildLaws.{IsTracedOf}
 use Rattle.tree_trail_laws.proofs.CallLemmas.{call_free}
 use Rattle.tree_trail_laws.proofs.ChildStepLemmas.{called_by, stamped_calls, still_calls, NotThere, Same, Grows, IsOpened, Grown, NewChild, grows_on}
