@@ -1,5 +1,5 @@
 //! In which row of the picture each happening stands.
-ghost use Rattle.std.specs.Prelude.{◌≡◌, ◌+◌, ◌≤◌, max, length, IfOk};
+ghost use Rattle.std.specs.Prelude.{◌≡◌, ◌+◌, ◌≤◌, ◌^◌, max, length, IfOk, OnErr};
 ghost use Rattle.std.specs.Option.{option_copied};
 ghost use Rattle.tran_ids.specs.Listed.{numbered};
 ghost use Rattle.chart_marks.specs.Rows.{height_of, height_at, start, free_row, row_of, begun, next_row, cursor_after, rows_of};
@@ -19,7 +19,8 @@ pub(crate) struct Cursor {
 
 /// A row so much further down. It is an error where the picture would have too many rows.
 pub(crate) fn below(row: u32, count: u32) -> Result<u32, AllocError>
-    ensures { IfOk result (λ below. below ≡ row + count) }
+    ensures below { IfOk result (λ below. below ≡ row + count) }
+    ensures many { OnErr result (2 ^ 32 ≤ row + count) }
 {
     match row.checked_add(count) {
         Some(below) => Ok(below),
@@ -29,7 +30,8 @@ pub(crate) fn below(row: u32, count: u32) -> Result<u32, AllocError>
 
 /// A number of lines. It is an error where there are too many.
 pub(crate) fn count(lines: usize) -> Result<u32, AllocError>
-    ensures { IfOk result (λ count. count ≡ lines) }
+    ensures count { IfOk result (λ count. count ≡ lines) }
+    ensures many { OnErr result (2 ^ 32 ≤ lines) }
 {
     match u32::try_from(lines) {
         Ok(count) => Ok(count),

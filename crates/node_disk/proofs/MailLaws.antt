@@ -1,9 +1,9 @@
 -- Messages that are short enough for their counts.
-use Rattle.std.proofs.Common.{◌≡◌, ◌≤◌, ℕ, true, List, [], ◌∷◌, ◌++◌, length, arith}
+use Rattle.std.proofs.Common.{◌≡◌, ◌<◌, ◌≤◌, ◌^◌, ◌||◌, not, ℕ, true, List, [], ◌∷◌, ◌++◌, length, refl, arith}
 use Rattle.std.specs.Prelude.{nat_lt}
 use Rattle.std.specs.List.{All, AllByRecursion, list_all}
 use Rattle.std.proofs.lemmas.Bool.{and_parts}
-use Rattle.std.proofs.lemmas.List.Elements.{All-nil, All-cons}
+use Rattle.std.proofs.lemmas.List.Elements.{All-nil, All-cons, All-head, All-tail}
 use Rattle.std.proofs.lemmas.Bool.Decides.{nat_tests}
 use Rattle.dtx_values.specs.declared.row.Row.{Row}
 use Rattle.field_codec.specs.Fits.{HasCount}
@@ -22,11 +22,27 @@ each_text (t ∷ ts) all short =
 pub texts_so : (texts : List (List ℕ)) → AllByRecursion IsUtf8 texts → length texts ≤ 4294967295 → list_all (λ text. nat_lt (length text) 65536) texts ≡ true → texts_format.Fits texts
 texts_so texts all few short = (omega (arith, few), each_text texts all short)
 
+-- texts that fit are few and short
+each_short : (texts : List (List ℕ)) → AllByRecursion utf8_format.Fits texts → list_all (λ text. nat_lt (length text) 65536) texts ≡ true
+each_short [] all = refl
+each_short (t ∷ ts) all = grind (arith, nat_tests, all.0.0, each_short ts all.1)
+
+pub texts_not : (texts : List (List ℕ)) → (nat_lt 4294967295 (length texts) || not (list_all (λ text. nat_lt (length text) 65536) texts)) ≡ true → texts_format.Fits texts → ⊥
+texts_not texts over fits = grind (arith, nat_tests, fits.0, each_short texts fits.1, over)
+
 pub rows_so : (rows : List Row) → list_all (λ row. nat_lt (length row.cells) 256) rows ≡ true → All HasCount rows
 rows_so [] narrow = All-nil HasCount
 rows_so (r ∷ rs) narrow =
     let parts = and_parts (nat_lt (length r.cells) 256) (list_all (λ row. nat_lt (length row.cells) 256) rs) narrow in
     All-cons HasCount r rs (grind (arith, nat_tests, parts.0)) (rows_so rs parts.1)
+
+-- rows that fit are narrow
+each_narrow : (rows : List Row) → All HasCount rows → list_all (λ row. nat_lt (length row.cells) 256) rows ≡ true
+each_narrow [] all = refl
+each_narrow (r ∷ rs) all = grind (arith, nat_tests, All-head HasCount r rs all, each_narrow rs (All-tail HasCount r rs all))
+
+pub rows_not : (rows : List Row) → (nat_lt 4294967295 (length rows) || not (list_all (λ row. nat_lt (length row.cells) 256) rows)) ≡ true → length rows < 2 ^ 32 → All HasCount rows → ⊥
+rows_not rows over few narrow = grind (arith, nat_tests, few, each_narrow rows narrow, over)
 
 pub mailed_last : (sent : List Mailed) (mail : Mailed) → AllByRecursion IsMailed sent → IsMailed mail → AllByRecursion IsMailed (sent ++ mail ∷ [])
 mailed_last [] mail all last = (last, tt)

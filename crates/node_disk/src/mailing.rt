@@ -1,6 +1,7 @@
 //! Messages with their bytes.
-ghost use Rattle.std.specs.Prelude.{◌≡◌, ◌<◌, ◌^◌, length, map, true, nat_lt, IfOk, OnOk};
+ghost use Rattle.std.specs.Prelude.{◌≡◌, ◌<◌, ◌^◌, length, map, nat_le, nat_lt, IfOk, OnErr, OnOk, ⊥};
 ghost use Rattle.std.specs.List.{All, AllByRecursion, list_all};
+ghost use Rattle.dtx_values.specs.declared.answer.Answer.TheVariants as answers;
 ghost use Rattle.field_codec.specs.Fits.{HasCount};
 ghost use Rattle.sql_print.specs.Printing.{printed, IsPrintable};
 ghost use Rattle.msg_codec.specs.Answer.{texts_format};
@@ -35,10 +36,11 @@ fn are_narrow(rows: &[Row]) -> bool
 }
 
 // Fails where there are too many texts, or one of them is too long.
-#[tactic(auto, using(crate::proofs::MailLaws::texts_so))]
+#[tactic(auto, using(crate::proofs::MailLaws::texts_so, crate::proofs::MailLaws::texts_not))]
 fn texts_fit(texts: &[Bytes]) -> Result<(), AllocError>
     requires { AllByRecursion IsUtf8 texts.now }
-    ensures { OnOk result (texts_format.Fits texts.now) }
+    ensures fits { OnOk result (texts_format.Fits texts.now) }
+    ensures many { OnErr result (texts_format.Fits texts.now → ⊥) }
 {
     if texts.len() > COUNT_LIMIT || !are_short(texts) {
         return Err(AllocError);
@@ -47,10 +49,11 @@ fn texts_fit(texts: &[Bytes]) -> Result<(), AllocError>
 }
 
 // Fails where there are too many rows, or one of them has too many cells.
-#[tactic(auto, using(crate::proofs::MailLaws::rows_so))]
+#[tactic(auto, using(crate::proofs::MailLaws::rows_so, crate::proofs::MailLaws::rows_not))]
 fn rows_fit(rows: &[Row]) -> Result<(), AllocError>
     ensures few { OnOk result (length rows.now < 2 ^ 32) }
     ensures narrow { OnOk result (All HasCount rows.now) }
+    ensures many { OnErr result (length rows.now < 2 ^ 32 → All HasCount rows.now → ⊥) }
 {
     if rows.len() > COUNT_LIMIT || !are_narrow(rows) {
         return Err(AllocError);
@@ -64,6 +67,7 @@ fn found_fits(found: &RowSet) -> Result<(), AllocError>
     ensures heads { OnOk result (texts_format.Fits found.now.heads) }
     ensures few { OnOk result (length found.now.rows < 2 ^ 32) }
     ensures narrow { OnOk result (All HasCount found.now.rows) }
+    ensures many { OnErr result (AnswerFits (answers.Found found.now) → ⊥) }
 {
     texts_fit(found.heads.as_slice())?;
     rows_fit(found.rows.as_slice())
@@ -72,7 +76,8 @@ fn found_fits(found: &RowSet) -> Result<(), AllocError>
 // Fails where the answer is too long for its counts.
 fn answer_fits(answer: &Answer) -> Result<(), AllocError>
     requires { AnswerMayBeMailed answer.now }
-    ensures { OnOk result (AnswerFits answer.now) }
+    ensures fits { OnOk result (AnswerFits answer.now) }
+    ensures many { OnErr result (AnswerFits answer.now → ⊥) }
 {
     match answer {
         Answer::Did(_, _) => Ok(()),
@@ -81,13 +86,20 @@ fn answer_fits(answer: &Answer) -> Result<(), AllocError>
     }
 }
 
+// Whether four bytes count the bytes of this text.
+fn is_counted(text: &[u8]) -> bool
+    ensures { result ≡ nat_le (length text.now) 4294967295 }
+{
+    text.len() <= COUNT_LIMIT
+}
+
 // Fails where four bytes do not count the bytes of the printed statement, or memory runs out.
 fn statement_fits(alloc: Global, statement: &Stmt) -> Result<(), AllocError>
     requires { IsPrintable statement.now }
     ensures { OnOk result ((statement_as printed).Fits statement.now) }
 {
     let text = print_stmt(alloc, statement)?;
-    if text.as_slice().len() > COUNT_LIMIT {
+    if !is_counted(text.as_slice()) {
         return Err(AllocError);
     }
     Ok(())

@@ -1,9 +1,9 @@
 //! The record of a turn is written.
-ghost use Rattle.std.specs.Prelude.{◌≡◌, List, Option, IfErr, IfOk, IfSome, OnOk, IsErrOf};
+ghost use Rattle.std.specs.Prelude.{◌≡◌, List, Option, IfErr, IfOk, IfSome, OnOk, OnErr, IsErrOf, ⊥};
 ghost use Rattle.block_disk.specs.Images.{AtEachMoment, IsOnly};
 ghost use Rattle.redo_log.specs.Runs.{IsUntouched};
 ghost use Rattle.redo_record.specs.declared.record.RedoRecord.{RedoRecord as RedoRecordBy};
-ghost use Rattle.node_spell_laws.specs.Record.{RecordHasBytes};
+ghost use Rattle.node_spell_laws.specs.Record.{HasFew, RecordHasBytes};
 ghost use Rattle.record_log.specs.Calls.{IsReadyLog};
 ghost use Rattle.record_log.specs.Held.{HoldRecords};
 ghost use Rattle.record_log.specs.Log.{disk_of};
@@ -58,6 +58,19 @@ pub(crate) fn unserved<D: Disk>(log: &RecordLog<D>) -> TurnErr
     TurnErr::NoMemory
 }
 
+// Fails where four bytes are too few to count the children or the changes of a record.
+fn counted(redo: &RedoRecord) -> Result<(), AppendErr>
+    ensures few { OnOk result (HasFew redo.now) }
+    ensures many { OnErr result (HasFew redo.now → ⊥) }
+    ensures why { IfErr result (λ err. err ≡ appends.NoMemory) }
+{
+    if has_few(redo) {
+        Ok(())
+    } else {
+        Err(AppendErr::NoMemory)
+    }
+}
+
 // Appends this record, where there is one. Where there is none, or four bytes are too few to count its children or its changes, the
 // disk is not called.
 #[tactic(auto, using(crate::proofs::WriteLaws::none_written, crate::proofs::WriteLaws::written_by, crate::proofs::TurnLaws::stand_still))]
@@ -83,13 +96,12 @@ fn append<D: Disk>(log: &mut RecordLog<D>, wrote: &Option<RedoRecord>) -> Result
             Ok(())
         }
         Some(redo) => {
-            if has_few(redo) {
-                record_fits(redo);
-                log.append(redo)
-            } else {
+            if let Err(err) = counted(redo) {
                 leave(log);
-                Err(AppendErr::NoMemory)
+                return Err(err);
             }
+            record_fits(redo);
+            log.append(redo)
         }
     }
 }

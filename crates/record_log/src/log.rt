@@ -1,8 +1,9 @@
 //! The log, and how a record is appended.
-ghost use Rattle.std.specs.Prelude.{◌≡◌, ◌<◌, ◌^◌, ◌↔◌, List, [], length, IfOk, IfErr, OnOk, IsErrOf, MatchResult};
+ghost use Rattle.std.specs.Prelude.{◌≡◌, ◌<◌, ◌^◌, ◌↔◌, List, [], length, nat_lt, IfOk, IfErr, OnOk, IsErrOf, MatchResult};
 ghost use Rattle.block_disk.specs.Images.{AtEachMoment, AddsNone, GoesOn, IsOnly};
 ghost use Rattle.block_disk.specs.Orders.{ordered};
 ghost use Rattle.redo_record.specs.declared.record.RedoRecord.{RedoRecord};
+ghost use Rattle.redo_log.specs.Cells.{body_limit};
 ghost use Rattle.redo_log.specs.Plans.{begin_calls};
 ghost use Rattle.redo_log.specs.Runs.{IsUntouched, MetFault, IsOnlyRead, HasGrown, LeavesByPlan};
 ghost use Rattle.redo_log.specs.Log.{disk_of as disk_of_bodies, MayBeBegun};
@@ -160,6 +161,13 @@ impl<D: Armable> RecordLog<D> {
     }
 }
 
+/// Whether a body is too long for a log.
+fn is_long(body: &[u8]) -> bool
+    ensures { result ≡ nat_lt body_limit (length body.now) }
+{
+    body.len() > MAX_BODY
+}
+
 /// The spelling of a record, where it is not too long for a log. Fails where it is, or where memory runs out.
 #[tactic(auto, using(crate::proofs::Held::is_spelled))]
 fn body_of(alloc: Global, redo: &RedoRecord) -> Result<Bytes, AllocError>
@@ -168,7 +176,7 @@ fn body_of(alloc: Global, redo: &RedoRecord) -> Result<Bytes, AllocError>
     ensures spelled { OnOk result (IsSpelled redo.now) }
 {
     let body = encode(alloc, redo)?;
-    if body.as_slice().len() > MAX_BODY {
+    if is_long(body.as_slice()) {
         return Err(AllocError);
     }
     Ok(body)

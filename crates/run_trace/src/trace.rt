@@ -1,5 +1,5 @@
 //! The trace of a run, which takes only what is due, and its book.
-ghost use Rattle.std.specs.Prelude.{◌≡◌, ◌<◌, ◌≤◌, ◌∷◌, ◌++◌, [], length, true, IfOk, OnOk, OnErr, vec_len, vec_capacity};
+ghost use Rattle.std.specs.Prelude.{◌≡◌, ◌<◌, ◌≤◌, ◌∷◌, ◌++◌, [], length, nat_lt, IfOk, OnOk, OnErr, vec_len, vec_capacity};
 ghost use Rattle.run_rules.specs.Entries.{entries_in, book_of};
 ghost use Rattle.run_rules.specs.Past.{next};
 ghost use Rattle.run_trace.specs.Recorded.{Extends, IsDueNext, IsRunOfScript, happening_limit, past_of};
@@ -59,7 +59,7 @@ fn entered(alloc: Global, happening: &Happening) -> Result<Vec<Entry>, AllocErro
 
 /// Whether a trace takes one happening more.
 fn has_room(happenings: &Vec<Happening>) -> bool
-    ensures { result ≡ true → length happenings.now.items < happening_limit }
+    ensures { result ≡ nat_lt (length happenings.now.items) happening_limit }
 {
     happenings.len() < HAPPENING_LIMIT
 }
