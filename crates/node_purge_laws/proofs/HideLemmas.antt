@@ -14,7 +14,7 @@ use Rattle.node_purge_laws.specs.PurgeLaws.{RowsLike, rows_of, IsLike, ActsLike,
 use Rattle.node_purge_laws.proofs.LikeLemmas.{purges_change_no_message}
 use Rattle.node_purge_laws.proofs.RowLikeLemmas.{OneLike}
 
-rows_same : (xs : List KeptRow) → RowsLike xs xs
+pub rows_same : (xs : List KeptRow) → RowsLike xs xs
 rows_same [] = tt
 rows_same (x ∷ xs) = (refl, rows_same xs)
 
@@ -26,7 +26,7 @@ rows_hidden : (b : BranchId) (xs : List KeptRow) → RowsLike xs (change_where (
 rows_hidden b [] = tt
 rows_hidden b (x ∷ xs) = (hides_one (stands_at b x) x, rows_hidden b xs)
 
-hidden_like : (k : NodeState) (b : BranchId) → IsLike k (with_record k (records.Hidden b))
+pub hidden_like : (k : NodeState) (b : BranchId) → IsLike k (with_record k (records.Hidden b))
 unfolding applied durable_after kept_after
 hidden_like k b = record { same = refl; rows = rows_hidden b (rows_of k) }
 

@@ -51,7 +51,7 @@ owes_alike p u k other true acts owed = (elim owed.0 [ inl none ↦ inl none | i
 
 -- ---- each happening
 
-sees_none : (places : List Place) (asked : List Command) (f : Facts) (tr : Trail) (h : Happening) → MayHappen places asked f h → SeesNoPurge places f tr h
+pub sees_none : (places : List Place) (asked : List Command) (f : Facts) (tr : Trail) (h : Happening) → MayHappen places asked f h → SeesNoPurge places f tr h
 sees_none places asked f tr (happenings.Turn u) may = λ k up.
     (let owed = (turn_of_node places f u k asked may up).owed in
     let p : Place = place_at places u.node in (

@@ -4,6 +4,7 @@
 
 ghost use Rattle.node_purge_laws.specs.PurgeLaws.{PurgesChangeNoMessage, PurgesChangeNothingElse, PurgesHideAlone, PurgesChangeNothingShown};
 ghost use Rattle.node_purge_laws.specs.PurgeRunLaws.{EveryPurgeGoesUnseen};
+ghost use Rattle.node_purge_laws.specs.LeftOutLaws.{EveryPurgeMayBeLeftOut};
 
 /// Two nodes that differ in which kept rows are hidden alone write and send the same about each message, and differ so still.
 pub fn purges_change_no_message()
@@ -29,4 +30,11 @@ pub fn purges_change_nothing_else()
 /// of its node were hidden, or none; purges themselves apart.
 pub fn every_purge_goes_unseen()
     ensures { EveryPurgeGoesUnseen }
+{}
+
+/// Take all purges out of a lawful run: what is left is a lawful run, each turn with the record and the messages that it had, the
+/// book is the same, and the same calls end with the same answers.
+/// (PL/SQL Packages and Types Reference: DBMS_TRANSACTION, PURGE_MIXED, PURGE_LOST_DB_ENTRY.)
+pub fn every_purge_may_be_left_out()
+    ensures { EveryPurgeMayBeLeftOut }
 {}
