@@ -18,13 +18,13 @@ use Rattle.run_rules.specs.Data.happenings
 use Rattle.run_rules.specs.Data.pending
 use Rattle.run_rules.specs.Entries.{entries_of}
 use Rattle.run_rules.specs.Facts.{Facts, first_facts, place_at, flat, node_at, records_at, served, outcome_at, kept_after, taken, facts_after, facts_of}
-use Rattle.run_rules.specs.Lawful.{IsPending, Comes, IsOwed, MayHappen, MayStop, MayBeLost, IsLawful}
+use Rattle.run_rules.specs.Lawful.{IsPending, Comes, IsOwed, MayHappen, MayStop, MayBeLost, IsLawful, History, IsLawfulRun}
 use Rattle.run_rules.specs.Trail.{ended_by}
 use Rattle.node_purge_laws.specs.PurgeLaws.{IsLike, is_purge}
 use Rattle.node_purge_laws.specs.PurgeRunLaws.{HidesAlone, DoesAlike}
-use Rattle.node_purge_laws.specs.LeftOutLaws.{is_purge_turn, but_purges, calls_ended, all_ended, EveryPurgeMayBeLeftOut}
+use Rattle.node_purge_laws.specs.LeftOutLaws.{is_purge_turn, but_purges, calls_ended, all_ended, IsSameWithoutPurges, EveryPurgeChangesNothing}
 use Rattle.node_purge_laws.proofs.HideLemmas.{rows_same}
-use Rattle.node_purge_laws.proofs.PurgeRunLemmas.{sees_none}
+use Rattle.node_purge_laws.proofs.PurgeRunLemmas.{sees_none, purges_go_unseen}
 use Rattle.node_purge_laws.proofs.StartLikeLemmas.{like_turned, like_on, NodeLike, Fewer, fewer_same, fewer_with, fewer_hidden, fewer_boots, start_like, Pairwise, pairs_same, pairs_set, pairs_left, set_twice, node_there, disk_there}
 
 -- ---- what a purge writes
@@ -372,8 +372,11 @@ node_same (Some k) = record { same = refl; rows = rows_same k.stored.durable.kep
 first_alike : (f : Facts) → AreAlike f f.nodes f.records
 first_alike f = record { nodes = pairs_same NodeLike node_same f.nodes; disks = pairs_same Fewer fewer_same f.records }
 
-pub every_purge_may_be_left_out : EveryPurgeMayBeLeftOut
-every_purge_may_be_left_out t whole =
+same_without : (t : History) → IsLawfulRun t → IsSameWithoutPurges t
+same_without t whole =
     let f : Facts = first_facts t.places in
     let same = (all_go t.places t.commands t.trace).0 f f.nodes f.records (first_alike f) whole in
     record { lawful = same.lawful; booked = same.booked; answered = same.ended }
+
+pub every_purge_changes_nothing : EveryPurgeChangesNothing
+every_purge_changes_nothing t whole = record { unseen = purges_go_unseen t whole; left_out = same_without t whole }

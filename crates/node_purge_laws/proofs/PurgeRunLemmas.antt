@@ -11,10 +11,10 @@ use Rattle.run_rules.specs.Branches.{Trail, no_trail}
 use Rattle.run_rules.specs.Data.{Command, Happening, Turn}
 use Rattle.run_rules.specs.Data.happenings
 use Rattle.run_rules.specs.Facts.{Facts, first_facts, place_at}
-use Rattle.run_rules.specs.Lawful.{IsOwed, MayHappen}
+use Rattle.run_rules.specs.Lawful.{IsOwed, MayHappen, History, IsLawfulRun}
 use Rattle.run_base_laws.proofs.LawfulLemmas.{lawful_each, turn_of_node}
 use Rattle.node_purge_laws.specs.PurgeLaws.{IsLike, ActsLike, is_purge}
-use Rattle.node_purge_laws.specs.PurgeRunLaws.{SeesNoPurge, EveryPurgeGoesUnseen}
+use Rattle.node_purge_laws.specs.PurgeRunLaws.{SeesNoPurge, PurgesGoUnseen}
 use Rattle.node_purge_laws.proofs.CallLikeLemmas.{purges_change_nothing_else}
 use Rattle.node_purge_laws.proofs.HideLemmas.{purges_hide_alone}
 
@@ -60,6 +60,6 @@ sees_none places asked f tr (happenings.Turn u) may = λ k up.
     ))
 sees_none places asked f tr _ may = tt
 
-pub every_purge_goes_unseen : EveryPurgeGoesUnseen
-every_purge_goes_unseen t whole =
+pub purges_go_unseen : (t : History) → IsLawfulRun t → PurgesGoUnseen t
+purges_go_unseen t whole =
     lawful_each t.places t.commands (λ f tr. Unit {0}) (λ f tr h now may. tt) (SeesNoPurge t.places) (λ f tr h now may. sees_none t.places t.commands f tr h may) (first_facts t.places) no_trail t.trace tt whole

@@ -10,6 +10,7 @@ use Rattle.run_rules.specs.Facts.{Facts, first_facts, facts_after, outcome_at}
 use Rattle.run_rules.specs.Lawful.{History, IsLawfulRun, facts_at}
 use Rattle.run_rules.specs.Trail.{ended_by}
 use Rattle.node_purge_laws.specs.PurgeLaws.{is_purge}
+use Rattle.node_purge_laws.specs.PurgeRunLaws.{PurgesGoUnseen}
 
 -- whether a happening is a purge
 abbrev pub is_purge_turn : Happening → Bool
@@ -37,12 +38,17 @@ all_ended places asked f (h ∷ hs) = calls_ended places f h ++ all_ended places
 abbrev pub answers_of : History → List Finished
 answers_of t = all_ended t.places t.commands (first_facts t.places) t.trace
 
--- Nothing of a run hangs on its purges.
+-- A run is the same without its purges.
 pub record IsSameWithoutPurges (t : History) : Type 0 where
   pub lawful : IsLawfulRun (without_purges t)
   pub booked : (facts_at (without_purges t)).book ≡ (facts_at t).book
   pub answered : answers_of (without_purges t) ≡ answers_of t
 
+-- A purge hides a row, and nothing else of a run hangs on it.
+pub record PurgesChangeNothing (t : History) : Type 0 where
+  pub unseen : PurgesGoUnseen t
+  pub left_out : IsSameWithoutPurges t
+
 -- It is so of every lawful run.
-abbrev pub EveryPurgeMayBeLeftOut : Type 0
-EveryPurgeMayBeLeftOut = (t : History) → IsLawfulRun t → IsSameWithoutPurges t
+abbrev pub EveryPurgeChangesNothing : Type 0
+EveryPurgeChangesNothing = (t : History) → IsLawfulRun t → PurgesChangeNothing t

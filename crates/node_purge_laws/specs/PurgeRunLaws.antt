@@ -10,7 +10,7 @@ use Rattle.run_rules.specs.Data.{Happening, Turn}
 use Rattle.run_rules.specs.Data.happenings
 use Rattle.run_rules.specs.Each.{AtEach}
 use Rattle.run_rules.specs.Facts.{Facts, place_at, node_at}
-use Rattle.run_rules.specs.Lawful.{History, IsLawfulRun, IsOwed}
+use Rattle.run_rules.specs.Lawful.{History, IsOwed}
 use Rattle.node_purge_laws.specs.PurgeLaws.{IsLike, is_purge}
 
 -- A purge sends nothing, and leaves a node that differs from the one before in which rows are hidden alone.
@@ -36,7 +36,3 @@ SeesNoPurge places f tr _ = Unit {0}
 -- nothing in a run but purges themselves hangs on what was purged
 abbrev pub PurgesGoUnseen : History → Type 0
 PurgesGoUnseen t = AtEach SeesNoPurge t
-
--- In every lawful run it is so.
-abbrev pub EveryPurgeGoesUnseen : Type 0
-EveryPurgeGoesUnseen = (t : History) → IsLawfulRun t → PurgesGoUnseen t
