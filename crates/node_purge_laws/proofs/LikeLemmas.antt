@@ -14,13 +14,12 @@ use Rattle.session_tree.specs.Tree.{step}
 use Rattle.link_session.specs.Opens.{opening_of}
 use Rattle.reco.specs.Asks.{to_each, to_one}
 use Rattle.reco.specs.Told.{live_told}
-use Rattle.node_rules.specs.Data.{Advice, Answer, Stmt, Table, TableRef, BranchId, Decision, RedoRecord, Durable, KeptRow, Live, Kind, Msg, Place, Vote, Phase, Act, Edge, Opening, Admit, Beyond, Post, Kid}
+use Rattle.node_rules.specs.Data.{Advice, Answer, Stmt, Table, TableRef, BranchId, Decision, RedoRecord, Durable, KeptRow, Live, Kind, Place, Vote, Phase, Act, Edge, Opening, Admit, Beyond, Post, Kid}
 use Rattle.node_rules.specs.declared.work.Going.{Going}
 use Rattle.node_rules.specs.declared.work.Waits.{Waits}
 use Rattle.node_rules.specs.declared.work.Waits.TheVariants as waiting
 use Rattle.node_rules.specs.declared.session.Session.{Session}
 use Rattle.node_rules.specs.Data.decisions
-use Rattle.node_rules.specs.Data.inputs
 use Rattle.node_rules.specs.Data.kinds
 use Rattle.node_rules.specs.Data.records
 use Rattle.node_rules.specs.Data.params
@@ -36,8 +35,8 @@ use Rattle.node_rules.specs.Calls.{goes, statement_at, open_by, opened_waits, op
 use Rattle.node_rules.specs.Prepare.{drops, act_turn, sealed_record, decided_record, without_read_keys, collecting, with_comment, prepare_in, answer_in, commit_point_in, voted, commit_point_act}
 use Rattle.node_rules.specs.Commit.{beyond, parent_beyond, kid_beyond, next_on_decision, next_on_ack, next_on_forgotten, known_decision, decision_at, knows_commit, all_acked, passes, passes_commit, rollback_to, next_turn, on_decision, ack_counts, acked_by, counts_ack, on_ack, on_forgotten, commit_point_known, is_asked_again}
 use Rattle.node_rules.specs.Recovery.{on_ask_told, ask_answer}
-use Rattle.node_rules.specs.Turn.{BranchStatus, Is_live, Is_kept, Is_gone, kept_or_gone, live_or, status_of, kind_turn, clock_raised_by, draft_of, turn_of, stamped, output_of}
-use Rattle.node_purge_laws.specs.PurgeLaws.{row_as, RowsLike, rows_of, with_rows, IsLike, ActsLike, PurgesChangeNoMessage}
+use Rattle.node_rules.specs.Turn.{BranchStatus, Is_live, Is_kept, Is_gone, kept_or_gone, live_or, status_of, kind_turn, stamped, output_of}
+use Rattle.node_purge_laws.specs.PurgeLaws.{row_as, RowsLike, rows_of, with_rows, IsLike, ActsLike}
 use Rattle.node_purge_laws.proofs.RowLikeLemmas.{FoundLike, found_like, put_like, kept_like}
 
 -- ---- one row, hidden or not
@@ -354,12 +353,3 @@ acts_like d e like = record {
   ended = like.ended;
   after = like.after;
 }
-
-turn_like : (p : Place) (k : NodeState) (ks : List KeptRow) → RowsLike (rows_of k) ks → (m : Msg) → ActsLike (turn_of p k (inputs.Message m)) (turn_of p (with_rows k ks) (inputs.Message m))
-unfolding turn_of
-turn_like p k ks like m =
-    acts_like (draft_of p k (inputs.Message m)) (draft_of p (with_rows k ks) (inputs.Message m)) (kind_like p (clock_raised_by k m) ks like m.from m.to m.kind (stand_like (clock_raised_by k m) ks like m.to))
-
-pub purges_change_no_message : PurgesChangeNoMessage
-purges_change_no_message p k other like m =
-    subst (λ z. ActsLike (turn_of p k (inputs.Message m)) (turn_of p z (inputs.Message m))) (sym like.same) (turn_like p k (rows_of other) like.rows m)

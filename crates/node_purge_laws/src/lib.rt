@@ -3,13 +3,14 @@
 //! without its purges is a run too, with the same book and the same answers to all other calls (`specs/LeftOutLaws.antt`).
 #![tactic(auto)]
 
-ghost use Rattle.node_purge_laws.specs.PurgeLaws.{PurgesChangeNoMessage, PurgesChangeNothingElse, PurgesHideAlone, PurgesChangeNothingShown};
+ghost use Rattle.node_purge_laws.specs.PurgeLaws.{PurgesChangeNothingElse, PurgesHideAlone, PurgesChangeNothingShown};
 ghost use Rattle.node_purge_laws.specs.LeftOutLaws.{EveryPurgeChangesNothing};
 ghost use Rattle.node_purge_laws.specs.TriedPurge.{TheTriedPurge};
 
-/// Two nodes that differ in which kept rows are hidden alone write and send the same about each message, and differ so still.
-pub fn purges_change_no_message()
-    ensures { PurgesChangeNoMessage }
+/// Two nodes that differ in which kept rows are hidden alone write, send and answer the same, and differ so still: about each
+/// message, each call of a client, a call that is given up, and RECO. Only another purge finds what was hidden.
+pub fn purges_change_nothing_else()
+    ensures { PurgesChangeNothingElse }
 {}
 
 /// A purge leaves such a node.
@@ -20,11 +21,6 @@ pub fn purges_hide_alone()
 /// So after a purge a node shows what it would have shown without it, whatever messages come.
 pub fn purges_change_nothing_shown()
     ensures { PurgesChangeNothingShown }
-{}
-
-/// And the same about calls of clients, calls that are given up, and RECO: only another purge finds what was hidden.
-pub fn purges_change_nothing_else()
-    ensures { PurgesChangeNothingElse }
 {}
 
 /// In every lawful run a purge hides a row and sends nothing, and what any other turn writes, sends and answers is what it would be
