@@ -12,7 +12,7 @@ use Rattle.node_rules.specs.Data.params
 use Rattle.node_rules.specs.Data.records
 use Rattle.node_rules.specs.NodeState.{NodeState, Stored}
 use Rattle.node_rules.specs.Records.{applied, nothing_stored, stored_by}
-use Rattle.node_rules.specs.Words.{same, numbered}
+use Rattle.node_rules.specs.Words.{numbered}
 use Rattle.run_rules.specs.Book.{is_sealed_of, stands}
 use Rattle.run_rules.specs.Data.{Entry, Turn, Happening, Command}
 use Rattle.run_rules.specs.Data.happenings
