@@ -32,6 +32,7 @@ pub record BranchFacts : Type 0 where
   pub met_back : Bool
   pub forgot : Bool
 
+-- these five
 abbrev facts_by : Bool → Bool → Bool → Bool → Bool → BranchFacts
 facts_by s r m q f = record { sealed = s; rolled = r; mixed = m; met_back = q; forgot = f }
 
@@ -40,10 +41,11 @@ abbrev pub branch_facts : BranchId → List Entry → List RedoRecord → Branch
 branch_facts b book rs =
     facts_by (stands (is_sealed_of b) book) (stands (is_rollback_end_of b) book) (stands (is_mixed_of b) book) (stands (is_met_rollback_of b) book) (list_any (is_forgotten_of b) rs)
 
--- what is so before or with one record more
+-- what is so of a branch, or is so by this
 abbrev pub either_facts : BranchFacts → Bool → Bool → Bool → Bool → Bool → BranchFacts
 either_facts x s r m q f = facts_by (x.sealed || s) (x.rolled || r) (x.mixed || m) (x.met_back || q) (x.forgot || f)
 
+-- with one record more
 abbrev pub with_record_facts : BranchId → ℕ → BranchFacts → RedoRecord → BranchFacts
 with_record_facts b n x r =
     either_facts x (stands (is_sealed_of b) (entry_of n r)) (stands (is_rollback_end_of b) (entry_of n r)) (stands (is_mixed_of b) (entry_of n r)) (stands (is_met_rollback_of b) (entry_of n r)) (is_forgotten_of b r)
@@ -108,9 +110,11 @@ goes_by x = x.rolled || (not x.mixed && (x.met_back || x.forgot))
 abbrev pub left_by : BranchFacts → List Bool
 left_by x = if goes_by x then [] else x.mixed ∷ []
 
+-- of a branch that is live
 abbrev pub no_facts : BranchFacts
 no_facts = record { sealed = false; rolled = false; mixed = false; met_back = false; forgot = false }
 
+-- and of one that was sealed just now
 abbrev pub just_sealed : BranchFacts
 just_sealed = record { sealed = true; rolled = false; mixed = false; met_back = false; forgot = false }
 

@@ -30,11 +30,12 @@ abbrev pub calls_ended : List Place → Facts → Happening → List Finished
 calls_ended places f (happenings.Turn u) = if is_purge u.input || u.cut then [] else ended_by (outcome_at places f u)
 calls_ended places f _ = []
 
+-- the calls that these happenings end, in order
 abbrev pub all_ended : List Place → List Command → Facts → List Happening → List Finished
 all_ended places asked f [] = []
 all_ended places asked f (h ∷ hs) = calls_ended places f h ++ all_ended places asked (facts_after places asked f h) hs
 
--- all calls that end in a run but for purges, with their answers, in order
+-- all calls that end in a run but for purges, with their answers
 abbrev pub answers_of : History → List Finished
 answers_of t = all_ended t.places t.commands (first_facts t.places) t.trace
 
