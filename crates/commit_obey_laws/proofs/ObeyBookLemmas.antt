@@ -1,4 +1,4 @@
--- By the book: in every lawful run a decision from toward is written by the sealed branch that it comes to.
+-- By the book: in every lawful run a decision from toward is written by the sealed branch that it comes to, and rows stay.
 use Rattle.std.proofs.Common.{◌≡◌, true, false, List, [], ◌∷◌, ◌++◌, Option, Some, None, inl, inr, refl, sym, ap, ◌∙◌}
 use Rattle.tran_ids.proofs.BranchLemmas.{same_from_equal}
 use Rattle.agreement.specs.BookOf.{entry_by, book_of}
@@ -18,6 +18,7 @@ use Rattle.tree_laws.proofs.PrefixLemmas.{so_far, f_at, e_at}
 use Rattle.tree_trail_laws.proofs.MomentLemmas.{tr_at, by_moment}
 use Rattle.commit_obey_laws.specs.ObeyLaws.{taken_as, Obeys, is_meeting_of, TakesDecision, EveryDecisionIsObeyed}
 use Rattle.commit_obey_laws.proofs.ObeyLemmas.{obeys}
+use Rattle.commit_obey_laws.proofs.RowStayLemmas.{every_sealed_row_stays}
 
 -- ---- what a branch has met, by the book
 
@@ -54,5 +55,7 @@ module _ (t : History) (whole : IsLawfulRun t) where
       so uncut b d heard unlearned ∙ ap (λ o. Some (taken_as o b d)) (sym (forced_same (e_at t hs) b) ∙ ap (forced_in b) (sym book)))
   takes_one hs _ rest is = tt
 
+-- ---- all of it
+
 pub every_decision_is_obeyed : EveryDecisionIsObeyed
-every_decision_is_obeyed t whole = by_moment t TakesDecision (takes_one t whole)
+every_decision_is_obeyed t whole = record { taken = by_moment t TakesDecision (takes_one t whole); rows = every_sealed_row_stays t whole }

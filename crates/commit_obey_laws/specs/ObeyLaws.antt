@@ -1,4 +1,5 @@
 -- A decision from toward is obeyed at once: the sealed branch to which it comes ends with it, and a forced one notes how it met it.
+-- Until it ends, and longer where it has to, its node keeps its row (RowStayLaws).
 -- (Database Administrator's Guide, "Distributed Transactions Concepts": commit phase; "Managing Distributed Transactions": mixed
 -- outcomes.)
 use Rattle.std.specs.Prelude.{◌≡◌, Bool, false, List, Option, Some, None}
@@ -16,6 +17,7 @@ use Rattle.run_base_laws.specs.EventLaws.{AtEachEvent}
 use Rattle.run_rules.specs.Facts.{Facts}
 use Rattle.run_claims.specs.Knowledge.{HeardFromToward}
 use Rattle.run_rules.specs.Lawful.{History, IsLawfulRun}
+use Rattle.commit_obey_laws.specs.RowStayLaws.{SealedRowsStay}
 
 -- the record by which a branch with this forced outcome, or none, takes a decision
 abbrev pub taken_as : Option Decision → BranchId → Decision → RedoRecord
@@ -48,9 +50,14 @@ TakesDecision places f tr (happenings.Turn u) = u.cut ≡ false → (b : BranchI
     → u.wrote ≡ Some (taken_as (forced_in b f.book) b d)
 TakesDecision places f tr _ = Unit {0}
 
--- each decision that comes to a sealed branch is obeyed
-abbrev pub Obedience : History → Type 0
-Obedience t = AtEach TakesDecision t
+-- each decision that comes to a sealed branch is taken
+abbrev pub DecisionsAreTaken : History → Type 0
+DecisionsAreTaken t = AtEach TakesDecision t
+
+-- A sealed branch takes the decision that comes to it, and its node keeps its row until it ends with a rollback, or forgets.
+pub record Obedience (t : History) : Type 0 where
+  pub taken : DecisionsAreTaken t
+  pub rows : SealedRowsStay t
 
 -- In every lawful run it is so.
 abbrev pub EveryDecisionIsObeyed : Type 0

@@ -11,10 +11,10 @@ use Rattle.node_rules.specs.NodeState.{NodeState, TurnOutput}
 use Rattle.node_rules.specs.Records.{applied, with_record}
 use Rattle.node_rules.specs.Turn.{turn_of}
 use Rattle.node_purge_laws.specs.PurgeLaws.{RowsLike, rows_of, IsLike, ActsLike, PurgesHideAlone, ShownByTurn, shown, PurgesChangeNothingShown}
-use Rattle.node_purge_laws.proofs.LikeLemmas.{purges_change_no_message}
+use Rattle.node_purge_laws.proofs.CallLikeLemmas.{purges_change_nothing_else}
 use Rattle.node_purge_laws.proofs.RowLikeLemmas.{OneLike}
 
-rows_same : (xs : List KeptRow) → RowsLike xs xs
+pub rows_same : (xs : List KeptRow) → RowsLike xs xs
 rows_same [] = tt
 rows_same (x ∷ xs) = (refl, rows_same xs)
 
@@ -26,7 +26,7 @@ rows_hidden : (b : BranchId) (xs : List KeptRow) → RowsLike xs (change_where (
 rows_hidden b [] = tt
 rows_hidden b (x ∷ xs) = (hides_one (stands_at b x) x, rows_hidden b xs)
 
-hidden_like : (k : NodeState) (b : BranchId) → IsLike k (with_record k (records.Hidden b))
+pub hidden_like : (k : NodeState) (b : BranchId) → IsLike k (with_record k (records.Hidden b))
 unfolding applied durable_after kept_after
 hidden_like k b = record { same = refl; rows = rows_hidden b (rows_of k) }
 
@@ -49,7 +49,7 @@ one_shown o other rest more acts same = (let wrote = acts.wrote in let sent = ac
 shown_like : (p : Place) (k other : NodeState) → IsLike k other → (ms : List Msg) → shown p other ms ≡ shown p k ms
 shown_like p k other like [] = refl
 shown_like p k other like (m ∷ ms) =
-    let acts : ActsLike (turn_of p k (inputs.Message m)) (turn_of p other (inputs.Message m)) = purges_change_no_message p k other like m in
+    let acts : ActsLike (turn_of p k (inputs.Message m)) (turn_of p other (inputs.Message m)) = purges_change_nothing_else p k other like (inputs.Message m) refl in
     one_shown (turn_of p k (inputs.Message m)) (turn_of p other (inputs.Message m)) _ _ acts
     (sym (shown_like p (turn_of p k (inputs.Message m)).after (turn_of p other (inputs.Message m)).after acts.after ms))
 

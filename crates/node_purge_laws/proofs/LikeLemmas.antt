@@ -14,13 +14,12 @@ use Rattle.session_tree.specs.Tree.{step}
 use Rattle.link_session.specs.Opens.{opening_of}
 use Rattle.reco.specs.Asks.{to_each, to_one}
 use Rattle.reco.specs.Told.{live_told}
-use Rattle.node_rules.specs.Data.{Advice, Answer, Stmt, Table, TableRef, BranchId, Decision, RedoRecord, Durable, KeptRow, Live, Kind, Msg, Place, Vote, Phase, Act, Edge, Opening, Admit, Beyond, Post, Kid}
+use Rattle.node_rules.specs.Data.{Advice, Answer, Stmt, Table, TableRef, BranchId, Decision, RedoRecord, Durable, KeptRow, Live, Kind, Place, Vote, Phase, Act, Edge, Opening, Admit, Beyond, Post, Kid}
 use Rattle.node_rules.specs.declared.work.Going.{Going}
 use Rattle.node_rules.specs.declared.work.Waits.{Waits}
 use Rattle.node_rules.specs.declared.work.Waits.TheVariants as waiting
 use Rattle.node_rules.specs.declared.session.Session.{Session}
 use Rattle.node_rules.specs.Data.decisions
-use Rattle.node_rules.specs.Data.inputs
 use Rattle.node_rules.specs.Data.kinds
 use Rattle.node_rules.specs.Data.records
 use Rattle.node_rules.specs.Data.params
@@ -36,8 +35,8 @@ use Rattle.node_rules.specs.Calls.{goes, statement_at, open_by, opened_waits, op
 use Rattle.node_rules.specs.Prepare.{drops, act_turn, sealed_record, decided_record, without_read_keys, collecting, with_comment, prepare_in, answer_in, commit_point_in, voted, commit_point_act}
 use Rattle.node_rules.specs.Commit.{beyond, parent_beyond, kid_beyond, next_on_decision, next_on_ack, next_on_forgotten, known_decision, decision_at, knows_commit, all_acked, passes, passes_commit, rollback_to, next_turn, on_decision, ack_counts, acked_by, counts_ack, on_ack, on_forgotten, commit_point_known, is_asked_again}
 use Rattle.node_rules.specs.Recovery.{on_ask_told, ask_answer}
-use Rattle.node_rules.specs.Turn.{BranchStatus, Is_live, Is_kept, Is_gone, kept_or_gone, live_or, status_of, kind_turn, clock_raised_by, draft_of, turn_of, stamped, output_of}
-use Rattle.node_purge_laws.specs.PurgeLaws.{row_as, RowsLike, rows_of, with_rows, IsLike, ActsLike, PurgesChangeNoMessage}
+use Rattle.node_rules.specs.Turn.{BranchStatus, Is_live, Is_kept, Is_gone, kept_or_gone, live_or, status_of, kind_turn, stamped, output_of}
+use Rattle.node_purge_laws.specs.PurgeLaws.{row_as, RowsLike, rows_of, with_rows, IsLike, ActsLike}
 use Rattle.node_purge_laws.proofs.RowLikeLemmas.{FoundLike, found_like, put_like, kept_like}
 
 -- ---- one row, hidden or not
@@ -47,11 +46,11 @@ module _ (s : KeptRow) (h : Bool) where
   parents_same None = refl
   parents_same (Some b) = refl
 
-  beyond_same : beyond (row_as s h) ≡ beyond s
+  pub beyond_same : beyond (row_as s h) ≡ beyond s
   unfolding beyond
   beyond_same = ap (λ bs. bs ++ map kid_beyond (filter (λ (c : Kid). not (is_branch c.branch s.toward)) s.children)) (parents_same s.parent)
 
-  all_acked_same : all_acked (row_as s h) ≡ all_acked s
+  pub all_acked_same : all_acked (row_as s h) ≡ all_acked s
   all_acked_same = ap (λ bs. list_all (λ (b : Beyond). b.acked) bs) beyond_same
 
   known_same : (known d : Decision) → known_decision (row_as s h) known d ≡ known_decision s known d
@@ -112,17 +111,17 @@ module _ (d : Durable) (ks : List KeptRow) where
 -- ---- drafts
 
 -- Drafts that write, say and answer the same, and leave nodes that differ so.
-record DraftsLike (d other : TurnDraft) : Type 0 where
-  wrote : d.wrote ≡ other.wrote
-  says : d.says ≡ other.says
-  ended : d.ended ≡ other.ended
-  after : IsLike d.after other.after
+pub record DraftsLike (d other : TurnDraft) : Type 0 where
+  pub wrote : d.wrote ≡ other.wrote
+  pub says : d.says ≡ other.says
+  pub ended : d.ended ≡ other.ended
+  pub after : IsLike d.after other.after
 
-sessions_like : {k other : NodeState} (ss : List Session) → IsLike k other → IsLike (record k { sessions = ss }) (record other { sessions = ss })
+pub sessions_like : {k other : NodeState} (ss : List Session) → IsLike k other → IsLike (record k { sessions = ss }) (record other { sessions = ss })
 sessions_like ss like = record { same = ap (λ (z : NodeState). record z { sessions = ss }) like.same; rows = like.rows }
 
 module _ (k : NodeState) (ks : List KeptRow) (like : RowsLike (rows_of k) ks) where
-  recorded : (r : RedoRecord) → IsLike (with_record k r) (with_record (with_rows k ks) r)
+  pub recorded : (r : RedoRecord) → IsLike (with_record k r) (with_record (with_rows k ks) r)
   unfolding applied durable_after
   recorded (records.Boot n) = record { same = refl; rows = like }
   recorded (records.Table t) = record { same = refl; rows = like }
@@ -145,7 +144,7 @@ module _ (k : NodeState) (ks : List KeptRow) (like : RowsLike (rows_of k) ks) wh
   abbrev So : (NodeState → TurnDraft) → Type 0
   So f = DraftsLike (f k) (f other)
 
-  rests : So nothing
+  pub rests : So nothing
   rests = record { wrote = refl; says = refl; ended = refl; after = record { same = refl; rows = like } }
 
   dropped : (l : Live) (first : List Post) → So (λ z. drops z l first)
@@ -154,13 +153,13 @@ module _ (k : NodeState) (ks : List KeptRow) (like : RowsLike (rows_of k) ks) wh
   said : (ps : List Post) → So (λ z. saying z ps)
   said ps = record { wrote = refl; says = refl; ended = refl; after = record { same = refl; rows = like } }
 
-  either : (q : Bool) (f g : NodeState → TurnDraft) → So f → So g → So (λ z. if q then f z else g z)
+  pub either : (q : Bool) (f g : NodeState → TurnDraft) → So f → So g → So (λ z. if q then f z else g z)
   either true f g one two = one
   either false f g one two = two
 
   -- ---- the prepare phase
 
-  act_like : (l : Live) (below : Bool) (a : Act) → So (λ z. act_turn z l below a)
+  pub act_like : (l : Live) (below : Bool) (a : Act) → So (λ z. act_turn z l below a)
   act_like l below acts.Rest = record { wrote = refl; says = refl; ended = refl; after = record { same = refl; rows = like } }
   act_like l below acts.AskDown = record { wrote = refl; says = refl; ended = refl; after = record { same = refl; rows = like } }
   act_like l below acts.SayReadOnly = record { wrote = refl; says = refl; ended = refl; after = record { same = refl; rows = like } }
@@ -208,7 +207,7 @@ module _ (k : NodeState) (ks : List KeptRow) (like : RowsLike (rows_of k) ks) wh
   goes_like p x s given (Over i table) = record { wrote = refl; says = refl; ended = refl; after = record { same = refl; rows = like } }
   goes_like p x s given (Through node link table) = record { wrote = refl; says = refl; ended = refl; after = record { same = refl; rows = like } }
 
-  statement_like : (p : Place) (x : Branch) (s : Stmt) (given : ℕ) → So (λ z. statement_at p z x s given)
+  pub statement_like : (p : Place) (x : Branch) (s : Stmt) (given : ℕ) → So (λ z. statement_at p z x s given)
   statement_like p x s given =
       subst (λ w. DraftsLike (statement_at p k x s given) (goes p other x s given w)) (sym (way_same k.stored.durable ks p x.live given s)) (goes_like p x s given (way_of p k.stored.durable x.live given s))
 
@@ -268,7 +267,7 @@ known_like k ks like s h from (Some decisions.Rollback) = said k ks like (post s
 -- ---- each message
 
 -- a branch is the same at both nodes, but for whether its row is hidden
-data StandsLike : BranchStatus → BranchStatus → Type 0 where
+pub data StandsLike : BranchStatus → BranchStatus → Type 0 where
   Both_live : (x : Branch) → StandsLike (Is_live x) (Is_live x)
   Both_kept : (s : KeptRow) (h : Bool) → StandsLike (Is_kept s) (Is_kept (row_as s h))
   Both_gone : StandsLike Is_gone Is_gone
@@ -277,7 +276,7 @@ module _ (p : Place) (k : NodeState) (ks : List KeptRow) (like : RowsLike (rows_
   abbrev KindLike : Kind → BranchStatus → BranchStatus → Type 0
   KindLike kind a b = DraftsLike (kind_turn p k from to kind a) (kind_turn p (with_rows k ks) from to kind b)
 
-  kind_like : (kind : Kind) {a b : BranchStatus} → StandsLike a b → KindLike kind a b
+  pub kind_like : (kind : Kind) {a b : BranchStatus} → StandsLike a b → KindLike kind a b
   kind_like (kinds.Open edge root depth) stands = open_like k ks like p from edge root depth (opening_of k.opens from edge)
   kind_like (kinds.Opened edge strength) (Both_live x) = going_like k ks like x from edge strength x.work.going
   kind_like (kinds.Opened edge strength) (Both_kept s h) = rests k ks like
@@ -338,7 +337,7 @@ live_stand : (b : Option Branch) (o r : Option KeptRow) → FoundLike o r → St
 live_stand (Some x) o r found = Both_live x
 live_stand None o r found = rows_stand o r found
 
-stand_like : (k : NodeState) (ks : List KeptRow) → RowsLike (rows_of k) ks → (b : BranchId) → StandsLike (status_of k b) (status_of (with_rows k ks) b)
+pub stand_like : (k : NodeState) (ks : List KeptRow) → RowsLike (rows_of k) ks → (b : BranchId) → StandsLike (status_of k b) (status_of (with_rows k ks) b)
 unfolding status_of
 stand_like k ks like b = live_stand (branch_at k b) (kept_row_at k b) (item_at kept_row_id ks b) (found_like (rows_of k) ks b like)
 
@@ -347,19 +346,10 @@ stand_like k ks like b = live_stand (branch_at k b) (kept_row_at k b) (item_at k
 clock_same : {k other : NodeState} → IsLike k other → k.clock ≡ other.clock
 clock_same like = sym (ap (λ (z : NodeState). z.clock) like.same)
 
-acts_like : (d e : TurnDraft) → DraftsLike d e → ActsLike (output_of d) (output_of e)
+pub acts_like : (d e : TurnDraft) → DraftsLike d e → ActsLike (output_of d) (output_of e)
 acts_like d e like = record {
   wrote = like.wrote;
   sent = subst₂ (λ c ps. map (stamped d.after.clock) d.says ≡ map (stamped c) ps) (clock_same like.after) like.says refl;
   ended = like.ended;
   after = like.after;
 }
-
-turn_like : (p : Place) (k : NodeState) (ks : List KeptRow) → RowsLike (rows_of k) ks → (m : Msg) → ActsLike (turn_of p k (inputs.Message m)) (turn_of p (with_rows k ks) (inputs.Message m))
-unfolding turn_of
-turn_like p k ks like m =
-    acts_like (draft_of p k (inputs.Message m)) (draft_of p (with_rows k ks) (inputs.Message m)) (kind_like p (clock_raised_by k m) ks like m.from m.to m.kind (stand_like (clock_raised_by k m) ks like m.to))
-
-pub purges_change_no_message : PurgesChangeNoMessage
-purges_change_no_message p k other like m =
-    subst (λ z. ActsLike (turn_of p k (inputs.Message m)) (turn_of p z (inputs.Message m))) (sym like.same) (turn_like p k (rows_of other) like.rows m)

@@ -37,7 +37,7 @@ one_by g keeps x y is = subst (λ z. OneLike (g x) (g z)) (sym is) (keeps x y.hi
 abbrev pub IsBlind : (KeptRow → Bool) → Type 0
 IsBlind test = (x : KeptRow) (h : Bool) → test (row_as x h) ≡ test x
 
-blind_by : (test : KeptRow → Bool) → IsBlind test → (x y : KeptRow) → OneLike x y → test y ≡ test x
+pub blind_by : (test : KeptRow → Bool) → IsBlind test → (x y : KeptRow) → OneLike x y → test y ≡ test x
 blind_by test blind x y is = ap test is ∙ blind x y.hidden
 
 module _ (test : KeptRow → Bool) (blind : IsBlind test) where
@@ -54,7 +54,7 @@ module _ (test : KeptRow → Bool) (blind : IsBlind test) where
     changes_like g keeps xs ys like.1,
   )
 
-  drop_one : (q : Bool) (x y : KeptRow) (xs ys : List KeptRow) → OneLike x y → RowsLike xs ys → RowsLike (if q then x ∷ xs else xs) (if q then y ∷ ys else ys)
+  pub drop_one : (q : Bool) (x y : KeptRow) (xs ys : List KeptRow) → OneLike x y → RowsLike xs ys → RowsLike (if q then x ∷ xs else xs) (if q then y ∷ ys else ys)
   drop_one true x y xs ys is like = (is, like)
   drop_one false x y xs ys is like = like
 
@@ -70,7 +70,7 @@ module _ (test : KeptRow → Bool) (blind : IsBlind test) where
   find_one true x y o r is like = is
   find_one false x y o r is like = like
 
-id_same : (x y : KeptRow) → OneLike x y → y.me ≡ x.me
+pub id_same : (x y : KeptRow) → OneLike x y → y.me ≡ x.me
 id_same x y is = ap kept_row_id is
 
 -- the row of a branch

@@ -1,0 +1,192 @@
+-- Nodes and disks that differ in purges alone, at their places in lists, and what a start makes of such a disk.
+use Rattle.std.proofs.Common.{◌≡◌, ℕ, zero, suc, ◌+◌, List, [], ◌∷◌, ◌++◌, slice_get, slice_set, unwrap_or, Option, Some, None, refl, sym, ap, subst}
+use Rattle.redo_record.specs.Durable.{durable_after}
+use Rattle.redo_record.specs.Kept.{kept_after}
+use Rattle.node_rules.specs.Data.{BranchId, KeptRow, RedoRecord}
+use Rattle.node_rules.specs.Data.records
+use Rattle.node_rules.specs.NodeState.{NodeState, Stored}
+use Rattle.node_rules.specs.Records.{applied, nothing_stored, stored_by}
+use Rattle.node_rules.specs.Turn.{kept_by, start_of}
+use Rattle.node_rules.specs.Words.{numbered, set_numbered}
+use Rattle.run_rules.specs.Facts.{flat}
+use Rattle.run_rules.specs.Lawful.{boots}
+use Rattle.node_purge_laws.specs.PurgeLaws.{row_as, RowsLike, rows_of, with_rows, IsLike}
+use Rattle.node_purge_laws.proofs.HideLemmas.{rows_same, hidden_like}
+use Rattle.node_purge_laws.proofs.LikeLemmas.{recorded}
+
+-- ---- nodes that are alike
+
+rows_turned : (xs ys : List KeptRow) → RowsLike xs ys → RowsLike ys xs
+rows_turned [] [] like = tt
+rows_turned [] (y ∷ ys) like = absurd like
+rows_turned (x ∷ xs) [] like = absurd like
+rows_turned (x ∷ xs) (y ∷ ys) like = (subst (λ z. x ≡ row_as z x.hidden) (sym like.0) refl, rows_turned xs ys like.1)
+
+rows_on : (xs ys zs : List KeptRow) → RowsLike xs ys → RowsLike ys zs → RowsLike xs zs
+rows_on [] [] zs like next = next
+rows_on [] (y ∷ ys) zs like next = absurd like
+rows_on (x ∷ xs) [] zs like next = absurd like
+rows_on (x ∷ xs) (y ∷ ys) [] like next = absurd next
+rows_on (x ∷ xs) (y ∷ ys) (z ∷ zs) like next = (subst (λ w. z ≡ row_as w z.hidden) like.0 next.0, rows_on xs ys zs like.1 next.1)
+
+pub like_turned : {k other : NodeState} → IsLike k other → IsLike other k
+like_turned {k} {other} like = record { same = subst (λ z. k ≡ with_rows z (rows_of k)) (sym like.same) refl; rows = rows_turned (rows_of k) (rows_of other) like.rows }
+
+pub like_on : {k other next : NodeState} → IsLike k other → IsLike other next → IsLike k next
+like_on {k} {other} {next} like more = record {
+  same = subst (λ z. next ≡ with_rows z (rows_of next)) like.same more.same;
+  rows = rows_on (rows_of k) (rows_of other) (rows_of next) like.rows more.rows;
+}
+
+-- both are down, or both are up and alike
+abbrev pub NodeLike : Option NodeState → Option NodeState → Type 0
+NodeLike None None = Unit {0}
+NodeLike (Some k) (Some other) = IsLike k other
+NodeLike None (Some other) = ⊥
+NodeLike (Some k) None = ⊥
+
+-- ---- disks
+
+-- the same records, but for some that hide a row
+pub data Fewer : List RedoRecord → List RedoRecord → Type 0 where
+  Same_end : Fewer [] []
+  Same_record : {rs more : List RedoRecord} (r : RedoRecord) → Fewer rs more → Fewer (r ∷ rs) (r ∷ more)
+  One_fewer : {rs more : List RedoRecord} (b : BranchId) → Fewer rs more → Fewer (records.Hidden b ∷ rs) more
+
+pub fewer_same : (rs : List RedoRecord) → Fewer rs rs
+fewer_same [] = Same_end
+fewer_same (r ∷ rs) = Same_record r (fewer_same rs)
+
+pub fewer_with : {rs more : List RedoRecord} → Fewer rs more → (ws : List RedoRecord) → Fewer (rs ++ ws) (more ++ ws)
+fewer_with Same_end ws = fewer_same ws
+fewer_with (Same_record r few) ws = Same_record r (fewer_with few ws)
+fewer_with (One_fewer b few) ws = One_fewer b (fewer_with few ws)
+
+pub fewer_hidden : {rs more : List RedoRecord} → Fewer rs more → (b : BranchId) → Fewer (rs ++ records.Hidden b ∷ []) more
+fewer_hidden Same_end b = One_fewer b Same_end
+fewer_hidden (Same_record r few) b = Same_record r (fewer_hidden few b)
+fewer_hidden (One_fewer c few) b = One_fewer c (fewer_hidden few b)
+
+pub fewer_boots : {rs more : List RedoRecord} → Fewer rs more → boots more ≡ boots rs
+fewer_boots Same_end = refl
+fewer_boots (Same_record (records.Boot n) few) = ap (λ m. 1 + m) (fewer_boots few)
+fewer_boots (Same_record (records.Table t) few) = fewer_boots few
+fewer_boots (Same_record (records.Link l) few) = fewer_boots few
+fewer_boots (Same_record (records.Synonym y) few) = fewer_boots few
+fewer_boots (Same_record (records.Param q) few) = fewer_boots few
+fewer_boots (Same_record (records.Sealed r) few) = fewer_boots few
+fewer_boots (Same_record (records.Decided r) few) = fewer_boots few
+fewer_boots (Same_record (records.Ended b d) few) = fewer_boots few
+fewer_boots (Same_record (records.Forced b d given) few) = fewer_boots few
+fewer_boots (Same_record (records.Met b d mixed) few) = fewer_boots few
+fewer_boots (Same_record (records.Forgot b) few) = fewer_boots few
+fewer_boots (Same_record (records.Hidden b) few) = fewer_boots few
+fewer_boots (One_fewer b few) = fewer_boots few
+
+-- ---- a start
+
+-- one record more on both disks
+started_with : (s z : Stored) (r : RedoRecord) → IsLike (kept_by s) (kept_by z) → IsLike (kept_by (applied s r)) (kept_by (applied z r))
+started_with s z r like =
+    let both = recorded (kept_by s) z.durable.kept like.rows r in
+    subst (λ (x : Stored). IsLike (kept_by (applied s r)) (kept_by (applied x r))) (sym (ap (λ (x : NodeState). x.stored) like.same))
+    (record { same = ap (λ (x : NodeState). kept_by x.stored) both.same; rows = both.rows })
+
+-- and one that hides a row on the first alone
+started_hidden : (s z : Stored) (b : BranchId) → IsLike (kept_by s) (kept_by z) → IsLike (kept_by (applied s (records.Hidden b))) (kept_by z)
+unfolding applied durable_after kept_after
+started_hidden s z b like = like_on (like_turned (hidden_like (kept_by s) b)) like
+
+stored_like : {rs more : List RedoRecord} → Fewer rs more → (s z : Stored) → IsLike (kept_by s) (kept_by z) → IsLike (kept_by (stored_by s rs)) (kept_by (stored_by z more))
+unfolding stored_by
+stored_like Same_end s z like = like
+stored_like (Same_record r few) s z like = stored_like few (applied s r) (applied z r) (started_with s z r like)
+stored_like (One_fewer b few) s z like = stored_like few (applied s (records.Hidden b)) z (started_hidden s z b like)
+
+pub start_like : {rs more : List RedoRecord} → Fewer rs more → IsLike (start_of rs) (start_of more)
+unfolding start_of
+start_like few = stored_like few nothing_stored nothing_stored (record { same = refl; rows = rows_same (rows_of (kept_by nothing_stored)) })
+
+-- ---- lists of them
+
+module _ {A : Type 0} (Both : A → A → Type 0) where
+  -- the items of two lists, one by one
+  abbrev pub Pairwise : List A → List A → Type 0
+  Pairwise [] [] = Unit {0}
+  Pairwise [] (y ∷ ys) = ⊥
+  Pairwise (x ∷ xs) [] = ⊥
+  Pairwise (x ∷ xs) (y ∷ ys) = Both x y × Pairwise xs ys
+
+  pub pairs_same : ((x : A) → Both x x) → (xs : List A) → Pairwise xs xs
+  pairs_same same [] = tt
+  pairs_same same (x ∷ xs) = (same x, pairs_same same xs)
+
+  abbrev BothThere : Option A → Option A → Type 0
+  BothThere None None = Unit {0}
+  BothThere (Some x) (Some y) = Both x y
+  BothThere None (Some y) = ⊥
+  BothThere (Some x) None = ⊥
+
+  slices_at : (xs ys : List A) (i : ℕ) → Pairwise xs ys → BothThere (slice_get xs i) (slice_get ys i)
+  slices_at [] [] i pairs = tt
+  slices_at [] (y ∷ ys) i pairs = absurd pairs
+  slices_at (x ∷ xs) [] i pairs = absurd pairs
+  slices_at (x ∷ xs) (y ∷ ys) zero pairs = pairs.0
+  slices_at (x ∷ xs) (y ∷ ys) (suc i) pairs = slices_at xs ys i pairs.1
+
+  pairs_at : (xs ys : List A) (n : ℕ) → Pairwise xs ys → BothThere (numbered xs n) (numbered ys n)
+  pairs_at xs ys zero pairs = tt
+  pairs_at xs ys (suc i) pairs = slices_at xs ys i pairs
+
+  slices_set : (xs ys : List A) (i : ℕ) (x y : A) → Pairwise xs ys → Both x y → Pairwise (slice_set xs i x) (slice_set ys i y)
+  slices_set [] [] i x y pairs new = tt
+  slices_set [] (w ∷ ws) i x y pairs new = absurd pairs
+  slices_set (z ∷ zs) [] i x y pairs new = absurd pairs
+  slices_set (z ∷ zs) (w ∷ ws) zero x y pairs new = (new, pairs.1)
+  slices_set (z ∷ zs) (w ∷ ws) (suc i) x y pairs new = (pairs.0, slices_set zs ws i x y pairs.1 new)
+
+  -- an item is set in both
+  pub pairs_set : (xs ys : List A) (n : ℕ) (x y : A) → Pairwise xs ys → Both x y → Pairwise (set_numbered xs n x) (set_numbered ys n y)
+  pairs_set xs ys zero x y pairs new = pairs
+  pairs_set xs ys (suc i) x y pairs new = slices_set xs ys i x y pairs new
+
+  slice_left : (xs ys : List A) (i : ℕ) (x : A) → Pairwise xs ys → ((y : A) → slice_get ys i ≡ Some y → Both x y) → Pairwise (slice_set xs i x) ys
+  slice_left [] [] i x pairs new = tt
+  slice_left [] (w ∷ ws) i x pairs new = absurd pairs
+  slice_left (z ∷ zs) [] i x pairs new = absurd pairs
+  slice_left (z ∷ zs) (w ∷ ws) zero x pairs new = (new w refl, pairs.1)
+  slice_left (z ∷ zs) (w ∷ ws) (suc i) x pairs new = (pairs.0, slice_left zs ws i x pairs.1 new)
+
+  -- or in the first alone
+  pub pairs_left : (xs ys : List A) (n : ℕ) (x : A) → Pairwise xs ys → ((y : A) → numbered ys n ≡ Some y → Both x y) → Pairwise (set_numbered xs n x) ys
+  pairs_left xs ys zero x pairs new = pairs
+  pairs_left xs ys (suc i) x pairs new = slice_left xs ys i x pairs new
+
+-- an item that is set twice
+slice_twice : {A : Type 0} (xs : List A) (i : ℕ) (x y : A) → slice_set (slice_set xs i x) i y ≡ slice_set xs i y
+slice_twice [] i x y = refl
+slice_twice (z ∷ zs) zero x y = refl
+slice_twice (z ∷ zs) (suc i) x y = ap (λ ws. z ∷ ws) (slice_twice zs i x y)
+
+pub set_twice : {A : Type 0} (xs : List A) (n : ℕ) (x y : A) → set_numbered (set_numbered xs n x) n y ≡ set_numbered xs n y
+set_twice xs zero x y = refl
+set_twice xs (suc i) x y = slice_twice xs i x y
+
+-- what is at a number
+pub node_there : (ns ms : List (Option NodeState)) (n : ℕ) → Pairwise NodeLike ns ms → NodeLike (flat (numbered ns n)) (flat (numbered ms n))
+node_there ns ms n pairs = by (numbered ns n) (numbered ms n) (pairs_at NodeLike ns ms n pairs)
+  where
+    by : (o r : Option (Option NodeState)) → BothThere NodeLike o r → NodeLike (flat o) (flat r)
+    by None None both = tt
+    by None (Some y) both = absurd both
+    by (Some x) None both = absurd both
+    by (Some x) (Some y) both = both
+
+pub disk_there : (ds es : List (List RedoRecord)) (n : ℕ) → Pairwise Fewer ds es → Fewer (unwrap_or (numbered ds n) []) (unwrap_or (numbered es n) [])
+disk_there ds es n pairs = by (numbered ds n) (numbered es n) (pairs_at Fewer ds es n pairs)
+  where
+    by : (o r : Option (List RedoRecord)) → BothThere Fewer o r → Fewer (unwrap_or o []) (unwrap_or r [])
+    by None None both = Same_end
+    by None (Some y) both = absurd both
+    by (Some x) None both = absurd both
+    by (Some x) (Some y) both = both
