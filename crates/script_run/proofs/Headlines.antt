@@ -26,6 +26,7 @@ use Rattle.run_claims.specs.ReportedDone.{DoneIsReported}
 use Rattle.run_claims.specs.CommitCourse.{QuietCommitsAreComplete}
 use Rattle.commit_answer_laws.specs.CommitLines.{CommitsAnswerTruly}
 use Rattle.commit_obey_laws.specs.ObeyLaws.{EveryDecisionIsObeyed}
+use Rattle.node_purge_laws.specs.LeftOutLaws.{EveryPurgeChangesNothing}
 use Rattle.start_laws.specs.StartLaws.{EveryStartRestores}
 use Rattle.view_laws.specs.ViewLaws.{ViewsAreOfBranches}
 use Rattle.answer_once_laws.specs.OnceLaws.{EveryCommandIsAnsweredOnce}
@@ -48,7 +49,7 @@ empty_report : IsReported (history_of nothing_done no_script) [] All_run
 unfolding past due_of
 empty_report = (refl, tt)
 
-module _ (lawful : TheRunIsLawful) (once : EveryCommandIsAnsweredOnce) (views : ViewsAreOfBranches) (starts : EveryStartRestores) (knows : EveryTurnKnows) (meant : EveryRunIsMeant) (comes : EveryAnswerHasItsPlace) (tells : DoneIsReported) (commits : CommitsAnswerTruly) (completes : QuietCommitsAreComplete) (obeys : EveryDecisionIsObeyed) (sites : EverySiteDecides) (covers : EveryDecisionCovers) (agrees : EveryBookAgrees) (marked : EveryMixedIsMarked) (later : EveryScnIsLater) where
+module _ (lawful : TheRunIsLawful) (once : EveryCommandIsAnsweredOnce) (views : ViewsAreOfBranches) (starts : EveryStartRestores) (knows : EveryTurnKnows) (meant : EveryRunIsMeant) (comes : EveryAnswerHasItsPlace) (tells : DoneIsReported) (commits : CommitsAnswerTruly) (completes : QuietCommitsAreComplete) (obeys : EveryDecisionIsObeyed) (purged : EveryPurgeChangesNothing) (sites : EverySiteDecides) (covers : EveryDecisionCovers) (agrees : EveryBookAgrees) (marked : EveryMixedIsMarked) (later : EveryScnIsLater) where
   -- by the laws, of what is due and told
   by_laws : (run : Run) (ending : Ending) (script : AreOfAScript (places_of run.commands) run.commands)
       → IsTheRun (places_of run.commands) run.commands (start (places_of run.commands)) run.trace → run.book ≡ book_of run.trace
@@ -72,6 +73,7 @@ module _ (lawful : TheRunIsLawful) (once : EveryCommandIsAnsweredOnce) (views : 
         commits = commits t due;
         completes = completes t due;
         obeyed = obeys t may;
+        purges = purged t may;
         site = sites t may;
         covers = covers t may;
         agrees = subst Agreement (sym booked) (agrees t may);
@@ -116,6 +118,7 @@ stands_too run is = record {
   commits = is.commits;
   completes = is.completes;
   obeyed = is.obeyed;
+  purges = is.purges;
   site = is.site;
   covers = is.covers;
   agrees = is.agrees;

@@ -13,6 +13,7 @@ use Rattle.run_claims.specs.ReportedDone.{ReportsWhatIsDone}
 use Rattle.run_claims.specs.CommitCourse.{QuietCommitsAreDone}
 use Rattle.commit_answer_laws.specs.CommitLines.{CommitAnswersAreTrue}
 use Rattle.commit_obey_laws.specs.ObeyLaws.{Obedience}
+use Rattle.node_purge_laws.specs.LeftOutLaws.{PurgesChangeNothing}
 use Rattle.start_laws.specs.StartLaws.{StartsRestore}
 use Rattle.view_laws.specs.ViewLaws.{ViewsOf}
 use Rattle.answer_once_laws.specs.OnceLaws.{EachIsAnsweredOnce, AllAreAnsweredOnce, LaterAnswersStandWhereCallsEnd}
@@ -41,7 +42,9 @@ history_of run script = record { places = places_of run.commands; commands = run
 -- ORA-02054 its root was in doubt then. Each has its cause in the turn that answered it. A
 -- COMMIT that nothing disturbs, that of a CREATE too, is answered Commit complete, its site has decided, its sealed branches
 -- end with commit, and no node keeps a branch of it. A decision that comes to a sealed branch from its neighbour on the way to
--- the commit point site is written at once: the branch ends with it, or notes how it met it, if it was forced.
+-- the commit point site is written at once: the branch ends with it, or notes how it met it, if it was forced. Until it ends
+-- with a rollback, or forgets, its node keeps its row, and the row of a mixed outcome for ever. A purge hides a row and changes
+-- nothing else: take all purges out, and what is left is a run with the same book, the same messages and the same answers.
 -- Each decision is made by the commit point site of its session tree, once every other branch with changes on it or below it is
 -- sealed; a branch is sealed or decided with the changes that its own statements made, and a seal names the neighbour on the
 -- way to the site. Branches end as their site decided, mixed outcomes are marked, and the SCN law holds.
@@ -61,6 +64,7 @@ pub record IsRun (run : Run) (ending : Ending) : Type 0 where
   pub commits : CommitAnswersAreTrue (history_of run script)
   pub completes : QuietCommitsAreDone (history_of run script)
   pub obeyed : Obedience (history_of run script)
+  pub purges : PurgesChangeNothing (history_of run script)
   pub site : SiteDecides (history_of run script)
   pub covers : Coverage (history_of run script)
   pub agrees : Agreement run.book

@@ -8,6 +8,7 @@ ghost use Rattle.run_claims.specs.ReportedDone.{DoneIsReported};
 ghost use Rattle.run_claims.specs.CommitCourse.{QuietCommitsAreComplete};
 ghost use Rattle.commit_answer_laws.specs.CommitLines.{CommitsAnswerTruly};
 ghost use Rattle.commit_obey_laws.specs.ObeyLaws.{EveryDecisionIsObeyed};
+ghost use Rattle.node_purge_laws.specs.LeftOutLaws.{EveryPurgeChangesNothing};
 ghost use Rattle.view_laws.specs.ViewLaws.{ViewsAreOfBranches};
 ghost use Rattle.start_laws.specs.StartLaws.{EveryStartRestores};
 ghost use Rattle.answer_once_laws.specs.OnceLaws.{EveryCommandIsAnsweredOnce};
@@ -24,6 +25,7 @@ use commit_answer_laws::commits_answer_truly;
 use commit_course_laws::quiet_commits_are_complete;
 use commit_obey_laws::every_decision_is_obeyed;
 use dtx_values::Listing;
+use node_purge_laws::every_purge_changes_nothing;
 use run_cause_laws::every_turn_knows;
 use run_ready_laws::the_run_is_lawful;
 use run_trace::RunRecord;
@@ -98,6 +100,7 @@ fn laws_of_runs()
     ensures commits { CommitsAnswerTruly }
     ensures completes { QuietCommitsAreComplete }
     ensures obeys { EveryDecisionIsObeyed }
+    ensures purged { EveryPurgeChangesNothing }
     ensures sites { EverySiteDecides }
     ensures covers { EveryDecisionCovers }
     ensures agrees { EveryBookAgrees }
@@ -115,6 +118,7 @@ fn laws_of_runs()
     commits_answer_truly();
     quiet_commits_are_complete();
     every_decision_is_obeyed();
+    every_purge_changes_nothing();
     every_site_decides();
     every_decision_covers();
     every_book_agrees();
