@@ -21,6 +21,7 @@ use Rattle.run_rules.specs.Scripts.{IsTheRunOf}
 use Rattle.run_claims.specs.Places.{node_line, reported_of}
 use Rattle.run_claims.specs.ReportedDone.{CameTo}
 use Rattle.commit_answer_laws.specs.CommitCauses.{HasItsCause}
+use Rattle.commit_answer_laws.specs.DownLines.{DownLinesAreTrue, StoppedCallsAreTold}
 use Rattle.tree_trail_laws.specs.NoSite.{HadNoSite}
 use Rattle.commit_answer_laws.specs.UndecidedLaws.{IsDecided, IsUndecided}
 
@@ -54,9 +55,9 @@ abbrev pub CreateLinesAreTrue : History → Type 0
 CreateLinesAreTrue t = (i command node session : ℕ) (s : Stmt) (a : Answer) → command_at t.commands command ≡ commands.At node session (Some s) → commits_first s ≡ true
     → slice_get (reported_of t) i ≡ Some (node_line command a) → CameTo t command node session s ⊎ AnswersTruly t command node session None a
 
--- what the report says of COMMITs is true
+-- what the report says of COMMITs is true, and so is what it says of clients whose node is down
 abbrev pub CommitAnswersAreTrue : History → Type 0
-CommitAnswersAreTrue t = CommitLinesAreTrue t × CreateLinesAreTrue t
+CommitAnswersAreTrue t = CommitLinesAreTrue t × CreateLinesAreTrue t × DownLinesAreTrue t × StoppedCallsAreTold t
 
 -- In the run of a script it is so.
 abbrev pub CommitsAnswerTruly : Type 0
