@@ -1,7 +1,8 @@
 -- What the report answers to COMMIT is true. A line that says that a transaction was rolled back is right for ever: no branch
 -- of it is decided in the book, up to the end of the run. A line that says that it is committed has its decision in the book;
 -- or the session had no transaction, or none of its session tree had changes. And each of these lines has its cause: what stood in
--- the book, and what came, in the turn that answered it (CommitCauses). (SQL Language Reference: COMMIT; Error Messages:
+-- the book, and what came, in the turn that answered it (CommitCauses). A client is told that its node is down just where it is,
+-- or stopped while the call was pending (DownLines). (SQL Language Reference: COMMIT; Error Messages:
 -- ORA-02050, ORA-02053, ORA-02054, ORA-02067; Database Administrator's Guide, "Distributed Transactions Concepts".)
 use Rattle.std.specs.Prelude.{◌≡◌, ◌⊎◌, ℕ, true, List, slice_get, option_map, Option, Some, None}
 use Rattle.node_rules.specs.Data.{Answer, BranchId, Stmt}
