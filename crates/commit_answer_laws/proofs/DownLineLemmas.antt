@@ -120,9 +120,12 @@ module _ (t : History) (run : IsTheRunOf t) where
     at_once c there node session text at =
         cond_both (is_up f node) (if has_call told node session then one (refuses_with (dtx 4 [])) else []) (one (is_down t.places node)) (AllByRecursion (Downs c))
         (λ up. cond_both (has_call told node session) (one (refuses_with (dtx 4 []))) [] (AllByRecursion (Downs c)) (λ has. (plain c (refuses_with (dtx 4 [])) (λ same. omega (arith, same)), tt)) (λ none. tt))
-        (λ down. (λ n s x named says. (let both : commands.At node session text ≡ commands.At n s x = sym at ∙ named in
-            let here : node ≡ n = cc in
-            Was_down i there (subst (λ m. node_at f m ≡ None) here (none_up (node_at f node) down))), tt))
+        (λ down. (
+          λ n s x named says. (let both : commands.At node session text ≡ commands.At n s x = sym at ∙ named in
+              let here : node ≡ n = cc in
+              Was_down i there (subst (λ m. node_at f m ≡ None) here (none_up (node_at f node) down))),
+          tt,
+        ))
 
     says_have : (c : ℕ) → slice_get t.trace i ≡ Some (happenings.Begun c) → (command : Command) → command_at t.commands c ≡ command → AllByRecursion (Downs c) (says_at_once t.places f told command)
     says_have c there command is = elim (call_or command) [

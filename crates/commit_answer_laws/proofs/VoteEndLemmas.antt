@@ -1,8 +1,8 @@
 -- A turn ends a COMMIT that is pending as a child's Abort comes to its root, and as the last answer comes to a root of whose session
 -- tree no branch had changes: it seals nothing then and decides nothing, since its plan has no site.
-use Rattle.std.proofs.Common.{◌≡◌, ◌≢◌, ℕ, zero, suc, ◌==◌, ◌++◌, ◌&&◌, ◌||◌, not, Bool, true, false, if◌then◌else◌, find, is_none, List, [], ◌∷◌, map, slice_get, Option, Some, None, inl, inr, refl, sym, ap, subst, ◌∙◌}
+use Rattle.std.proofs.Common.{◌≡◌, ◌≢◌, ◌==◌, ◌++◌, ◌&&◌, ◌||◌, not, Bool, true, false, if◌then◌else◌, is_none, List, [], ◌∷◌, map, Option, Some, None, inl, inr, refl, sym, ap, subst, ◌∙◌}
 use Rattle.std.specs.Prelude.{IfSome}
-use Rattle.std.specs.List.{AllByRecursion, list_any, list_all}
+use Rattle.std.specs.List.{list_any, list_all}
 use Rattle.std.proofs.lemmas.Bool.{and_from, and_parts, cond_both, eqb-true, not-true, or_left, or_right}
 use Rattle.tran_ids.proofs.BranchLemmas.{equal_from_same}
 use Rattle.tran_ids.proofs.ListedLemmas.{item_is}
@@ -12,7 +12,7 @@ use Rattle.session_tree.specs.Live.{children_of}
 use Rattle.session_tree.specs.Tree.{step}
 use Rattle.session_tree.specs.declared.act.Walk.{Walk}
 use Rattle.session_tree.specs.declared.act.Walk.TheVariants as walks
-use Rattle.node_rules.specs.Data.{Act, Answer, BranchId, Decided, Edge, Input, KeptRow, Kind, Live, Msg, Phase, Place, Sealed, Vote}
+use Rattle.node_rules.specs.Data.{Act, Answer, BranchId, Decided, Edge, Input, KeptRow, Kind, Live, Msg, Phase, Sealed, Vote}
 use Rattle.node_rules.specs.Data.acts
 use Rattle.node_rules.specs.Data.inputs
 use Rattle.node_rules.specs.Data.kinds
@@ -26,15 +26,14 @@ use Rattle.node_rules.specs.Prepare.{abandon_ends, act_turn, all_answered, answe
 use Rattle.node_rules.specs.Sessions.{session_at, commit_answer, commit_complete, tran_refusal}
 use Rattle.node_rules.specs.Turn.{Is_live, draft_of, heard, kind_turn, live_or, status_of, turn_of}
 use Rattle.node_rules.specs.Words.{same}
-use Rattle.run_rules.specs.Branches.{CommitPlan, PlannedBranch, Seen, Trail, is_among, is_live, is_live_at, is_root_of, all_voted, plan_at, is_plan_of, no_trail, seen_at, seen_id}
+use Rattle.run_rules.specs.Branches.{CommitPlan, Seen, is_among, is_live, is_live_at, is_root_of, all_voted, plan_at, seen_at, seen_id}
 use Rattle.run_rules.specs.Data.{Turn, Happening}
 use Rattle.run_rules.specs.Data.happenings
 use Rattle.run_rules.specs.Each.{AtEach}
-use Rattle.run_rules.specs.Facts.{Facts, first_facts, node_at, outcome_at}
+use Rattle.run_rules.specs.Facts.{first_facts, node_at}
 use Rattle.run_rules.specs.Lawful.{History, IsLawfulRun, MayTurn}
-use Rattle.run_rules.specs.Trail.{commits, has_no_site, is_vote, planned_by, called_root, trail_after, trail_of, voted_after}
-use Rattle.run_rules.specs.Runs.{answered_by}
-use Rattle.run_rules.specs.Tree.{last_of, plan, planned, site, tree, walk}
+use Rattle.run_rules.specs.Trail.{commits, has_no_site, is_vote, voted_after}
+use Rattle.run_rules.specs.Tree.{plan, planned}
 use Rattle.run_claims.specs.Knowledge.{IsAbortTo, IsCommitOfLeaf, IsFirstVote}
 use Rattle.run_claims.specs.Site.{DecidedBySite, IsSite, NamesToward, RecordIsSo}
 use Rattle.run_base_laws.specs.BirthLaws.{Began, LiveIs}
@@ -49,7 +48,7 @@ use Rattle.run_base_laws.proofs.RestRunLemmas.{NodeRests, run_roots}
 use Rattle.run_base_laws.proofs.RootLemmas.{root_alone}
 use Rattle.run_branch_laws.specs.PhaseLaws.{PhaseFits}
 use Rattle.run_branch_laws.proofs.PhaseLemmas.{phases_fit}
-use Rattle.run_rules.proofs.ListLemmas.{all_append, map_after}
+use Rattle.run_rules.proofs.ListLemmas.{map_after}
 use Rattle.tree_laws.specs.AskLaws.{way_of}
 use Rattle.tree_laws.specs.RecordLaws.{RecordLeads, WritesAsTold}
 use Rattle.tree_laws.proofs.AskRunLemmas.{live_told}
@@ -66,9 +65,8 @@ use Rattle.tree_trail_laws.proofs.CallLemmas.{call_free}
 use Rattle.tree_trail_laws.proofs.FullLemmas.{SeesAll, full}
 use Rattle.tree_trail_laws.proofs.HearLemmas.{one_voted}
 use Rattle.tree_trail_laws.proofs.LeftLemmas.{IsToldLeft, left_are_told}
-use Rattle.tree_trail_laws.proofs.MomentLemmas.{tr_at, at_moment, by_moment, trail_keeps}
+use Rattle.tree_trail_laws.proofs.MomentLemmas.{at_moment, by_moment}
 use Rattle.tree_trail_laws.proofs.PlanLemmas.{find_passes}
-use Rattle.tree_trail_laws.proofs.SeenLemmas.{begun}
 use Rattle.tree_trail_laws.proofs.SeenRunLemmas.{all_is_seen, every_site_decides}
 use Rattle.tree_trail_laws.proofs.TopBackLemmas.{Back, IsBack}
 use Rattle.tree_trail_laws.proofs.TopFollowLemmas.{tops_at}
@@ -77,6 +75,7 @@ use Rattle.commit_answer_laws.specs.CommitCauses.{AllAgree}
 use Rattle.commit_answer_laws.specs.CommitEndLaws.{CommitPends, EndsCall}
 use Rattle.commit_answer_laws.proofs.CauseEndLemmas.{Ends, EndsBy, alive, by_draft, held, own_ends}
 use Rattle.commit_answer_laws.proofs.RootHoldLemmas.{Holds}
+use Rattle.commit_answer_laws.proofs.SitelessLemmas.{plans_on, plans_were, siteless_way}
 
 -- ---- answers
 
@@ -114,61 +113,6 @@ none_waits votes (e ∷ es) all heard =
 voted_peers : (from : BranchId) (v : Vote) (es : List Edge) → map (λ (e : Edge). e.peer) (map (has_voted from v) es) ≡ map (λ (e : Edge). e.peer) es
 voted_peers from v es =
     map_after (λ (e : Edge). e.peer) (has_voted from v) (λ (e : Edge). e.peer) (λ e. cond_both (answers_first from e) (record e { vote = v }) e (λ (x : Edge). x.peer ≡ e.peer) (λ here. refl) (λ other. refl)) es
-
--- ---- plans
-
-found_so : {A : Type 0} (P : A → Type 0) (q : A → Bool) (xs : List A) (y : A) → AllByRecursion P xs → find q xs ≡ Some y → P y
-found_so P q [] y all is = absurd cc
-found_so P q (x ∷ xs) y all is = by (q x) is (found_so P q xs y all.1)
-  where
-    by : (w : Bool) → (if w then Some x else find q xs) ≡ Some y → (find q xs ≡ Some y → P y) → P y
-    by true is rest = subst P (let it : Some x ≡ Some y = is in cc) all.0
-    by false is rest = rest is
-
-mapped_so : {A B : Type 0} (g : A → B) (xs : List A) (i : ℕ) (y : B) → slice_get (map g xs) i ≡ Some y → (x : A) × (g x ≡ y)
-mapped_so g [] i y is = absurd cc
-mapped_so g (x ∷ xs) zero y is = (x, (let it : Some (g x) ≡ Some y = is in cc))
-mapped_so g (x ∷ xs) (suc i) y is = mapped_so g xs i y is
-
-no_walk : (bs : List BranchId) → last_of bs ≡ None → bs ≡ []
-no_walk [] none = refl
-no_walk (b ∷ []) none = absurd cc
-no_walk (b ∷ c ∷ cs) none = absurd (let it : c ∷ cs ≡ [] = no_walk (c ∷ cs) none in cc)
-
--- without a site nobody is on the way there but a parent
-siteless_toward : (places : List Place) (tr : Trail) (b : BranchId) → (plan places tr b).site ≡ None → (i : ℕ) (x : PlannedBranch) → slice_get (plan places tr b).tree i ≡ Some x → x.toward ≡ x.parent
-unfolding plan
-siteless_toward places tr b none i x at =
-    let it = mapped_so (planned places tr (walk places tr b)) (tree tr b) i x at in
-    let nowhere : walk places tr b ≡ [] = no_walk (walk places tr b) none in
-    subst (λ (y : PlannedBranch). y.toward ≡ y.parent) it.1 (subst (λ ws. (planned places tr ws it.0).toward ≡ (planned places tr ws it.0).parent) (sym nowhere) refl)
-
-module _ (t : History) where
-  -- a plan is that of a tree that was told
-  abbrev WasPlanned : CommitPlan → Type 0
-  WasPlanned p = (tr : Trail) × (b : BranchId) × (p ≡ plan t.places tr b)
-
-  one_planned : (tr : Trail) (n : ℕ) (answer : Option Answer) (input : Input) (o : Option Seen) → AllByRecursion WasPlanned (planned_by t.places tr n answer input o)
-  one_planned tr n answer input None = tt
-  one_planned tr n answer input (Some s) = cond_both (commits n answer s input) (plan t.places tr s.me ∷ []) [] (AllByRecursion WasPlanned) (λ yes. ((tr, s.me, refl), tt)) (λ no. tt)
-
-  plans_on : (f : Facts) (tr : Trail) (h : Happening) → AllByRecursion WasPlanned tr.plans → AllByRecursion WasPlanned (trail_after t.places f tr h).plans
-  unfolding trail_after
-  plans_on f tr (happenings.Turn u) all = all_append WasPlanned tr.plans _ all (one_planned (begun t.places f tr u) u.node (answered_by (outcome_at t.places f u)) u.input (called_root (begun t.places f tr u) u.node u.input))
-  plans_on f tr _ all = all
-
-  plans_were : (hs : List Happening) → AllByRecursion WasPlanned (tr_at t hs).plans
-  unfolding trail_of
-  plans_were hs = trail_keeps t.places t.commands (λ tr. AllByRecursion WasPlanned tr.plans) plans_on (first_facts t.places) no_trail hs tt
-
-  siteless_way : (tr : Trail) → AllByRecursion WasPlanned tr.plans → (g : BranchId) (p : CommitPlan) → plan_at tr g ≡ Some p → has_no_site (Some p) ≡ true → (i : ℕ) (x : PlannedBranch) → slice_get p.tree i ≡ Some x → x.toward ≡ x.parent
-  siteless_way tr all g p at siteless i x listed =
-      let it : WasPlanned p = found_so WasPlanned (is_plan_of g) tr.plans p all at in
-      siteless_toward t.places it.0 it.1 (no_one (plan t.places it.0 it.1).site (ap (λ (q : CommitPlan). is_none q.site) (sym it.2) ∙ siteless)) i x (subst (λ (q : CommitPlan). slice_get q.tree i ≡ Some x) it.2 listed)
-    where
-      no_one : (o : Option BranchId) → is_none o ≡ true → o ≡ None
-      no_one None is = refl
-      no_one (Some b) is = absurd cc
 
 -- ---- a turn
 
