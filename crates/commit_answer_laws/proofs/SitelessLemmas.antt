@@ -4,7 +4,7 @@ use Rattle.std.specs.List.{AllByRecursion}
 use Rattle.std.proofs.lemmas.Bool.{cond_both}
 use Rattle.node_rules.specs.Data.{Answer, BranchId, Input, Place}
 use Rattle.run_rules.specs.Branches.{CommitPlan, PlannedBranch, Seen, Trail, plan_at, is_plan_of, no_trail}
-use Rattle.run_rules.specs.Data.{Turn, Happening}
+use Rattle.run_rules.specs.Data.{Happening}
 use Rattle.run_rules.specs.Data.happenings
 use Rattle.run_rules.specs.Facts.{Facts, first_facts, outcome_at}
 use Rattle.run_rules.specs.Lawful.{History}

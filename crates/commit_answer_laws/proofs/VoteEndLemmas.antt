@@ -32,8 +32,7 @@ use Rattle.run_rules.specs.Data.happenings
 use Rattle.run_rules.specs.Each.{AtEach}
 use Rattle.run_rules.specs.Facts.{first_facts, node_at}
 use Rattle.run_rules.specs.Lawful.{History, IsLawfulRun, MayTurn}
-use Rattle.run_rules.specs.Trail.{commits, has_no_site, is_vote, voted_after}
-use Rattle.run_rules.specs.Tree.{plan, planned}
+use Rattle.run_rules.specs.Trail.{has_no_site, is_vote, voted_after}
 use Rattle.run_claims.specs.Knowledge.{IsAbortTo, IsCommitOfLeaf, IsFirstVote}
 use Rattle.run_claims.specs.Site.{DecidedBySite, IsSite, NamesToward, RecordIsSo}
 use Rattle.run_base_laws.specs.BirthLaws.{Began, LiveIs}
