@@ -124,10 +124,10 @@ module _ (t : History) (whole : IsLawfulRun t) (hs : List Happening) (u : Turn) 
   abbrev place : Place
   place = place_at t.places u.node
 
-  abbrev Ends : Answer → Type 0
+  abbrev pub Ends : Answer → Type 0
   Ends a = EndsCall (record { session = g.session; answer = a }) (turn_of place k u.input).ended
 
-  abbrev EndsBy : Answer → TurnDraft → Type 0
+  abbrev pub EndsBy : Answer → TurnDraft → Type 0
   EndsBy a d = EndsCall (record { session = g.session; answer = a }) d.ended
 
   part : Part t whole hs
@@ -136,22 +136,22 @@ module _ (t : History) (whole : IsLawfulRun t) (hs : List Happening) (u : Turn) 
   lawful : IsLawfulRun s0
   lawful = part_lawful t whole hs part
 
-  by_draft : (a : Answer) (input : Input) → u.input ≡ input → EndsBy a (draft_of place k input) → Ends a
+  pub by_draft : (a : Answer) (input : Input) → u.input ≡ input → EndsBy a (draft_of place k input) → Ends a
   unfolding turn_of
   by_draft a input at ends = subst (λ i. EndsBy a (draft_of place k i)) (sym at) ends
 
   -- ---- how the root stands
 
-  held : Holds k.lives k.stored.durable.kept g
+  pub held : Holds k.lives k.stored.durable.kept g
   held = roots_hold s0 lawful u.node k up g.session g pending_it.root pending_it.call
 
-  row_of : (s : KeptRow) → kept_row_at k g ≡ Some s → RowIs e s
+  pub row_of : (s : KeptRow) → kept_row_at k g ≡ Some s → RowIs e s
   row_of s there = all_found (RowIs e) kept_row_id k.stored.durable.kept g s (nodes_are_as_events s0 lawful u.node k up).1 there
 
-  row_me : (s : KeptRow) → kept_row_at k g ≡ Some s → s.me ≡ g
+  pub row_me : (s : KeptRow) → kept_row_at k g ≡ Some s → s.me ≡ g
   row_me s there = item_is kept_row_id k.stored.durable.kept g s there
 
-  alive : (z : Live) → live_at k g ≡ Some z → exit e g ≡ None
+  pub alive : (z : Live) → live_at k g ≡ Some z → exit e g ≡ None
   alive z live = subst (λ c. exit e c ≡ None) (item_is live_id k.lives g z live) (all_found (λ (x : Live). exit e x.me ≡ None) live_id k.lives g z (nodes_are_as_events s0 lawful u.node k up).0 live)
 
   -- one that is neither decided nor learned the commit does not know it

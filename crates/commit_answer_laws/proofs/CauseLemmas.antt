@@ -91,16 +91,21 @@ all_last : {A : Type 0} (P : A → Type 0) (xs : List A) (x : A) → AllByRecurs
 all_last P [] x all = all.0
 all_last P (y ∷ xs) x all = all_last P xs x all.1
 
+-- a whole turn writes what it owes
+pub owes_so : (t : History) (whole : IsLawfulRun t) (hs : List Happening) (u : Turn) (rest : List Happening) → hs ++ happenings.Turn u ∷ rest ≡ t.trace → u.cut ≡ false → (k : NodeState) → node_at (f_at t hs) u.node ≡ Some k
+    → u.wrote ≡ (turn_of (place_at t.places u.node) k u.input).wrote
+owes_so t whole hs u rest is uncut k up = by u.cut uncut (turn_of_node t.places (f_at t hs) u k t.commands (may_of t whole hs (happenings.Turn u) rest is) up).owed
+  where
+    by : (cut : Bool) → cut ≡ false → IsOwed (place_at t.places u.node) k u.input u.wrote u.sent cut → u.wrote ≡ (turn_of (place_at t.places u.node) k u.input).wrote
+    by true uncut_so owed = absurd cc
+    by false uncut_so owed = owed.0
+
 -- a forced outcome is the record that its turn owes, and is that of a statement which names the branch
 pub forces_so : (t : History) (whole : IsLawfulRun t) (hs : List Happening) (u : Turn) (rest : List Happening) → hs ++ happenings.Turn u ∷ rest ≡ t.trace → u.cut ≡ false → (k : NodeState) → node_at (f_at t hs) u.node ≡ Some k
     → (b : BranchId) (d : Decision) (given : Bool) → u.wrote ≡ Some (records.Forced b d given)
     → (u.wrote ≡ (turn_of (place_at t.places u.node) k u.input).wrote) × IsForce (place_at t.places u.node) (f_at t hs) k b d given u.input
-forces_so t whole hs u rest is uncut k up b d given wrote = (owed_by u.cut uncut (turn_of_node t.places (f_at t hs) u k t.commands (may_of t whole hs (happenings.Turn u) rest is) up).owed, force)
+forces_so t whole hs u rest is uncut k up b d given wrote = (owes_so t whole hs u rest is uncut k up, force)
   where
-    owed_by : (cut : Bool) → cut ≡ false → IsOwed (place_at t.places u.node) k u.input u.wrote u.sent cut → u.wrote ≡ (turn_of (place_at t.places u.node) k u.input).wrote
-    owed_by true uncut_so owed = absurd cc
-    owed_by false uncut_so owed = owed.0
-
     knows : TurnKnows t.places (f_at t hs) (tr_at t hs) u k
     knows = at_moment t KnowsEnough (every_turn_knows t whole) hs (happenings.Turn u) rest is k up
 

@@ -44,6 +44,7 @@ use Rattle.commit_answer_laws.specs.CommitEndLaws.{EndsCall, CommitPends}
 use Rattle.commit_answer_laws.specs.CommitCauses.{AnswerCause, Has_none, Needs_rollback, Ends_for}
 use Rattle.commit_answer_laws.specs.CommitLines.{IsTrueOf, Had_none, Is_decided, Had_no_changes, Is_rolled_back, Is_committed, Is_in_doubt, Must_roll_back, AnswersTruly, CommitsAnswerTruly, transaction_at}
 use Rattle.commit_answer_laws.proofs.CauseLemmas.{its_cause}
+use Rattle.commit_answer_laws.proofs.DownLineLemmas.{down_lines_are_true, stopped_calls_are_told}
 use Rattle.commit_answer_laws.proofs.EndRunLemmas.{ends_for}
 use Rattle.commit_answer_laws.proofs.EndStepLemmas as ends
 use Rattle.commit_answer_laws.proofs.EndStepLemmas.{StepEnd}
@@ -346,4 +347,6 @@ pub commits_answer_truly : CommitsAnswerTruly
 commits_answer_truly t run = (
   λ i command node session comment a asked line. commit_line t run command node session a (lines_come_from_turns t i command a line) comment asked,
   λ i command node session s a asked one line. create_line t run command node session a (lines_come_from_turns t i command a line) s asked one,
+  down_lines_are_true t run,
+  stopped_calls_are_told t run,
 )

@@ -1,13 +1,13 @@
 -- In every lawful run a COMMIT that is pending ends for a reason.
-use Rattle.std.proofs.Common.{◌≡◌, ◌≢◌, ℕ, List, [], ◌∷◌, ◌++◌, IfSome, Option, Some, refl, sym, ap, subst, ◌∙◌}
+use Rattle.std.proofs.Common.{◌≡◌, ◌≢◌, ℕ, List, [], ◌∷◌, ◌++◌, IfSome, Option, Some, None, refl, sym, ap, subst, ◌∙◌}
 use Rattle.std.proofs.lemmas.List.{append_assoc}
 use Rattle.node_rules.specs.Data.{Answer, BranchId, Input, Stmt}
 use Rattle.node_rules.specs.Data.inputs
 use Rattle.node_rules.specs.declared.session.PendingCall.TheVariants as pending
-use Rattle.node_rules.specs.NodeState.{NodeState, branch_at, kept_row_id}
+use Rattle.node_rules.specs.NodeState.{NodeState, Branch, branch_at, kept_row_id}
 use Rattle.node_rules.specs.Words.{item_at}
 use Rattle.run_branch_laws.proofs.TowardLemmas.{heard_rows}
-use Rattle.node_rules.specs.Sessions.{session_at}
+use Rattle.node_rules.specs.Sessions.{session_at, commit_complete}
 use Rattle.node_rules.specs.Turn.{turn_of, heard}
 use Rattle.node_rules.proofs.HeardLemmas.{sessions_heard}
 use Rattle.run_rules.specs.Births.{births_of}
@@ -29,6 +29,8 @@ use Rattle.tree_trail_laws.proofs.CallLemmas.{call_free}
 use Rattle.commit_answer_laws.specs.CommitEndLaws.{CommitPends, EndsCall, TurnsEndCommits, CommitsEndSo}
 use Rattle.commit_answer_laws.proofs.EndStepLemmas.{StepEnd, as_end, Known, NoReply, ends_on}
 use Rattle.tree_laws.proofs.AtTurn.{at_turn}
+use Rattle.answer_done_laws.proofs.CommitStepLemmas.{CommitSo, commit_on}
+use Rattle.commit_answer_laws.proofs.RootStepLemmas.{root_on}
 
 branch_heard : (k : NodeState) (input : Input) (b : BranchId) → branch_at (heard k input) b ≡ branch_at k b
 branch_heard k (inputs.Message m) b = refl
@@ -90,6 +92,31 @@ module _ (t : History) (whole : IsLawfulRun t) (hs : List Happening) (u : Turn) 
           → StepEnd k u.input (turn_of (place_at t.places u.node) k u.input).after (turn_of (place_at t.places u.node) k u.input).wrote (turn_of (place_at t.places u.node) k u.input).sent g a
       unfolding turn_of
       ends_for there = ends_on k u.input g a other (place_at t.places u.node) (serves t.places f u k turn).step known there
+
+    -- one that was pending is pending still, of the same root, or is answered
+    module _ (g : BranchId) (pends : CommitPends k g) where
+      none_called : (s : Option Stmt) → u.input ≡ inputs.Call g.session s → ⊥
+      none_called s call = other g commit_complete pends g.session s call refl
+
+      at_rest : (x : Branch) → branch_at k0 x.live.me ≡ Some x → x.live.parent ≡ None → x.live.me.session ≡ g.session → x.work.going ≡ None
+      at_rest x live top at =
+          let there : branch_at k x.live.me ≡ Some x = sym (branch_heard k u.input x.live.me) ∙ live in
+          let root : IsRootOf (session_at k.sessions x.live.me.session) x.live.me x.live.phase x.work.going = roots_wait s0 lawful u.node k up x there top in
+          let commits : (session_at k.sessions x.live.me.session).call ≡ pending.Commit = subst (λ i. (session_at k.sessions i).call ≡ pending.Commit) (sym at) pends.call in
+          subst (λ c. RootWaits c x.live.phase x.work.going) commits root.waits
+
+      pub ends_or_stays : CommitSo g.session (turn_of (place_at t.places u.node) k u.input).after.sessions (turn_of (place_at t.places u.node) k u.input).ended
+      unfolding turn_of
+      ends_or_stays =
+          commit_on g.session (place_at t.places u.node) u.input none_called (serves t.places f u k turn).step
+          (record { commits = ap (λ ss. (session_at ss g.session).call) (sessions_heard k u.input) ∙ pends.call; roots = rests.0.roots.each; below = before.asked; rests = λ no_call x live top at. at_rest x live top at })
+
+      pub stays_so : (session_at (turn_of (place_at t.places u.node) k u.input).after.sessions g.session).call ≡ pending.Commit → CommitPends (turn_of (place_at t.places u.node) k u.input).after g
+      unfolding turn_of
+      stays_so commits = record {
+        root = root_on (place_at t.places u.node) u.input g.session none_called (serves t.places f u k turn).step commits ∙ (ap (λ ss. (session_at ss g.session).root) (sessions_heard k u.input) ∙ pends.root);
+        call = commits;
+      }
 
 -- ---- each happening
 

@@ -1,4 +1,4 @@
--- For which causes a COMMIT that is pending ends, and which of them end it at once. (Error Messages: ORA-02050, ORA-02053, ORA-02054;
+-- For which causes a COMMIT that is pending ends: exactly in a turn that has one of them, with its answer. (Error Messages: ORA-02050, ORA-02053, ORA-02054;
 -- Database Administrator's Guide, "Distributed Transactions Concepts": prepare, commit and forget phases.)
 use Rattle.std.specs.Prelude.{◌≡◌, false, List, Some}
 use Rattle.node_rules.specs.Data.{Answer, BranchId, Place}
@@ -11,7 +11,7 @@ use Rattle.run_rules.specs.Each.{AtEach}
 use Rattle.run_rules.specs.Facts.{Facts, node_at, place_at}
 use Rattle.run_rules.specs.Lawful.{History, IsLawfulRun}
 use Rattle.run_rules.specs.Trail.{trail_after}
-use Rattle.commit_answer_laws.specs.CommitCauses.{CommitCause, None_had_changes, All_acknowledged, A_child_aborted}
+use Rattle.commit_answer_laws.specs.CommitCauses.{CommitCause}
 use Rattle.commit_answer_laws.specs.CommitEndLaws.{CommitPends, EndsCall}
 
 -- the COMMIT of g ends in a turn with this answer
@@ -31,16 +31,9 @@ EndsForCause places f tr _ = Unit {0}
 abbrev pub CommitsEndForCause : Type 0
 CommitsEndForCause = (t : History) → IsLawfulRun t → AtEach EndsForCause t
 
--- the causes but these: the answers of all children that agree, the last Ack, a child's Abort
-abbrev pub Settles : {f : Facts} {tr after : Trail} {u : Turn} {g : BranchId} {a : Answer} → CommitCause f tr after u g a → Type 0
-Settles (None_had_changes agree siteless is) = ⊥
-Settles (All_acknowledged r decided acked is) = ⊥
-Settles (A_child_aborted abort is) = ⊥
-Settles _ = Unit {0}
-
--- such a cause, in a turn that is whole, ends a COMMIT that is pending, with its answer
+-- and each cause, in a turn that is whole, ends a COMMIT that is pending, with its answer
 abbrev pub CauseEnds : List Place → Facts → Trail → Happening → Type 0
-CauseEnds places f tr (happenings.Turn u) = u.cut ≡ false → (k : NodeState) → node_at f u.node ≡ Some k → (g : BranchId) (a : Answer) → CommitPends k g → (cause : CauseOf places f tr u g a) → Settles cause → EndsWith places k u g a
+CauseEnds places f tr (happenings.Turn u) = u.cut ≡ false → (k : NodeState) → node_at f u.node ≡ Some k → (g : BranchId) (a : Answer) → CommitPends k g → CauseOf places f tr u g a → EndsWith places k u g a
 CauseEnds places f tr _ = Unit {0}
 
 -- In every lawful run it is so of each turn.

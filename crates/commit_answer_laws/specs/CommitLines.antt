@@ -1,7 +1,8 @@
 -- What the report answers to COMMIT is true. A line that says that a transaction was rolled back is right for ever: no branch
 -- of it is decided in the book, up to the end of the run. A line that says that it is committed has its decision in the book;
 -- or the session had no transaction, or none of its session tree had changes. And each of these lines has its cause: what stood in
--- the book, and what came, in the turn that answered it (CommitCauses). (SQL Language Reference: COMMIT; Error Messages:
+-- the book, and what came, in the turn that answered it (CommitCauses). A client is told that its node is down just where it is,
+-- or stopped while the call was pending (DownLines). (SQL Language Reference: COMMIT; Error Messages:
 -- ORA-02050, ORA-02053, ORA-02054, ORA-02067; Database Administrator's Guide, "Distributed Transactions Concepts".)
 use Rattle.std.specs.Prelude.{◌≡◌, ◌⊎◌, ℕ, true, List, slice_get, option_map, Option, Some, None}
 use Rattle.node_rules.specs.Data.{Answer, BranchId, Stmt}
@@ -21,6 +22,7 @@ use Rattle.run_rules.specs.Scripts.{IsTheRunOf}
 use Rattle.run_claims.specs.Places.{node_line, reported_of}
 use Rattle.run_claims.specs.ReportedDone.{CameTo}
 use Rattle.commit_answer_laws.specs.CommitCauses.{HasItsCause}
+use Rattle.commit_answer_laws.specs.DownLines.{DownLinesAreTrue, StoppedCallsAreTold}
 use Rattle.tree_trail_laws.specs.NoSite.{HadNoSite}
 use Rattle.commit_answer_laws.specs.UndecidedLaws.{IsDecided, IsUndecided}
 
@@ -54,9 +56,9 @@ abbrev pub CreateLinesAreTrue : History → Type 0
 CreateLinesAreTrue t = (i command node session : ℕ) (s : Stmt) (a : Answer) → command_at t.commands command ≡ commands.At node session (Some s) → commits_first s ≡ true
     → slice_get (reported_of t) i ≡ Some (node_line command a) → CameTo t command node session s ⊎ AnswersTruly t command node session None a
 
--- what the report says of COMMITs is true
+-- what the report says of COMMITs is true, and so is what it says of clients whose node is down
 abbrev pub CommitAnswersAreTrue : History → Type 0
-CommitAnswersAreTrue t = CommitLinesAreTrue t × CreateLinesAreTrue t
+CommitAnswersAreTrue t = CommitLinesAreTrue t × CreateLinesAreTrue t × DownLinesAreTrue t × StoppedCallsAreTold t
 
 -- In the run of a script it is so.
 abbrev pub CommitsAnswerTruly : Type 0
