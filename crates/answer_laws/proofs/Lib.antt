@@ -1,6 +1,12 @@
+pub mod SentDownLemmas
+pub mod AtWorkLemmas
+pub mod AtWorkStepLemmas
+pub mod AtWorkRunLemmas
+pub mod StatementEndLemmas
 pub mod WhyEndsLemmas
 pub mod CommitCallLemmas
 pub mod LastCallLemmas
 pub mod EndingLemmas
+pub mod EndRunLemmas
 pub mod AnswerPlaceLemmas
 mod TriedAnswersLemmas

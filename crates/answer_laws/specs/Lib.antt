@@ -1,2 +1,3 @@
+pub mod StatementEnds
 pub mod EndLaws
 pub mod TriedAnswers

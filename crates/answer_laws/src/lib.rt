@@ -4,14 +4,26 @@
 
 ghost use Rattle.run_claims.specs.Headline.{EveryAnswerHasItsPlace};
 ghost use Rattle.answer_laws.specs.EndLaws.{CallsEndForCause, PendingCommitsCame};
+ghost use Rattle.answer_laws.specs.StatementEnds.{CausesEndStatements, StatementsEndForCause};
 ghost use Rattle.answer_laws.specs.TriedAnswers.{TheTriedAnswers};
 
 use answer_origin_laws::turns_find_calls_come;
 
-/// A turn of a lawful run ends at most one client's call, and only with a refusal, in the call's own turn, on a Reply, or as a
-/// COMMIT that was pending. Only where a user forces the outcome of a root in doubt does that root's COMMIT end too, refused.
+/// A turn of a lawful run ends at most one client's call: one that came in this turn, one whose statement waited for what
+/// came, or a COMMIT that was pending. Only where a user forces the outcome of a root in doubt does that root's COMMIT end too, refused.
 pub fn calls_end_for_cause()
     ensures { CallsEndForCause }
+{}
+
+/// A statement that waits for another node ends in a turn only where the Reply comes to what its root sent down last, with the
+/// answer of that Reply, or DTX-08 where a branch is gone, or where it is given up, with DTX-03.
+pub fn statements_end_for_cause()
+    ensures { StatementsEndForCause }
+{}
+
+/// Each of these ends it in that very turn, with this answer, and ends no other call: so a statement ends with the first of them.
+pub fn causes_end_statements()
+    ensures { CausesEndStatements }
 {}
 
 /// A COMMIT that is pending at a node is the last call of its session.
