@@ -10,3 +10,4 @@ pub mod EndingLemmas
 pub mod EndRunLemmas
 pub mod AnswerPlaceLemmas
 mod TriedAnswersLemmas
+mod TriedEndsLemmas

@@ -1,3 +1,4 @@
 pub mod StatementEnds
 pub mod EndLaws
 pub mod TriedAnswers
+pub mod TriedEnds

@@ -6,6 +6,7 @@ ghost use Rattle.run_claims.specs.Headline.{EveryAnswerHasItsPlace};
 ghost use Rattle.answer_laws.specs.EndLaws.{CallsEndForCause, PendingCommitsCame};
 ghost use Rattle.answer_laws.specs.StatementEnds.{CausesEndStatements, StatementsEndForCause};
 ghost use Rattle.answer_laws.specs.TriedAnswers.{TheTriedAnswers};
+ghost use Rattle.answer_laws.specs.TriedEnds.{TheTriedEnds};
 
 use answer_origin_laws::turns_find_calls_come;
 
@@ -24,6 +25,12 @@ pub fn statements_end_for_cause()
 /// Each of these ends it in that very turn, with this answer, and ends no other call: so a statement ends with the first of them.
 pub fn causes_end_statements()
     ensures { CausesEndStatements }
+{}
+
+/// This is about something: as the count of the tried script waits, the Reply to an earlier statement comes once more and changes
+/// nothing, and its own Reply, DTX-08 in it, and its give-up each end it.
+pub fn the_tried_ends()
+    ensures { TheTriedEnds }
 {}
 
 /// A COMMIT that is pending at a node is the last call of its session.
