@@ -1,6 +1,6 @@
 -- In every lawful run each call ends in a turn for a cause, and each cause of a statement that waits ends it.
 use Rattle.std.proofs.Common.{◌≡◌, ℕ, zero, suc, List, [], ◌∷◌, ◌++◌, Option, Some, sym, ap, subst, ◌∙◌}
-use Rattle.std.specs.Prelude.{slice_get}
+use Rattle.std.specs.Prelude.{slice_get, take}
 use Rattle.node_rules.specs.Data.{Answer, BranchId, Stmt}
 use Rattle.node_rules.specs.Data.inputs
 use Rattle.node_rules.specs.declared.session.Finished.{Finished}
@@ -10,12 +10,15 @@ use Rattle.node_rules.specs.Sessions.{session_at}
 use Rattle.node_rules.specs.Turn.{turn_of, draft_of}
 use Rattle.run_rules.specs.Data.{Turn, Happening}
 use Rattle.run_rules.specs.Data.happenings
-use Rattle.run_rules.specs.Facts.{node_at}
+use Rattle.run_rules.specs.Each.{facts_upto}
+use Rattle.run_rules.specs.Facts.{node_at, place_at}
 use Rattle.run_rules.specs.Lawful.{Comes, History, IsLawfulRun}
 use Rattle.tree_laws.proofs.AtTurn.{at_turn}
 use Rattle.tree_laws.proofs.PrefixLemmas.{f_at}
 use Rattle.tree_trail_laws.proofs.CallLemmas.{call_free}
 use Rattle.tree_trail_laws.proofs.MomentLemmas.{by_moment, tr_at}
+use Rattle.answer_origin_laws.proofs.PartLemmas.{split_at}
+use Rattle.answer_origin_laws.proofs.ReplyRunLemmas.{prefix}
 use Rattle.answer_laws.proofs.AtWorkRunLemmas.{pending_waits}
 use Rattle.answer_laws.proofs.EndingLemmas.{turn_few}
 use Rattle.answer_laws.proofs.StatementEndLemmas.{cause_ends}
@@ -93,3 +96,11 @@ statements_end_for_cause t whole = by_moment t StatementsEnd (statement_one t wh
 
 pub causes_end_statements : CausesEndStatements
 causes_end_statements t whole = by_moment t CauseEndsStatement (cause_one t whole)
+
+-- at the turn of a number
+pub few_at : (t : History) → IsLawfulRun t → (i : ℕ) (u : Turn) → slice_get t.trace i ≡ Some (happenings.Turn u) → (k : NodeState) → node_at (facts_upto t i) u.node ≡ Some k
+    → EndsFew (facts_upto t i) k u.input (turn_of (place_at t.places u.node) k u.input).ended
+few_at t whole i u there k up =
+    let at = split_at t.trace i (happenings.Turn u) there in
+    let first : take i t.trace ≡ at.0 = ap (λ m. take m t.trace) (sym at.3) ∙ prefix t at.0 (happenings.Turn u) at.1 at.2 in
+    subst (λ hs. node_at (f_at t hs) u.node ≡ Some k → EndsFew (f_at t hs) k u.input (turn_of (place_at t.places u.node) k u.input).ended) (sym first) (λ here. few t whole at.0 u at.1 at.2 k here) up

@@ -8,6 +8,7 @@ pub mod CommitCallLemmas
 pub mod LastCallLemmas
 pub mod EndingLemmas
 pub mod EndRunLemmas
+pub mod PendingCallLemmas
 pub mod AnswerPlaceLemmas
 mod TriedAnswersLemmas
 mod TriedEndsLemmas

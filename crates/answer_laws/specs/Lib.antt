@@ -1,4 +1,5 @@
 pub mod StatementEnds
 pub mod EndLaws
+pub mod PendingCalls
 pub mod TriedAnswers
 pub mod TriedEnds

@@ -4,6 +4,7 @@
 
 ghost use Rattle.run_claims.specs.Headline.{EveryAnswerHasItsPlace};
 ghost use Rattle.answer_laws.specs.EndLaws.{CallsEndForCause, PendingCommitsCame};
+ghost use Rattle.answer_laws.specs.PendingCalls.{PendingCallsEnd};
 ghost use Rattle.answer_laws.specs.StatementEnds.{CausesEndStatements, StatementsEndForCause};
 ghost use Rattle.answer_laws.specs.TriedAnswers.{TheTriedAnswers};
 ghost use Rattle.answer_laws.specs.TriedEnds.{TheTriedEnds};
@@ -25,6 +26,12 @@ pub fn statements_end_for_cause()
 /// Each of these ends it in that very turn, with this answer, and ends no other call: so a statement ends with the first of them.
 pub fn causes_end_statements()
     ensures { CausesEndStatements }
+{}
+
+/// In the run of a script a call that has come stays pending until a turn of its node ends it, for one of these causes, or its node
+/// stops; and no call is pending at a node that is down.
+pub fn pending_calls_end()
+    ensures { PendingCallsEnd }
 {}
 
 /// This is about something: as the count of the tried script waits, the Reply to an earlier statement comes once more and changes
