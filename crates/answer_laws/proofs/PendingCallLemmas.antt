@@ -6,6 +6,8 @@ use Rattle.tran_ids.proofs.NumberedLemmas.{set_or_before}
 use Rattle.node_rules.specs.Data.{Answer, Input}
 use Rattle.node_rules.specs.declared.session.Finished.{Finished}
 use Rattle.node_rules.specs.NodeState.{NodeState, TurnOutput}
+use Rattle.node_rules.specs.declared.session.PendingCall.TheVariants as pending
+use Rattle.node_rules.specs.Sessions.{session_at}
 use Rattle.node_rules.specs.Turn.{turn_of}
 use Rattle.node_rules.specs.Words.{numbered, set_numbered}
 use Rattle.run_rules.specs.Calls.{call_at, is_call_at}
@@ -19,7 +21,7 @@ use Rattle.run_rules.specs.Scripts.{IsTheRunOf}
 use Rattle.run_rules.proofs.AtNodeLemmas.{turn_elsewhere, turn_here}
 use Rattle.run_base_laws.proofs.LawfulLemmas.{turn_of_node}
 use Rattle.run_claims.specs.Places.{past_upto}
-use Rattle.run_ready_laws.proofs.CallEndLemmas.{is_ended, pends_at, same_number}
+use Rattle.run_ready_laws.proofs.CallEndLemmas.{is_ended, is_pending, pends_at, same_number}
 use Rattle.run_ready_laws.proofs.PendingLemmas.{IsOf, at_parts, called_at, follows_at, found_so, none_called, there_called}
 use Rattle.run_ready_laws.proofs.RunLawfulLemmas.{the_run_is_lawful}
 use Rattle.run_ready_laws.proofs.StandCallLemmas.{CallsStand, is_fresh, is_own}
@@ -27,9 +29,10 @@ use Rattle.run_ready_laws.proofs.TurnCallLemmas.{TurnLeaves, made_by, turn_leave
 use Rattle.answer_origin_laws.specs.CallTurns.{CameBefore, IsYetToCome}
 use Rattle.answer_origin_laws.proofs.CallTurnLemmas.{all_so, pending_calls_came}
 use Rattle.answer_origin_laws.proofs.UptoLemmas.{facts_there, may_at, next_is, one_more, stand_at}
+use Rattle.tree_trail_laws.proofs.CallLemmas.{call_free}
 use Rattle.answer_laws.specs.EndLaws.{EndsFor, Is_own, Was_commit, EndsFew, Ends_none, Ends_one, Ends_forced}
 use Rattle.answer_laws.specs.PendingCalls.{IsOut, EndsInTurn, Becomes, Stays_out, Its_node_is_down, Is_ended, PendingCallsEnd}
-use Rattle.answer_laws.proofs.EndRunLemmas.{few_at}
+use Rattle.answer_laws.proofs.EndRunLemmas.{causes_end_statements, few_at}
 
 -- each call that a turn ends does so for a cause
 each_for : (f : Facts) (k : NodeState) (input : Input) {xs : List Finished} → EndsFew f k input xs → (number : ℕ) (x : Finished) → slice_get xs number ≡ Some x → EndsFor f k input x
@@ -198,6 +201,10 @@ module _ (t : History) (run : IsTheRunOf t) where
           answer = found.1;
           ends = found.2;
           cause = each_for (facts_upto t i) k u.input (few_at t (the_run_is_lawful t run) i u there k up_then) found.0 (record { session = s; answer = found.1 }) found.2;
+          uncalled = λ q call. (let free : (session_at k.sessions s).call ≡ pending.NoCall = (call_free (f i) k u.node u.input u.took s q call turn_may.comes).1 in
+              let none : pends_at k.sessions s ≡ false = ap is_pending free in
+              let some : pends_at k.sessions s ≡ true = out_pends i u.node s k up c out in
+              absurd (cc (none, some)));
           over = λ d later. (let yes : pends_at o.after.sessions s ≡ true = out_pends (i + 1) u.node s o.after (node_after i (happenings.Turn u) there u.node s c k up out ∙ node_now false uncut) d later in
               let no : pends_at o.after.sessions s ≡ false = pends_after ∙ none_left (pends_at k.sessions s || made_by u.input s) (is_ended s o.ended) ended in
               absurd (cc (yes, no)));
@@ -251,7 +258,8 @@ module _ (t : History) (run : IsTheRunOf t) where
       by (Some c) at = absurd (let yes : called_at (told i).calls n s ≡ true = there_called n s (told i).calls c at in let no = (stands i).down n down upright s in cc (yes, no))
 
 pub pending_calls_end : PendingCallsEnd
-pending_calls_end t run = (
-  λ i h there n s c k up out. becomes t run i h there n s c k (ap (λ (g : Facts). node_at g n) (facts_there t i) ∙ up) out,
-  λ i n s down upright. down_none t run i n s (ap (λ (g : Facts). node_at g n) (facts_there t i) ∙ down) (λ stops. upright (ap (λ (g : Facts). g.node_to_stop) (sym (facts_there t i)) ∙ stops)),
-)
+pending_calls_end t run = record {
+  become = λ i h there n s c k up out. becomes t run i h there n s c k (ap (λ (g : Facts). node_at g n) (facts_there t i) ∙ up) out;
+  down = λ i n s down upright. down_none t run i n s (ap (λ (g : Facts). node_at g n) (facts_there t i) ∙ down) (λ stops. upright (ap (λ (g : Facts). g.node_to_stop) (sym (facts_there t i)) ∙ stops));
+  statements = causes_end_statements t (the_run_is_lawful t run);
+}

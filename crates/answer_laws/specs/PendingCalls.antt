@@ -1,14 +1,15 @@
 -- How the pending calls of a run end, as the report has them: a call that has come stays pending until a turn of its node ends it
 -- for a cause, or its node stops; and no call is pending at a node that is down. (Database Administrator's Guide, "Distributed
 -- Transactions Concepts": the session that waits for its call.)
-use Rattle.std.specs.Prelude.{◌≡◌, ◌≢◌, ℕ, ◌+◌, false, slice_get, Some, None}
-use Rattle.node_rules.specs.Data.{Answer}
+use Rattle.std.specs.Prelude.{◌≡◌, ◌≢◌, ℕ, ◌+◌, false, slice_get, Option, Some, None}
+use Rattle.node_rules.specs.Data.{Answer, Stmt}
+use Rattle.node_rules.specs.Data.inputs
 use Rattle.node_rules.specs.NodeState.{NodeState}
 use Rattle.node_rules.specs.Turn.{turn_of}
 use Rattle.run_rules.specs.Calls.{call_at}
 use Rattle.run_rules.specs.Data.{Happening, Turn}
 use Rattle.run_rules.specs.Data.happenings
-use Rattle.run_rules.specs.Each.{facts_upto}
+use Rattle.run_rules.specs.Each.{AtEach, facts_upto}
 use Rattle.run_rules.specs.Facts.{node_at, place_at}
 use Rattle.run_rules.specs.Lawful.{History}
 use Rattle.run_rules.specs.RunReport.{Call}
@@ -16,13 +17,15 @@ use Rattle.run_rules.specs.Scripts.{IsTheRunOf}
 use Rattle.run_claims.specs.Places.{past_upto}
 use Rattle.answer_origin_laws.specs.CallTurns.{IsYetToCome}
 use Rattle.answer_laws.specs.EndLaws.{EndsFor}
+use Rattle.answer_laws.specs.StatementEnds.{CauseEndsStatement}
 
 -- A call of a session is out after so many happenings: it is pending, and has come to its node.
 pub record IsOut (t : History) (i node session : ℕ) (c : Call) : Type 0 where
   pub pending : call_at (past_upto t i).run_report node session ≡ Some c
   pub has_come : IsYetToCome (past_upto t i) c → ⊥
 
--- A turn of its node, as the happening of this number, ends the call of a session with an answer, for a cause, and none is out then.
+-- A turn of its node, as the happening of this number, ends the call of a session with an answer, for a cause that is no call of the
+-- session in this turn, and none is out then.
 pub record EndsInTurn (t : History) (i node session : ℕ) (h : Happening) : Type 0 where
   pub turn : Turn
   pub comes : h ≡ happenings.Turn turn
@@ -34,6 +37,7 @@ pub record EndsInTurn (t : History) (i node session : ℕ) (h : Happening) : Typ
   pub answer : Answer
   pub ends : slice_get (turn_of (place_at t.places node) kept turn.input).ended number ≡ Some (record { session = session; answer = answer })
   pub cause : EndsFor (facts_upto t i) kept turn.input (record { session = session; answer = answer })
+  pub uncalled : (s : Option Stmt) → turn.input ≢ inputs.Call session s
   pub over : (d : Call) → IsOut t (i + 1) node session d → ⊥
 
 -- What a happening makes of a call that is out.
@@ -50,6 +54,12 @@ CallsBecome t = (i : ℕ) (h : Happening) → slice_get t.trace i ≡ Some h →
 abbrev pub DownHasNone : History → Type 0
 DownHasNone t = (i node session : ℕ) → node_at (facts_upto t i) node ≡ None → (facts_upto t i).node_to_stop ≢ Some node → call_at (past_upto t i).run_report node session ≡ None
 
+-- How the pending calls of a run end: with the first happening that ends them, and with no other.
+pub record CallsEndFirst (t : History) : Type 0 where
+  pub become : CallsBecome t
+  pub down : DownHasNone t
+  pub statements : AtEach CauseEndsStatement t  -- each cause of a statement that waits ends it in its very turn
+
 -- In the run of a script it is so.
 abbrev pub PendingCallsEnd : Type 0
-PendingCallsEnd = (t : History) → IsTheRunOf t → CallsBecome t × DownHasNone t
+PendingCallsEnd = (t : History) → IsTheRunOf t → CallsEndFirst t

@@ -28,8 +28,9 @@ pub fn causes_end_statements()
     ensures { CausesEndStatements }
 {}
 
-/// In the run of a script a call that has come stays pending until a turn of its node ends it, for one of these causes, or its node
-/// stops; and no call is pending at a node that is down.
+/// In the run of a script a pending call ends with the first happening that ends it, and with no other: one that has come stays
+/// pending until a turn of its node ends it, for a cause, or its node stops; no call is pending at a node that is down; and each
+/// cause of a statement that waits ends it in its very turn.
 pub fn pending_calls_end()
     ensures { PendingCallsEnd }
 {}
