@@ -1,9 +1,10 @@
--- In the run of a script a call that is out stays so until a turn ends it, or its node is down.
+-- In the run of a script a call that is under way stays so until a turn ends it, or its node is down.
 use Rattle.std.proofs.Common.{◌≡◌, ◌≢◌, ◌⊎◌, ℕ, zero, suc, ◌+◌, ◌==◌, ◌&&◌, ◌||◌, not, Bool, true, false, List, [], ◌∷◌, length, Option, Some, None, inl, inr, refl, sym, ap, subst, ◌∙◌, arith}
 use Rattle.std.specs.Prelude.{slice_get}
 use Rattle.std.proofs.lemmas.Bool.{and_from, and_parts, cases_eq, eq-eqb}
 use Rattle.tran_ids.proofs.NumberedLemmas.{set_or_before}
-use Rattle.node_rules.specs.Data.{Answer, Input}
+use Rattle.node_rules.specs.Data.{Answer, Input, Stmt}
+use Rattle.node_rules.specs.Data.inputs
 use Rattle.node_rules.specs.declared.session.Finished.{Finished}
 use Rattle.node_rules.specs.NodeState.{NodeState, TurnOutput}
 use Rattle.node_rules.specs.declared.session.PendingCall.TheVariants as pending
@@ -26,12 +27,12 @@ use Rattle.run_ready_laws.proofs.PendingLemmas.{IsOf, at_parts, called_at, follo
 use Rattle.run_ready_laws.proofs.RunLawfulLemmas.{the_run_is_lawful}
 use Rattle.run_ready_laws.proofs.StandCallLemmas.{CallsStand, is_fresh, is_own}
 use Rattle.run_ready_laws.proofs.TurnCallLemmas.{TurnLeaves, made_by, turn_leaves_so}
-use Rattle.answer_origin_laws.specs.CallTurns.{CameBefore, IsYetToCome}
+use Rattle.answer_origin_laws.specs.CallTurns.{CameBefore, IsYetToCome, TurnOf}
 use Rattle.answer_origin_laws.proofs.CallTurnLemmas.{all_so, pending_calls_came}
 use Rattle.answer_origin_laws.proofs.UptoLemmas.{facts_there, may_at, next_is, one_more, stand_at}
 use Rattle.tree_trail_laws.proofs.CallLemmas.{call_free}
 use Rattle.answer_laws.specs.EndLaws.{EndsFor, Is_own, Was_commit, EndsFew, Ends_none, Ends_one, Ends_forced}
-use Rattle.answer_laws.specs.PendingCalls.{IsOut, EndsInTurn, Becomes, Stays_out, Its_node_is_down, Is_ended, PendingCallsEnd}
+use Rattle.answer_laws.specs.PendingCalls.{IsUnderWay, EndsInTurn, Becomes, Stays_under_way, Its_node_is_down, Is_ended, PendingCallsEnd}
 use Rattle.answer_laws.proofs.EndRunLemmas.{causes_end_statements, few_at}
 
 -- each call that a turn ends does so for a cause
@@ -58,7 +59,7 @@ ended_there s (x ∷ xs) is = by (x.session == s) refl (ended_there s xs)
     by false other later = let more = later (sym (ap (λ q. q || is_ended s xs) other) ∙ is) in (suc more.0, more.1, more.2)
 
 module _ (t : History) (run : IsTheRunOf t) where
-  -- ---- a call that is out is pending at its node
+  -- ---- a call that is under way is pending at its node
 
   module _ (i : ℕ) where
     abbrev p : Past
@@ -114,38 +115,38 @@ module _ (t : History) (run : IsTheRunOf t) where
         heard : pends_at k.sessions s ≡ (called_at told.calls n s && not fresh)
         heard = stands.heard n k up s
 
-        out_pends : (c : Call) → IsOut t i n s c → pends_at k.sessions s ≡ true
-        out_pends c out =
-            heard ∙ and_from (called_at told.calls n s) (not fresh) (there_called n s told.calls c out.pending) (old fresh refl)
+        under_way_pends : (c : Call) → IsUnderWay t i n s c → pends_at k.sessions s ≡ true
+        under_way_pends c way =
+            heard ∙ and_from (called_at told.calls n s) (not fresh) (there_called n s told.calls c way.pending) (old fresh refl)
           where
             old : (q : Bool) → fresh ≡ q → not q ≡ true
-            old true is = absurd (out.has_come (yet_to_come c out.pending is))
+            old true is = absurd (way.has_come (yet_to_come c way.pending is))
             old false is = refl
 
-        pends_out : pends_at k.sessions s ≡ true → (c : Call) × IsOut t i n s c
-        pends_out pends = by (call_at told n s) refl
+        pends_under_way : pends_at k.sessions s ≡ true → (c : Call) × IsUnderWay t i n s c
+        pends_under_way pends = by (call_at told n s) refl
           where
             parts : (called_at told.calls n s ≡ true) × (not fresh ≡ true)
             parts = and_parts (called_at told.calls n s) (not fresh) (sym heard ∙ pends)
 
-            by : (o : Option Call) → call_at told n s ≡ o → (c : Call) × IsOut t i n s c
+            by : (o : Option Call) → call_at told n s ≡ o → (c : Call) × IsUnderWay t i n s c
             by None none = absurd (let no : called_at told.calls n s ≡ false = none_called n s told.calls none in let yes = parts.0 in cc (no, yes))
             by (Some c) at = (c, record { pending = at; has_come = λ yet. (let is : fresh ≡ true = is_fresh_then c at yet in let no : not fresh ≡ false = ap not is in let yes = parts.1 in absurd (cc (no, yes))) })
 
   -- ---- one happening more
 
   -- it is the same call still
-  same_call : (i n s : ℕ) (c d : Call) → IsOut t i n s c → IsOut t (i + 1) n s d → c ≡ d
-  same_call i n s c d out later = by (pending_calls_came t run (i + 1) n s d later.pending)
+  same_call : (i n s : ℕ) (c d : Call) → call_at (past_upto t i).run_report n s ≡ Some c → IsUnderWay t (i + 1) n s d → c ≡ d
+  same_call i n s c d at later = by (pending_calls_came t run (i + 1) n s d later.pending)
     where
       by : IsYetToCome (past_upto t (i + 1)) d ⊎ CameBefore t (i + 1) n s d → c ≡ d
       by (inl yet) = absurd (later.has_come yet)
       by (inr came) =
           let stays : call_at (past_upto t i).run_report n s ≡ Some d = came.stays i (omega (arith, came.before)) (omega arith) in
-          let both : Some c ≡ Some d = sym out.pending ∙ stays in
+          let both : Some c ≡ Some d = sym at ∙ stays in
           cc
 
-  module _ (i : ℕ) (h : Happening) (there : slice_get t.trace i ≡ Some h) (n s : ℕ) (c : Call) (k : NodeState) (up : node_at (f i) n ≡ Some k) (out : IsOut t i n s c) where
+  module _ (i : ℕ) (h : Happening) (there : slice_get t.trace i ≡ Some h) (n s : ℕ) (c : Call) (k : NodeState) (up : node_at (f i) n ≡ Some k) (at : call_at (told i) n s ≡ Some c) where
     may : MayHappen t.places t.commands (f i) h
     may = may_at t run i h there
 
@@ -158,17 +159,17 @@ module _ (t : History) (run : IsTheRunOf t) where
     -- its node keeps it pending
     goes_on : (j : NodeState) → node_at (facts_after t.places t.commands (f i) h) n ≡ Some j → pends_at j.sessions s ≡ true → Becomes t i n s c h
     goes_on j now pends =
-        let still = pends_out (i + 1) n s j (node_after ∙ now) pends in
-        Stays_out (subst (IsOut t (i + 1) n s) (sym (same_call i n s c still.0 out still.1)) still.1)
+        let still = pends_under_way (i + 1) n s j (node_after ∙ now) pends in
+        Stays_under_way (subst (IsUnderWay t (i + 1) n s) (sym (same_call i n s c still.0 at still.1)) still.1)
 
-    same_node : node_at (facts_after t.places t.commands (f i) h) n ≡ node_at (f i) n → Becomes t i n s c h
-    same_node same = goes_on k (same ∙ up) (out_pends i n s k up c out)
+    same_node : node_at (facts_after t.places t.commands (f i) h) n ≡ node_at (f i) n → IsUnderWay t i n s c → Becomes t i n s c h
+    same_node same way = goes_on k (same ∙ up) (under_way_pends i n s k up c way)
 
     falls : node_at (facts_after t.places t.commands (f i) h) n ≡ None → Becomes t i n s c h
     falls down = Its_node_is_down (sym (ap (λ (g : Facts). node_at g n) (facts_there t (i + 1))) ∙ (node_after ∙ down))
 
   -- a turn of its node
-  module _ (i : ℕ) (u : Turn) (there : slice_get t.trace i ≡ Some (happenings.Turn u)) (s : ℕ) (c : Call) (k : NodeState) (up : node_at (f i) u.node ≡ Some k) (out : IsOut t i u.node s c) where
+  module _ (i : ℕ) (u : Turn) (there : slice_get t.trace i ≡ Some (happenings.Turn u)) (s : ℕ) (c : Call) (k : NodeState) (up : node_at (f i) u.node ≡ Some k) (at : call_at (told i) u.node s ≡ Some c) (waits : (pends_at k.sessions s || made_by u.input s) ≡ true) where
     turn_may : MayTurn t.places (f i) u k
     turn_may = turn_of_node t.places (f i) u k t.commands (may_at t run i (happenings.Turn u) there) up
 
@@ -201,11 +202,7 @@ module _ (t : History) (run : IsTheRunOf t) where
           answer = found.1;
           ends = found.2;
           cause = each_for (facts_upto t i) k u.input (few_at t (the_run_is_lawful t run) i u there k up_then) found.0 (record { session = s; answer = found.1 }) found.2;
-          uncalled = λ q call. (let free : (session_at k.sessions s).call ≡ pending.NoCall = (call_free (f i) k u.node u.input u.took s q call turn_may.comes).1 in
-              let none : pends_at k.sessions s ≡ false = ap is_pending free in
-              let some : pends_at k.sessions s ≡ true = out_pends i u.node s k up c out in
-              absurd (cc (none, some)));
-          over = λ d later. (let yes : pends_at o.after.sessions s ≡ true = out_pends (i + 1) u.node s o.after (node_after i (happenings.Turn u) there u.node s c k up out ∙ node_now false uncut) d later in
+          over = λ d later. (let yes : pends_at o.after.sessions s ≡ true = under_way_pends (i + 1) u.node s o.after (node_after i (happenings.Turn u) there u.node s c k up at ∙ node_now false uncut) d later in
               let no : pends_at o.after.sessions s ≡ false = pends_after ∙ none_left (pends_at k.sessions s || made_by u.input s) (is_ended s o.ended) ended in
               absurd (cc (yes, no)));
         }
@@ -215,38 +212,60 @@ module _ (t : History) (run : IsTheRunOf t) where
         none_left false b is = refl
 
     turn_becomes : (cut : Bool) → u.cut ≡ cut → (q : Bool) → is_ended s o.ended ≡ q → Becomes t i u.node s c (happenings.Turn u)
-    turn_becomes true is q ended = falls i (happenings.Turn u) there u.node s c k up out (node_now true is)
+    turn_becomes true is q ended = falls i (happenings.Turn u) there u.node s c k up at (node_now true is)
     turn_becomes false is true ended = Is_ended (ends_it ended is)
     turn_becomes false is false ended =
-        goes_on i (happenings.Turn u) there u.node s c k up out o.after (node_now false is)
-        (pends_after ∙ still_left (pends_at k.sessions s) (made_by u.input s) (is_ended s o.ended) (out_pends i u.node s k up c out) ended)
-      where
-        still_left : (a b e : Bool) → a ≡ true → e ≡ false → ((a || b) && not e) ≡ true
-        still_left true b e was none = ap not none
-        still_left false b e was none = absurd cc
+        goes_on i (happenings.Turn u) there u.node s c k up at o.after (node_now false is) (pends_after ∙ and_from (pends_at k.sessions s || made_by u.input s) (not (is_ended s o.ended)) waits (ap not ended))
 
   -- a node that is set
   set_elsewhere : (g : Facts) (m n : ℕ) (o : Option NodeState) → m ≢ n → flat (numbered (set_numbered g.nodes m o) n) ≡ node_at g n
   set_elsewhere g m n o apart = elim (set_or_before g.nodes m n o) [ inl same ↦ ap flat same | inr new ↦ absurd (apart new.0) ]
 
-  becomes : (i : ℕ) (h : Happening) → slice_get t.trace i ≡ Some h → (n s : ℕ) (c : Call) (k : NodeState) → node_at (f i) n ≡ Some k → IsOut t i n s c → Becomes t i n s c h
+  -- a turn of the node of the call
+  turn_here_becomes : (i : ℕ) (u : Turn) → slice_get t.trace i ≡ Some (happenings.Turn u) → (n s : ℕ) (c : Call) (k : NodeState) → u.node ≡ n → node_at (f i) n ≡ Some k → call_at (told i) n s ≡ Some c
+      → (pends_at k.sessions s || made_by u.input s) ≡ true → Becomes t i n s c (happenings.Turn u)
+  turn_here_becomes i u there n s c k here up at waits =
+      subst (λ m. node_at (f i) m ≡ Some k → call_at (told i) m s ≡ Some c → Becomes t i m s c (happenings.Turn u)) here
+      (λ up_here at_here. turn_becomes i u there s c k up_here at_here waits u.cut refl (is_ended s (turn_of (place_at t.places u.node) k u.input).ended) refl) up at
+
+  becomes : (i : ℕ) (h : Happening) → slice_get t.trace i ≡ Some h → (n s : ℕ) (c : Call) (k : NodeState) → node_at (f i) n ≡ Some k → IsUnderWay t i n s c → Becomes t i n s c h
   unfolding facts_after
-  becomes i (happenings.Turn u) there n s c k up out = elim (cases_eq u.node n) [
-    | inl here ↦ (subst (λ m. (node_at (f i) m ≡ Some k → IsOut t i m s c → Becomes t i m s c (happenings.Turn u))) here (λ up_here out_here. turn_becomes i u there s c k up_here out_here u.cut refl (is_ended s (turn_of (place_at t.places u.node) k u.input).ended) refl) up out)
-    | inr apart ↦ same_node i (happenings.Turn u) there n s c k up out (turn_elsewhere t.places t.commands (f i) (stand_at t run i).born.0.0.even u n apart).0
+  becomes i (happenings.Turn u) there n s c k up way = elim (cases_eq u.node n) [
+    | inl here ↦ turn_here_becomes i u there n s c k here up way.pending (ap (λ q. q || made_by u.input s) (under_way_pends i n s k up c way))
+    | inr apart ↦ same_node i (happenings.Turn u) there n s c k up way.pending (turn_elsewhere t.places t.commands (f i) (stand_at t run i).born.0.0.even u n apart).0 way
   ]
-  becomes i (happenings.Stopped m) there n s c k up out = elim (set_or_before (f i).nodes m n None) [
-    | inl same ↦ same_node i (happenings.Stopped m) there n s c k up out (ap flat same)
-    | inr new ↦ falls i (happenings.Stopped m) there n s c k up out (ap flat new.1)
+  becomes i (happenings.Stopped m) there n s c k up way = elim (set_or_before (f i).nodes m n None) [
+    | inl same ↦ same_node i (happenings.Stopped m) there n s c k up way.pending (ap flat same) way
+    | inr new ↦ falls i (happenings.Stopped m) there n s c k up way.pending (ap flat new.1)
   ]
-  becomes i (happenings.Started m boot) there n s c k up out = elim (cases_eq m n) [
+  becomes i (happenings.Started m boot) there n s c k up way = elim (cases_eq m n) [
     | inl here ↦ (let down : node_at (f i) m ≡ None = (may_at t run i (happenings.Started m boot) there).down in absurd (let none : node_at (f i) n ≡ None = subst (λ j. node_at (f i) j ≡ None) here down in cc (none, up)))
-    | inr apart ↦ same_node i (happenings.Started m boot) there n s c k up out (set_elsewhere (f i) m n _ apart)
+    | inr apart ↦ same_node i (happenings.Started m boot) there n s c k up way.pending (set_elsewhere (f i) m n _ apart) way
   ]
-  becomes i (happenings.Begun b) there n s c k up out = same_node i (happenings.Begun b) there n s c k up out refl
-  becomes i (happenings.Cut a b) there n s c k up out = same_node i (happenings.Cut a b) there n s c k up out refl
-  becomes i (happenings.Join a b) there n s c k up out = same_node i (happenings.Join a b) there n s c k up out refl
-  becomes i (happenings.Lost x) there n s c k up out = same_node i (happenings.Lost x) there n s c k up out refl
+  becomes i (happenings.Begun b) there n s c k up way = same_node i (happenings.Begun b) there n s c k up way.pending refl way
+  becomes i (happenings.Cut a b) there n s c k up way = same_node i (happenings.Cut a b) there n s c k up way.pending refl way
+  becomes i (happenings.Join a b) there n s c k up way = same_node i (happenings.Join a b) there n s c k up way.pending refl way
+  becomes i (happenings.Lost x) there n s c k up way = same_node i (happenings.Lost x) there n s c k up way.pending refl way
+
+  -- a call that comes
+  comes_becomes : (i : ℕ) (h : Happening) → slice_get t.trace i ≡ Some h → (n s : ℕ) (c : Call) (k : NodeState) → node_at (f i) n ≡ Some k → TurnOf t i n s c → Becomes t i n s c h
+  comes_becomes i h there n s c k up it =
+      let both : Some (happenings.Turn it.turn) ≡ Some h = sym it.there ∙ there in
+      let same : happenings.Turn it.turn ≡ h = cc in
+      let made : made_by it.turn.input s ≡ true = ap (λ j. made_by j s) it.came ∙ eq-eqb s s refl in
+      subst (Becomes t i n s c) same (turn_here_becomes i it.turn it.there n s c k it.here up it.pending (or_second (pends_at k.sessions s) (made_by it.turn.input s) made))
+    where
+      or_second : (a b : Bool) → b ≡ true → (a || b) ≡ true
+      or_second true b is = refl
+      or_second false b is = is
+
+  uncalled : (i : ℕ) (u : Turn) → slice_get t.trace i ≡ Some (happenings.Turn u) → (s : ℕ) (c : Call) → IsUnderWay t i u.node s c → (q : Option Stmt) → u.input ≢ inputs.Call s q
+  uncalled i u there s c way q call =
+      let may = may_at t run i (happenings.Turn u) there in
+      let free : (session_at may.0.sessions s).call ≡ pending.NoCall = (call_free (f i) may.0 u.node u.input u.took s q call may.1.comes).1 in
+      let none : pends_at may.0.sessions s ≡ false = ap is_pending free in
+      let some : pends_at may.0.sessions s ≡ true = under_way_pends i u.node s may.0 may.1.up c way in
+      absurd (cc (none, some))
 
   -- ---- a node that is down
 
@@ -259,7 +278,8 @@ module _ (t : History) (run : IsTheRunOf t) where
 
 pub pending_calls_end : PendingCallsEnd
 pending_calls_end t run = record {
-  become = λ i h there n s c k up out. becomes t run i h there n s c k (ap (λ (g : Facts). node_at g n) (facts_there t i) ∙ up) out;
+  become = λ i h there n s c k up it. (let up_here = ap (λ (g : Facts). node_at g n) (facts_there t i) ∙ up in elim it [ inl way ↦ becomes t run i h there n s c k up_here way | inr comes ↦ comes_becomes t run i h there n s c k up_here comes ]);
+  alone = uncalled t run;
   down = λ i n s down upright. down_none t run i n s (ap (λ (g : Facts). node_at g n) (facts_there t i) ∙ down) (λ stops. upright (ap (λ (g : Facts). g.node_to_stop) (sym (facts_there t i)) ∙ stops));
   statements = causes_end_statements t (the_run_is_lawful t run);
 }

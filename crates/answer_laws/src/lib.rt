@@ -28,9 +28,9 @@ pub fn causes_end_statements()
     ensures { CausesEndStatements }
 {}
 
-/// In the run of a script a pending call ends with the first happening that ends it, and with no other: one that has come stays
-/// pending until a turn of its node ends it, for a cause, or its node stops; no call is pending at a node that is down; and each
-/// cause of a statement that waits ends it in its very turn.
+/// In the run of a script a call ends with the first happening that ends it, and with no other: from the turn in which it comes it
+/// is pending until a turn of its node ends it, for a cause, or its node stops; no other call comes to its session meanwhile, and
+/// none is pending at a node that is down; and each cause of a statement that waits ends it in its very turn.
 pub fn pending_calls_end()
     ensures { PendingCallsEnd }
 {}
