@@ -8,6 +8,8 @@ pub mod CommitCallLemmas
 pub mod LastCallLemmas
 pub mod EndingLemmas
 pub mod EndRunLemmas
+pub mod LinkLemmas
+pub mod LinkRunLemmas
 pub mod PendingCallLemmas
 pub mod AnswerPlaceLemmas
 mod TriedAnswersLemmas

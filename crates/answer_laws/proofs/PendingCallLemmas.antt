@@ -33,6 +33,7 @@ use Rattle.answer_origin_laws.proofs.UptoLemmas.{facts_there, may_at, next_is, o
 use Rattle.tree_trail_laws.proofs.CallLemmas.{call_free}
 use Rattle.answer_laws.specs.EndLaws.{EndsFor, Is_own, Was_commit, EndsFew, Ends_none, Ends_one, Ends_forced}
 use Rattle.answer_laws.specs.PendingCalls.{IsUnderWay, EndsInTurn, Becomes, Stays_under_way, Its_node_is_down, Is_ended, PendingCallsEnd}
+use Rattle.answer_laws.proofs.LinkRunLemmas.{statements_wait_for_their_links}
 use Rattle.answer_laws.proofs.EndRunLemmas.{causes_end_statements, few_at}
 
 -- each call that a turn ends does so for a cause
@@ -282,4 +283,5 @@ pending_calls_end t run = record {
   alone = uncalled t run;
   down = λ i n s down upright. down_none t run i n s (ap (λ (g : Facts). node_at g n) (facts_there t i) ∙ down) (λ stops. upright (ap (λ (g : Facts). g.node_to_stop) (sym (facts_there t i)) ∙ stops));
   statements = causes_end_statements t (the_run_is_lawful t run);
+  links = statements_wait_for_their_links t (the_run_is_lawful t run);
 }

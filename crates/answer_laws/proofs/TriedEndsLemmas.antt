@@ -11,4 +11,4 @@ use Rattle.tree_laws.proofs.Trying.{trying}
 
 pub the_tried_ends : TheTriedEnds
 unfolding trying turn_of passes point_of cut_by struck after_append due_of runs_on next
-the_tried_ends = record { waits = refl; sent = refl; still = refl; old = refl; answered = refl; gone = refl; given_up = refl; over = refl }
+the_tried_ends = record { waits = refl; sent = refl; still = refl; old = refl; answered = refl; gone = refl; given_up = refl; over = refl; command = refl; no_more = refl }

@@ -35,7 +35,7 @@ is_commit_call pending.NoCall is = absurd cc
 is_commit_call pending.Statement is = absurd cc
 is_commit_call pending.Commit is = refl
 
-no_exec : {input : Input} {n : ℕ} {s : Option Stmt} (k : NodeState) → input ≡ inputs.Call n s → ExecsBelow input k
+pub no_exec : {input : Input} {n : ℕ} {s : Option Stmt} (k : NodeState) → input ≡ inputs.Call n s → ExecsBelow input k
 no_exec {n = n} {s = q} k call from to number given advice s came l live none = let both : inputs.Call n q ≡ inputs.Message _ = sym call ∙ came.is in absurd cc
 
 -- a message is no call

@@ -17,6 +17,7 @@ use Rattle.run_rules.specs.Scripts.{IsTheRunOf}
 use Rattle.run_claims.specs.Places.{past_upto}
 use Rattle.answer_origin_laws.specs.CallTurns.{IsYetToCome, TurnOf}
 use Rattle.answer_laws.specs.EndLaws.{EndsFor}
+use Rattle.answer_laws.specs.LinkLaws.{StatementsHaveTheirLinks}
 use Rattle.answer_laws.specs.StatementEnds.{CauseEndsStatement}
 
 -- A call of a session is under way after so many happenings: it is pending, and has come to its node.
@@ -63,6 +64,7 @@ pub record CallsEndFirst (t : History) : Type 0 where
   pub alone : NoneComesMeanwhile t
   pub down : DownHasNone t
   pub statements : AtEach CauseEndsStatement t  -- each cause of a statement that waits ends it in its very turn
+  pub links : StatementsHaveTheirLinks t  -- and DTX-03 and DTX-08 name the link of its table
 
 -- In the run of a script it is so.
 abbrev pub PendingCallsEnd : Type 0

@@ -16,14 +16,23 @@ use Rattle.node_rules.specs.Turn.{turn_of}
 use Rattle.node_rules.specs.Words.{one}
 use Rattle.run_rules.specs.Due.{runs_on}
 use Rattle.run_rules.specs.Facts.{Facts, node_at, place_at}
-use Rattle.run_rules.specs.RunReport.{start}
+use Rattle.run_rules.specs.Calls.{call_at}
+use Rattle.run_rules.specs.RunReport.{Call, Past, start}
 use Rattle.run_base_laws.specs.InTurnLaws.{said_in}
 use Rattle.answer_laws.specs.StatementEnds.{last_sent_down}
 use Rattle.answer_laws.specs.TriedAnswers.{places, asked, count}
 
--- the facts after so many happenings
+-- what so many happenings leave
+abbrev pub past : ℕ → Past
+past n = runs_on places asked (replicate n 0) (start places)
+
+-- the facts of that
 abbrev pub after : ℕ → Facts
-after n = (runs_on places asked (replicate n 0) (start places)).facts
+after n = (past n).facts
+
+-- the command whose call is pending for R's session 1
+abbrev pub its_command : Past → Option ℕ
+its_command p = option_map (λ (c : Call). c.command) (call_at p.run_report 1 1)
 
 -- R's transaction
 abbrev pub root : BranchId
@@ -59,3 +68,5 @@ pub record TheTriedEnds : Type 0 where
   pub gone : would_end (reply 2 (answers.Refused (dtx 8 []))) ≡ ends_with (answers.Refused (dtx 8 (one (codes "LA"))))
   pub given_up : would_end (inputs.GiveUp 1) ≡ ends_with (answers.Refused (dtx 3 (one (codes "LA"))))
   pub over : its_call (after 33) ≡ Some pending.NoCall
+  pub command : its_command (past 27) ≡ Some 11
+  pub no_more : its_command (past 33) ≡ None

@@ -4,6 +4,7 @@
 
 ghost use Rattle.run_claims.specs.Headline.{EveryAnswerHasItsPlace};
 ghost use Rattle.answer_laws.specs.EndLaws.{CallsEndForCause, PendingCommitsCame};
+ghost use Rattle.answer_laws.specs.LinkLaws.{StatementsWaitForTheirLinks};
 ghost use Rattle.answer_laws.specs.PendingCalls.{PendingCallsEnd};
 ghost use Rattle.answer_laws.specs.StatementEnds.{CausesEndStatements, StatementsEndForCause};
 ghost use Rattle.answer_laws.specs.TriedAnswers.{TheTriedAnswers};
@@ -28,9 +29,15 @@ pub fn causes_end_statements()
     ensures { CausesEndStatements }
 {}
 
+/// The link that DTX-03 and DTX-08 name is the one that the name of the statement's table stands for, at the node of its session.
+pub fn statements_wait_for_their_links()
+    ensures { StatementsWaitForTheirLinks }
+{}
+
 /// In the run of a script a call ends with the first happening that ends it, and with no other: from the turn in which it comes it
 /// is pending until a turn of its node ends it, for a cause, or its node stops; no other call comes to its session meanwhile, and
-/// none is pending at a node that is down; and each cause of a statement that waits ends it in its very turn.
+/// none is pending at a node that is down; and each cause of a statement that waits ends it in its very turn, DTX-03 and DTX-08 with
+/// the link of its table.
 pub fn pending_calls_end()
     ensures { PendingCallsEnd }
 {}
