@@ -1,7 +1,9 @@
 -- How a turn of a lawful run ends a call with an answer that is no refusal.
-use Rattle.std.proofs.Common.{◌≡◌, ℕ, zero, suc, true, false, List, [], ◌∷◌, ◌++◌, length, IfSome, Option, Some, refl, sym, ap, subst, ◌∙◌, arith}
+use Rattle.std.proofs.Common.{◌≡◌, ℕ, zero, suc, true, false, List, [], ◌∷◌, ◌++◌, length, IfSome, Option, Some, None, inl, refl, sym, ap, subst, ◌∙◌, arith}
 use Rattle.std.specs.Prelude.{slice_get, take}
-use Rattle.node_rules.specs.Data.{Answer, BranchId, Input, Place, Stmt}
+use Rattle.node_rules.specs.Calls.{heard_answer, hears_reply}
+use Rattle.node_rules.specs.Data.{Answer, BranchId, Edge, Input, Refusal, Stmt}
+use Rattle.node_rules.specs.Data.answers
 use Rattle.node_rules.specs.Data.inputs
 use Rattle.node_rules.specs.Data.kinds
 use Rattle.node_rules.specs.Data.stmts
@@ -9,32 +11,41 @@ use Rattle.node_rules.specs.declared.session.Finished.{Finished}
 use Rattle.node_rules.specs.declared.session.PendingCall.TheVariants as pending
 use Rattle.node_rules.specs.declared.session.Session.{Session}
 use Rattle.node_rules.specs.Inputs.{Came}
-use Rattle.node_rules.specs.NodeState.{NodeState, TurnOutput}
+use Rattle.node_rules.specs.NodeState.{NodeState, Branch, TurnOutput, branch_at}
+use Rattle.node_rules.specs.Refusals.{dtx}
 use Rattle.node_rules.specs.Sessions.{session_at}
 use Rattle.node_rules.specs.Turn.{turn_of, heard, draft_of}
+use Rattle.node_rules.specs.Words.{one}
 use Rattle.node_rules.proofs.HeardLemmas.{sessions_heard}
+use Rattle.node_rules.proofs.Steps as steps
 use Rattle.run_rules.specs.Births.{births_of}
 use Rattle.run_rules.specs.Data.{Turn, Happening}
 use Rattle.run_rules.specs.Data.happenings
 use Rattle.run_rules.specs.Each.{facts_upto}
-use Rattle.run_rules.specs.Facts.{node_at, place_at, served, outcome_at}
+use Rattle.run_rules.specs.Facts.{Facts, node_at, served, outcome_at}
 use Rattle.run_rules.specs.Lawful.{History, IsLawfulRun}
+use Rattle.run_base_laws.specs.InTurnLaws.{said_in}
 use Rattle.run_base_laws.specs.RunEvents.{events_of}
 use Rattle.run_rules.specs.Runs.{is_of_rows, is_accepted}
 use Rattle.run_base_laws.proofs.BirthRunLemmas.{run_births}
 use Rattle.run_base_laws.proofs.LawfulLemmas.{serves}
-use Rattle.run_base_laws.proofs.RestLemmas.{Before}
+use Rattle.run_base_laws.proofs.RestLemmas.{Before, branch_root}
 use Rattle.run_base_laws.proofs.RestRunLemmas.{NodeRests, heard_rests, heard_before, before_so, run_roots}
+use Rattle.run_base_laws.proofs.RestStepLemmas.{going_of}
+use Rattle.run_base_laws.proofs.RootLemmas.{SessionsFit}
+use Rattle.tree_laws.proofs.AtTurn.{at_turn}
 use Rattle.tree_laws.proofs.PrefixLemmas.{f_at}
 use Rattle.tree_laws.proofs.TimeLemmas.{may_of}
 use Rattle.tree_trail_laws.proofs.CallLemmas.{call_free}
 use Rattle.answer_origin_laws.proofs.NoCallLemmas.{all_since, many_since, no_call_since}
 use Rattle.answer_origin_laws.proofs.PartLemmas.{split_at}
 use Rattle.answer_origin_laws.proofs.ReplyRunLemmas.{prefix, happens_at}
+use Rattle.answer_laws.proofs.AtWorkRunLemmas.{branch_works}
 use Rattle.answer_laws.proofs.CommitCallLemmas.{CommitCame, commits_came}
-use Rattle.answer_laws.specs.EndLaws.{EndsFor, Is_refused, Is_own, Is_replied, Was_commit, forces_outcome, EndsFew, Ends_none, Ends_one, Ends_forced, CallsEndForCause, LastCall, PendingCommitsCame}
-use Rattle.answer_laws.proofs.WhyEndsLemmas.{few_on}
-use Rattle.tree_laws.proofs.AtTurn.{at_turn}
+use Rattle.answer_laws.proofs.StatementEndLemmas.{going_statement, heard_branch, its_link, reply_cause}
+use Rattle.answer_laws.proofs.WhyEndsLemmas.{Finds, few_on}
+use Rattle.answer_laws.specs.EndLaws.{EndsFor, Is_own, Is_statement, Was_commit, forces_outcome, EndsFew, Ends_none, Ends_one, Ends_forced, LastCall, PendingCommitsCame}
+use Rattle.answer_laws.specs.StatementEnds.{CauseNow, Is_answered, Branch_is_gone, Is_given_up, link_waited}
 
 -- How a call of a session ends with an answer that is no refusal.
 pub data Ending (input : Input) (ss : List Session) (fs : List Finished) (session : ℕ) (a : Answer) : Type 0 where
@@ -48,60 +59,93 @@ force_rows (stmts.CommitForce id scn) is = refl
 force_rows (stmts.RollbackForce id) is = refl
 force_rows _ is = absurd cc
 
-module _ (input : Input) (ss : List Session) (session : ℕ) (a : Answer) (good : is_accepted (Some a) ≡ true) where
+-- what is accepted is no refusal
+not_refused : (a b : Answer) (r : Refusal) → is_accepted (Some a) ≡ true → b ≡ a → b ≡ answers.Refused r → ⊥
+not_refused a b r good same refused = let none : is_accepted (Some a) ≡ false = ap (λ (x : Answer). is_accepted (Some x)) (sym same ∙ refused) in cc (none, good)
+
+module _ (f : Facts) (k : NodeState) (input : Input) (session : ℕ) (a : Answer) (good : is_accepted (Some a) ≡ true) where
   abbrev its : Finished
   its = record { session = session; answer = a }
 
-  ending_for : (f : Finished) → f ≡ its → EndsFor input ss f → Ending input ss (f ∷ []) session a
-  ending_for f is (Is_refused refused) = absurd (let it : is_accepted (Some a) ≡ false = ap (λ (g : Finished). is_accepted (Some g.answer)) (sym is) ∙ refused in cc (it, good))
-  ending_for f is (Is_own text own) = By_call text (own ∙ ap (λ (g : Finished). inputs.Call g.session text) is) (λ s some rows. ap (λ g. g ∷ []) is)
-  ending_for f is (Is_replied from to call weight count said came) = By_reply from to call weight count said came (ap (λ g. g ∷ []) is)
-  ending_for f is (Was_commit commits) = By_commit (ap (λ (g : Finished). (session_at ss g.session).call) (sym is) ∙ commits)
+  by_statement : (x : Finished) → x ≡ its → (g : BranchId) → CauseNow f k g input x.answer → Ending input k.sessions (x ∷ []) session a
+  by_statement x is g (Is_answered last other) = By_reply last.child g last.call last.weight last.count x.answer last.came (ap (λ y. y ∷ []) is)
+  by_statement x is g (Branch_is_gone refused last gone refuses) = absurd (not_refused a x.answer _ good (ap (λ (y : Finished). y.answer) is) refuses)
+  by_statement x is g (Is_given_up gives refuses) = absurd (not_refused a x.answer _ good (ap (λ (y : Finished). y.answer) is) refuses)
 
-  only : {fs : List Finished} → EndsFew input ss fs → (number : ℕ) → slice_get fs number ≡ Some its → Ending input ss fs session a
+  ending_for : (x : Finished) → x ≡ its → EndsFor f k input x → Ending input k.sessions (x ∷ []) session a
+  ending_for x is (Is_own text own) = By_call text (own ∙ ap (λ (y : Finished). inputs.Call y.session text) is) (λ s some rows. ap (λ y. y ∷ []) is)
+  ending_for x is (Is_statement g same pends cause) = by_statement x is g cause
+  ending_for x is (Was_commit commits) = By_commit (ap (λ (y : Finished). (session_at k.sessions y.session).call) (sym is) ∙ commits)
+
+  only : {xs : List Finished} → EndsFew f k input xs → (number : ℕ) → slice_get xs number ≡ Some its → Ending input k.sessions xs session a
   only Ends_none zero at = absurd cc
   only Ends_none (suc i) at = absurd cc
-  only (Ends_one f why) zero at = let it : Some f ≡ Some its = at in let one : f ≡ its = cc in ending_for f one why
-  only (Ends_one f why) (suc zero) at = absurd cc
-  only (Ends_one f why) (suc (suc i)) at = absurd cc
-  only (Ends_forced f n s b refused commits call forces) zero at =
-      let it : Some f ≡ Some its = at in let one : f ≡ its = cc in absurd (let none : is_accepted (Some a) ≡ false = ap (λ (x : Finished). is_accepted (Some x.answer)) (sym one) ∙ refused in cc (none, good))
-  only (Ends_forced f n s b refused commits call forces) (suc zero) at =
+  only (Ends_one x why) zero at = let it : Some x ≡ Some its = at in let one_call : x ≡ its = cc in ending_for x one_call why
+  only (Ends_one x why) (suc zero) at = absurd cc
+  only (Ends_one x why) (suc (suc i)) at = absurd cc
+  only (Ends_forced x n s b refused commits call forces) zero at =
+      let it : Some x ≡ Some its = at in let one_call : x ≡ its = cc in absurd (let none : is_accepted (Some a) ≡ false = ap (λ (y : Finished). is_accepted (Some y.answer)) (sym one_call) ∙ refused in cc (none, good))
+  only (Ends_forced x n s b refused commits call forces) (suc zero) at =
       let it : Some (record { session = n; answer = b }) ≡ Some its = at in
-      let one : record { session = n; answer = b } ≡ its = cc in
-      By_call (Some s) (call ∙ ap (λ (x : Finished). inputs.Call x.session (Some s)) one)
+      let one_call : record { session = n; answer = b } ≡ its = cc in
+      By_call (Some s) (call ∙ ap (λ (y : Finished). inputs.Call y.session (Some s)) one_call)
       (λ q same rows. absurd (let it : Some s ≡ Some q = same in let here : s ≡ q = cc in let none : is_of_rows q ≡ false = ap is_of_rows (sym here) ∙ force_rows s forces in cc (none, rows)))
-  only (Ends_forced f n s b refused commits call forces) (suc (suc zero)) at = absurd cc
-  only (Ends_forced f n s b refused commits call forces) (suc (suc (suc i))) at = absurd cc
+  only (Ends_forced x n s b refused commits call forces) (suc (suc zero)) at = absurd cc
+  only (Ends_forced x n s b refused commits call forces) (suc (suc (suc i))) at = absurd cc
 
 module _ (t : History) (whole : IsLawfulRun t) (hs : List Happening) (u : Turn) (rest : List Happening) (is : hs ++ happenings.Turn u ∷ rest ≡ t.trace) where
-  open at_turn t whole hs u rest is use {part as part0, s as s0, lawful as lawful0, may, k}
+  open at_turn t whole hs u rest is use {part as part0, s as s0, lawful as lawful0, f as f0, may, k, p}
 
   -- what its node keeps as it comes
   abbrev pub kept_there : NodeState
   kept_there = may.0
 
-  rests : NodeRests (heard k u.input)
-  rests = heard_rests k u.input (subst (λ o. IfSome o NodeRests) may.1.up (run_roots s0 lawful0 u.node))
+  rests : NodeRests k
+  rests = subst (λ o. IfSome o NodeRests) may.1.up (run_roots s0 lawful0 u.node)
 
   before : Before u.input (heard k u.input)
-  before = heard_before k u.input u.input (before_so t.places t.commands t.of_a_script.each (f_at t hs) (events_of s0) (births_of s0) (run_births s0 lawful0) (run_roots s0 lawful0) u k may.1)
+  before = heard_before k u.input u.input (before_so t.places t.commands t.of_a_script.each f0 (events_of s0) (births_of s0) (run_births s0 lawful0) (run_roots s0 lawful0) u k may.1)
+
+  fit : SessionsFit (heard k u.input)
+  fit = (heard_rests k u.input rests).0
+
+  live_there : (x : Branch) → branch_at (heard k u.input) x.live.me ≡ Some x → branch_at k x.live.me ≡ Some x
+  live_there x live = sym (heard_branch k u.input x.live.me) ∙ live
+
+  -- the Reply that a root hears ends its statement
+  reply_for_root : (x : Branch) (weight : Option ℕ) (count : ℕ) (a : Answer) (i : ℕ) (e : Edge) → steps.Is_answered (heard k u.input) u.input x weight count a i e → x.live.parent ≡ None
+      → EndsFor f0 k u.input (record { session = x.live.me.session; answer = heard_answer (hears_reply x i weight count e).live e.link a })
+  reply_for_root x weight count a i e answered root =
+      let live : branch_at k x.live.me ≡ Some x = live_there x answered.live in
+      let going = going_of x answered.from answered.call i e answered.waits in
+      let is = branch_root k rests.1 x live root in
+      let sent = (branch_works s0 lawful0 u.node k may.1.up x live).sent in
+      Is_statement x.live.me refl (record { root = is.root; call = going_statement (session_at k.sessions x.live.me.session).call x.live.phase x.work.going going.0 is.waits going.1 })
+      (reply_cause (said_in f0) u.input (heard k u.input) x weight count a i e answered sent (link_waited (branch_at k x.live.me)) (ap link_waited live ∙ its_link (said_in f0) u.input (heard k u.input) x weight count a i e answered sent) root)
+
+  finds : Finds f0 k p u.input (heard k u.input)
+  finds = record {
+    commit = λ m is. inl (subst (λ ss. (session_at ss m).call ≡ pending.Commit) (sessions_heard k u.input) is);
+    reply = reply_for_root;
+    given = λ n x gives has waits live. (let at : x.live.me.session ≡ n = fit.roots.each n x.live.me has in
+        Is_statement x.live.me at (record {
+          root = subst (λ m. (session_at k.sessions m).root ≡ Some x.live.me) (sym at) (subst (λ ss. (session_at ss n).root ≡ Some x.live.me) (sessions_heard k u.input) has);
+          call = subst (λ m. (session_at k.sessions m).call ≡ pending.Statement) (sym at) (subst (λ ss. (session_at ss n).call ≡ pending.Statement) (sessions_heard k u.input) waits);
+        }) (Is_given_up (gives ∙ ap inputs.GiveUp (sym at)) (ap (λ o. answers.Refused (dtx 3 (one (link_waited o)))) (sym (live_there x live)))));
+  }
 
   -- which calls it ends
-  pub turn_few : EndsFew u.input k.sessions (draft_of (place_at t.places u.node) k u.input).ended
-  turn_few =
-      let p : Place = place_at t.places u.node in
-      subst (λ ss. EndsFew u.input ss (draft_of p k u.input).ended) (sessions_heard k u.input) (few_on p u.input (serves t.places (f_at t hs) u k may.1).step rests.0 before.asked)
+  pub turn_few : EndsFew f0 k u.input (draft_of p k u.input).ended
+  turn_few = few_on f0 k p u.input (serves t.places f0 u k may.1).step fit before.asked finds
 
   -- and how
-  pub turn_ends : (o : TurnOutput) → outcome_at t.places (f_at t hs) u ≡ Some o → (session number : ℕ) (a : Answer) → is_accepted (Some a) ≡ true → slice_get o.ended number ≡ Some (record { session = session; answer = a })
+  pub turn_ends : (o : TurnOutput) → outcome_at t.places f0 u ≡ Some o → (session number : ℕ) (a : Answer) → is_accepted (Some a) ≡ true → slice_get o.ended number ≡ Some (record { session = session; answer = a })
       → Ending u.input k.sessions o.ended session a
   unfolding turn_of
   turn_ends o outcome session number a good at =
-      let p : Place = place_at t.places u.node in
       let both : Some (turn_of p k u.input) ≡ Some o = sym (ap (served p u.input) may.1.up) ∙ outcome in
-      let one : turn_of p k u.input ≡ o = cc in
-      only u.input k.sessions session a good (subst (EndsFew u.input k.sessions) (ap (λ (y : TurnOutput). y.ended) one) turn_few) number at
+      let one_turn : turn_of p k u.input ≡ o = cc in
+      only f0 k u.input session a good (subst (EndsFew f0 k u.input) (ap (λ (y : TurnOutput). y.ended) one_turn) turn_few) number at
 
   -- a COMMIT that is pending is the last call of its session, up to this turn
   pub commit_last : (session : ℕ) → (session_at k.sessions session).call ≡ pending.Commit → (x : LastCall t u.node session (length hs)) × (comment : Option (List ℕ)) × (x.text ≡ Some (stmts.Commit comment))
@@ -137,17 +181,10 @@ module _ (t : History) (whole : IsLawfulRun t) (i : ℕ) (u : Turn) (there : sli
       let both : Some (kept_there t whole at.0 u at.1 at.2) ≡ Some j = sym (may_of t whole at.0 (happenings.Turn u) at.1 at.2).1.up ∙ (ap (λ xs. node_at (f_at t xs) u.node) (sym first) ∙ up) in
       cc
 
-  for_cause : EndsFew u.input j.sessions (turn_of (place_at t.places u.node) j u.input).ended
-  unfolding turn_of
-  for_cause = subst (λ (x : NodeState). EndsFew u.input x.sessions (draft_of (place_at t.places u.node) x u.input).ended) its_kept (turn_few t whole at.0 u at.1 at.2)
-
   commit_came : (session : ℕ) → (session_at j.sessions session).call ≡ pending.Commit → (x : LastCall t u.node session i) × (comment : Option (List ℕ)) × (x.text ≡ Some (stmts.Commit comment))
   commit_came session commits =
       subst (λ m. (x : LastCall t u.node session m) × (comment : Option (List ℕ)) × (x.text ≡ Some (stmts.Commit comment))) at.3
       (commit_last t whole at.0 u at.1 at.2 session (subst (λ (x : NodeState). (session_at x.sessions session).call ≡ pending.Commit) (sym its_kept) commits))
-
-pub calls_end_for_cause : CallsEndForCause
-calls_end_for_cause t whole i u there k up = for_cause t whole i u there k up
 
 pub pending_commits_came : PendingCommitsCame
 pending_commits_came t whole i u there k up session commits = commit_came t whole i u there k up session commits

@@ -4,14 +4,48 @@
 
 ghost use Rattle.run_claims.specs.Headline.{EveryAnswerHasItsPlace};
 ghost use Rattle.answer_laws.specs.EndLaws.{CallsEndForCause, PendingCommitsCame};
+ghost use Rattle.answer_laws.specs.LinkLaws.{StatementsWaitForTheirLinks};
+ghost use Rattle.answer_laws.specs.PendingCalls.{PendingCallsEnd};
+ghost use Rattle.answer_laws.specs.StatementEnds.{CausesEndStatements, StatementsEndForCause};
 ghost use Rattle.answer_laws.specs.TriedAnswers.{TheTriedAnswers};
+ghost use Rattle.answer_laws.specs.TriedEnds.{TheTriedEnds};
 
 use answer_origin_laws::turns_find_calls_come;
 
-/// A turn of a lawful run ends at most one client's call, and only with a refusal, in the call's own turn, on a Reply, or as a
-/// COMMIT that was pending. Only where a user forces the outcome of a root in doubt does that root's COMMIT end too, refused.
+/// A turn of a lawful run ends at most one client's call: one that came in this turn, one whose statement waited for what
+/// came, or a COMMIT that was pending. Only where a user forces the outcome of a root in doubt does that root's COMMIT end too, refused.
 pub fn calls_end_for_cause()
     ensures { CallsEndForCause }
+{}
+
+/// A statement that waits for another node ends in a turn only where the Reply comes to what its root sent down last, with the
+/// answer of that Reply, or DTX-08 where a branch is gone, or where it is given up, with DTX-03.
+pub fn statements_end_for_cause()
+    ensures { StatementsEndForCause }
+{}
+
+/// Each of these ends it in that very turn, with this answer, and ends no other call: so a statement ends with the first of them.
+pub fn causes_end_statements()
+    ensures { CausesEndStatements }
+{}
+
+/// The link that DTX-03 and DTX-08 name is the one that the name of the statement's table stands for, at the node of its session.
+pub fn statements_wait_for_their_links()
+    ensures { StatementsWaitForTheirLinks }
+{}
+
+/// In the run of a script a call ends with the first happening that ends it, and with no other: from the turn in which it comes it
+/// is pending until a turn of its node ends it, for a cause, or its node stops; no other call comes to its session meanwhile, and
+/// none is pending at a node that is down; and each cause of a statement that waits ends it in its very turn, DTX-03 and DTX-08 with
+/// the link of its table.
+pub fn pending_calls_end()
+    ensures { PendingCallsEnd }
+{}
+
+/// This is about something: as the count of the tried script waits, the Reply to an earlier statement comes once more and changes
+/// nothing, and its own Reply, DTX-08 in it, and its give-up each end it.
+pub fn the_tried_ends()
+    ensures { TheTriedEnds }
 {}
 
 /// A COMMIT that is pending at a node is the last call of its session.

@@ -1,4 +1,4 @@
-use Rattle.answer_laws.proofs.EndingLemmas.{calls_end_for_cause}
+use Rattle.answer_laws.proofs.EndRunLemmas.{calls_end_for_cause}
 use Rattle.answer_laws.proofs.calls_end_for_cause.Goals as goal
 
 pub returns : goal.returns
