@@ -24,6 +24,8 @@ use Rattle.script_run.proofs.ScriptLemmas.{of_a_script}
 use Rattle.world.specs.declared.ran.EndedRun.{EndedRun}
 use Rattle.run_claims.specs.ReportedDone.{DoneIsReported}
 use Rattle.run_claims.specs.CommitCourse.{QuietCommitsAreComplete}
+use Rattle.answer_laws.specs.PendingCalls.{PendingCallsEnd}
+use Rattle.commit_answer_laws.specs.CauseLaws.{CausesEndCommits}
 use Rattle.commit_answer_laws.specs.CommitLines.{CommitsAnswerTruly}
 use Rattle.commit_obey_laws.specs.ObeyLaws.{EveryDecisionIsObeyed}
 use Rattle.node_purge_laws.specs.LeftOutLaws.{EveryPurgeChangesNothing}
@@ -49,7 +51,7 @@ empty_report : IsReported (history_of nothing_done no_script) [] All_run
 unfolding past due_of
 empty_report = (refl, tt)
 
-module _ (lawful : TheRunIsLawful) (once : EveryCommandIsAnsweredOnce) (views : ViewsAreOfBranches) (starts : EveryStartRestores) (knows : EveryTurnKnows) (meant : EveryRunIsMeant) (comes : EveryAnswerHasItsPlace) (tells : DoneIsReported) (commits : CommitsAnswerTruly) (completes : QuietCommitsAreComplete) (obeys : EveryDecisionIsObeyed) (purged : EveryPurgeChangesNothing) (sites : EverySiteDecides) (covers : EveryDecisionCovers) (agrees : EveryBookAgrees) (marked : EveryMixedIsMarked) (later : EveryScnIsLater) where
+module _ (lawful : TheRunIsLawful) (once : EveryCommandIsAnsweredOnce) (views : ViewsAreOfBranches) (starts : EveryStartRestores) (knows : EveryTurnKnows) (meant : EveryRunIsMeant) (comes : EveryAnswerHasItsPlace) (tells : DoneIsReported) (ended : PendingCallsEnd) (caused : CausesEndCommits) (commits : CommitsAnswerTruly) (completes : QuietCommitsAreComplete) (obeys : EveryDecisionIsObeyed) (purged : EveryPurgeChangesNothing) (sites : EverySiteDecides) (covers : EveryDecisionCovers) (agrees : EveryBookAgrees) (marked : EveryMixedIsMarked) (later : EveryScnIsLater) where
   -- by the laws, of what is due and told
   by_laws : (run : Run) (ending : Ending) (script : AreOfAScript (places_of run.commands) run.commands)
       → IsTheRun (places_of run.commands) run.commands (start (places_of run.commands)) run.trace → run.book ≡ book_of run.trace
@@ -70,6 +72,7 @@ module _ (lawful : TheRunIsLawful) (once : EveryCommandIsAnsweredOnce) (views : 
         meant = meant t may;
         come = comes t due;
         done = tells t due;
+        ends = (ended t due, caused t may);
         commits = commits t due;
         completes = completes t due;
         obeyed = obeys t may;
@@ -115,6 +118,7 @@ stands_too run is = record {
   meant = is.meant;
   come = is.come;
   done = is.done;
+  ends = is.ends;
   commits = is.commits;
   completes = is.completes;
   obeyed = is.obeyed;

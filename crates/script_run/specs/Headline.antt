@@ -1,5 +1,6 @@
 -- What a run claims.
 use Rattle.std.specs.Prelude.{◌≡◌, []}
+use Rattle.run_rules.specs.Each.{AtEach}
 use Rattle.run_rules.specs.Entries.{book_of}
 use Rattle.run_rules.specs.Lawful.{History, AreOfAScript, IsLawfulRun}
 use Rattle.run_rules.specs.Reported.{IsReported, Ending}
@@ -11,6 +12,8 @@ use Rattle.run_claims.specs.Places.{AnswersHavePlaces}
 use Rattle.run_claims.specs.Site.{SiteDecides, Coverage}
 use Rattle.run_claims.specs.ReportedDone.{ReportsWhatIsDone}
 use Rattle.run_claims.specs.CommitCourse.{QuietCommitsAreDone}
+use Rattle.answer_laws.specs.PendingCalls.{CallsEndFirst}
+use Rattle.commit_answer_laws.specs.CauseLaws.{CauseEnds}
 use Rattle.commit_answer_laws.specs.CommitLines.{CommitAnswersAreTrue}
 use Rattle.commit_obey_laws.specs.ObeyLaws.{Obedience}
 use Rattle.node_purge_laws.specs.LeftOutLaws.{PurgesChangeNothing}
@@ -37,6 +40,8 @@ history_of run script = record { places = places_of run.commands; commands = run
 -- changes of the asking branch, and examines no key in doubt; a change counts the rows that it means; what a client is
 -- answered is what such a run answered, at the table to which the names in its statement lead. What a client is told is
 -- created, set, forced or purged is on the disk, and such a record is written for no other call.
+-- A call is pending from the turn in which it comes until the first thing that can end it: for a statement the Reply to what its
+-- root sent down last, or its being given up; for a COMMIT what its answer says; for each the stop of its node.
 -- What a client is told of a COMMIT is true: by Commit complete its transaction is decided in the book, or none of its session
 -- tree had changes, or the session had no transaction; by ORA-02050 no branch of it is ever decided; by ORA-02053 one is; by
 -- ORA-02054 its root was in doubt then. Each has its cause in the turn that answered it. A
@@ -61,6 +66,7 @@ pub record IsRun (run : Run) (ending : Ending) : Type 0 where
   pub meant : RunsAreMeant (history_of run script)
   pub come : AnswersHavePlaces (history_of run script)
   pub done : ReportsWhatIsDone (history_of run script)
+  pub ends : CallsEndFirst (history_of run script) × AtEach CauseEnds (history_of run script)
   pub commits : CommitAnswersAreTrue (history_of run script)
   pub completes : QuietCommitsAreDone (history_of run script)
   pub obeyed : Obedience (history_of run script)

@@ -6,6 +6,8 @@ ghost use Rattle.run_rules.specs.Reported.{All_run};
 ghost use Rattle.run_rules.specs.Scripts.{places_of, TheRunIsLawful};
 ghost use Rattle.run_claims.specs.ReportedDone.{DoneIsReported};
 ghost use Rattle.run_claims.specs.CommitCourse.{QuietCommitsAreComplete};
+ghost use Rattle.answer_laws.specs.PendingCalls.{PendingCallsEnd};
+ghost use Rattle.commit_answer_laws.specs.CauseLaws.{CausesEndCommits};
 ghost use Rattle.commit_answer_laws.specs.CommitLines.{CommitsAnswerTruly};
 ghost use Rattle.commit_obey_laws.specs.ObeyLaws.{EveryDecisionIsObeyed};
 ghost use Rattle.node_purge_laws.specs.LeftOutLaws.{EveryPurgeChangesNothing};
@@ -17,11 +19,11 @@ ghost use Rattle.script_run.specs.Headline.{IsRun, nothing_done};
 ghost use Rattle.script_run.specs.Ending.{status_code};
 
 use answer_done_laws::done_is_reported;
-use answer_laws::every_answer_has_its_place;
+use answer_laws::{every_answer_has_its_place, pending_calls_end};
 use answer_once_laws::every_command_is_answered_once;
 use book::{AnswerLines, Book, Trace};
 use book_laws::every_scn_is_later;
-use commit_answer_laws::commits_answer_truly;
+use commit_answer_laws::{causes_end_commits, commits_answer_truly};
 use commit_course_laws::quiet_commits_are_complete;
 use commit_obey_laws::every_decision_is_obeyed;
 use dtx_values::Listing;
@@ -97,6 +99,8 @@ fn laws_of_runs()
     ensures meant { EveryRunIsMeant }
     ensures comes { EveryAnswerHasItsPlace }
     ensures tells { DoneIsReported }
+    ensures ended { PendingCallsEnd }
+    ensures caused { CausesEndCommits }
     ensures commits { CommitsAnswerTruly }
     ensures completes { QuietCommitsAreComplete }
     ensures obeys { EveryDecisionIsObeyed }
@@ -115,6 +119,8 @@ fn laws_of_runs()
     every_run_is_meant();
     every_answer_has_its_place();
     done_is_reported();
+    pending_calls_end();
+    causes_end_commits();
     commits_answer_truly();
     quiet_commits_are_complete();
     every_decision_is_obeyed();
