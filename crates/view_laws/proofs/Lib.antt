@@ -5,6 +5,13 @@ mod SaidLemmas
 mod DiskRunLemmas
 mod ShownLemmas
 mod SortLemmas
+mod GotLemmas
+mod CarryLemmas
+mod GrowLemmas
+mod DueStartLemmas
+mod PrintLemmas
+mod GivenLemmas
+mod CollectLemmas
 mod LiveLemmas
 mod ViewLemmas
 mod TriedViewLemmas

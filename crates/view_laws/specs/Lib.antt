@@ -1,3 +1,4 @@
+pub mod GivenColumns
 pub mod BranchRows
 pub mod ViewLaws
 pub mod TriedViews
