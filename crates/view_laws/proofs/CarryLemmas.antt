@@ -4,20 +4,22 @@ use Rattle.std.specs.List.{AllByRecursion}
 use Rattle.tran_ids.proofs.ListedLemmas.{put_found}
 use Rattle.session_tree.specs.Live.{new_edge, peer_of}
 use Rattle.session_tree.specs.Tree.{step as step_from}
-use Rattle.node_rules.specs.Data.{Act, Advice, Answer, BranchId, Edge, Input, Kind, Live, Next, Place, Post, Session, Stmt}
+use Rattle.node_rules.specs.Data.{Act, Advice, Answer, BranchId, Edge, Input, Kind, Live, Next, Place, Post, Stmt}
 use Rattle.node_rules.specs.Data.acts
 use Rattle.node_rules.specs.Data.kinds
 use Rattle.node_rules.specs.Data.nexts
-use Rattle.node_rules.specs.Data.pending
+use Rattle.node_rules.specs.declared.session.PendingCall.TheVariants as pending
+use Rattle.node_rules.specs.declared.session.Session.{Session}
 use Rattle.node_rules.specs.Data.phases
 use Rattle.node_rules.specs.Words.{set_numbered}
-use Rattle.node_rules.specs.Calls.{answer_says, calls_over, exec_to, with_edge}
+use Rattle.node_rules.specs.Calls.{answer_says, calls_over, exec_to, hears_reply, with_edge}
 use Rattle.node_rules.specs.Client.{new_root}
 use Rattle.node_rules.specs.Commit.{beyond}
 use Rattle.node_rules.specs.NodeState.{Branch, NodeState, TurnDraft, live_id, live_at, post, to_each, to_one}
 use Rattle.node_rules.specs.Prepare.{act_turn, path_of, prepares, site_neighbors}
 use Rattle.node_rules.specs.Recovery.{kept_told}
 use Rattle.node_rules.specs.Sessions.{session_at, with_call, with_root}
+use Rattle.node_rules.specs.Statement.{after_run, ran}
 use Rattle.node_rules.proofs.Steps as steps
 use Rattle.node_rules.proofs.Steps.{Acting, Says, Step}
 use Rattle.run_base_laws.proofs.KindSayLemmas.{OfDecisions, AllSay, one_says, each_says, told_says, passes_say, askings_say}
@@ -147,12 +149,12 @@ carry_on p input {d = d} (steps.Pends {k = k} n l given call has live code step)
 carry_on p input (steps.Lets_reads_go l comment b live begins step) = carry_on p input step
 carry_on p input (steps.Counts_ack s from kept came counts step) = carry_on p input step
 carry_on p input (steps.Sends {k = k} posts why) = quiet k.sessions k posts (says_none why)
-carry_on p input (steps.Runs {k = k} x s given t ask way) = quiet k.sessions _ _ (answer_none _ _ x.live.parent)
+carry_on p input (steps.Runs {k = k} x s given t ask way) = quiet k.sessions _ _ (answer_none (record x { live = after_run x.live (ran p k x.live.me s t) }) _ x.live.parent)
 carry_on p input (steps.Goes_nowhere {k = k} x s given r ask way) = quiet k.sessions _ _ (answer_none x _ x.live.parent)
 carry_on p input (steps.Calls {k = k} x s given i table ask way) = execs_so k x i _ given
 carry_on p input (steps.Opens {k = k} x s given node link table ask way) = (tt, tt)
 carry_on p input (steps.Goes_on {k = k} x from strength g link opened) = execs_so k (with_edge x (new_edge from link strength)) (length x.live.edges + 1) g.statement (g.room - 1)
-carry_on p input (steps.Hears_reply {k = k} x weight count a i e answered) = quiet k.sessions _ _ (answer_none _ _ x.live.parent)
+carry_on p input (steps.Hears_reply {k = k} x weight count a i e answered) = quiet k.sessions _ _ (answer_none (hears_reply x i weight count e) _ x.live.parent)
 carry_on p input (steps.Opens_branch to parent edge root depth came new) = (tt, tt)
 carry_on p input (steps.Acts {k = k} l q a why) = acts_carry k l q a (acting_busy why)
 carry_on p input (steps.Drops_told {k = k} l live drops) = quiet k.sessions _ _ (rolls_none l _)

@@ -1,5 +1,5 @@
 -- A node starts in the course of a START alone.
-use Rattle.std.proofs.Common.{◌≡◌, ◌≢◌, ℕ, ◌&&◌, ◌==◌, not, Bool, true, false, if◌then◌else◌, List, [], ◌∷◌, length, is_some, Option, Some, None, refl, sym, ap, ◌∙◌}
+use Rattle.std.proofs.Common.{◌≡◌, ◌≢◌, ℕ, ◌+◌, ◌&&◌, ◌==◌, not, Bool, true, false, if◌then◌else◌, List, [], ◌∷◌, length, is_some, Option, Some, None, refl, sym, ap, ◌∙◌}
 use Rattle.std.specs.Prelude.{nat_lt}
 use Rattle.node_rules.specs.Data.{Place, Input}
 use Rattle.node_rules.specs.NodeState.{NodeState, TurnOutput}
@@ -37,7 +37,7 @@ module _ (asked : List Command) (f : Facts) (t : RunReport) where
   command_not : is_starts (next_command asked f) ≡ false
   command_not = by (nat_lt f.command (length asked))
     where
-      by : (q : Bool) → is_starts (if q then Begins _ else Ends) ≡ false
+      by : (q : Bool) → is_starts (if q then Begins (f.command + 1) else Ends) ≡ false
       by true = refl
       by false = refl
 

@@ -2,7 +2,6 @@
 -- sets.
 use Rattle.std.proofs.Common.{◌≡◌, ◌≢◌, ℕ, ◌&&◌, ◌⊎◌, Bool, true, false, if◌then◌else◌, is_none, is_some, List, [], ◌∷◌, ◌++◌, unwrap_or, Option, Some, None, inl, inr, refl, sym, ap, ◌∙◌}
 use Rattle.std.specs.Prelude.{nat_lt}
-use Rattle.std.proofs.lemmas.Bool.{and_left}
 use Rattle.tran_ids.proofs.BranchLemmas.{equal_from_same, same_from_equal}
 use Rattle.node_rules.specs.Data.{Advice, BranchId, Input, Kind, Msg, Place, Stmt}
 use Rattle.node_rules.specs.Data.inputs
@@ -14,7 +13,7 @@ use Rattle.run_rules.specs.Branches.{CommitPlan, Seen, Trail, no_trail, plan_at,
 use Rattle.run_rules.specs.Data.{Command, Happening}
 use Rattle.run_rules.specs.Facts.{Facts, first_facts, facts_after, facts_of}
 use Rattle.run_rules.specs.Lawful.{History}
-use Rattle.run_rules.specs.Runs.{asks_branch, asks_by}
+use Rattle.run_rules.specs.Runs.{Asking, asks_branch, asks_by}
 use Rattle.run_rules.specs.Trail.{trail_after, trail_of}
 use Rattle.tree_laws.proofs.PrefixLemmas.{f_at}
 use Rattle.tree_trail_laws.proofs.MomentLemmas.{tr_at}
@@ -60,6 +59,10 @@ exec_or_none b (inputs.Call n s) = inl (λ exec. (let is = exec.5.is in cc))
 exec_or_none b (inputs.GiveUp n) = inl (λ exec. (let is = exec.5.is in cc))
 exec_or_none b inputs.Reco = inl (λ exec. (let is = exec.5.is in cc))
 
+-- a statement that comes to a branch, if it takes it
+abbrev asks_if : Seen → Stmt → Bool → Option Asking
+asks_if seen s q = if q then Some (record { branch = seen; statement = s }) else None
+
 module _ (tr : Trail) (b : BranchId) (now : Option Advice) where
   pub none_gives : (input : Input) → (ExecCame input b → ⊥) → advice_after tr b now input ≡ now
   none_gives (inputs.Message m) not = by (same m.to b) refl m.kind refl
@@ -87,9 +90,9 @@ module _ (tr : Trail) (b : BranchId) (now : Option Advice) where
       ap (advice_after tr b now) came.is
       ∙ (ap (λ q. if q && is_some (asks_by tr b (kinds.Exec call given advice s)) then advice else now) (same_from_equal b b refl)
       ∙ (ap (λ o. if is_some (asks_branch call s o) then advice else now) at
-      ∙ (ap (λ o. if is_some (if is_none o && nat_lt seen.taken call then Some (record { branch = seen; statement = s }) else None) then advice else now) live ∙ by (nat_lt seen.taken call))))
+      ∙ (ap (λ o. if is_some (asks_if seen s (is_none o && nat_lt seen.taken call)) then advice else now) live ∙ by (nat_lt seen.taken call))))
     where
-      by : (q : Bool) → (if is_some (if q then Some (record { branch = seen; statement = s }) else None) then advice else now) ≡ (if q then advice else now)
+      by : (q : Bool) → (if is_some (asks_if seen s q) then advice else now) ≡ (if q then advice else now)
       by true = refl
       by false = refl
 

@@ -4,12 +4,13 @@ use Rattle.std.specs.List.{AllByRecursion}
 use Rattle.tran_ids.proofs.BranchLemmas.{equal_from_same, same_from_equal}
 use Rattle.tran_ids.proofs.ListedLemmas.{item_is, put_found, put_or_before, drop_gone, drop_leaves}
 use Rattle.session_tree.specs.Live.{fresh_live, new_edge}
-use Rattle.node_rules.specs.Data.{Act, Advice, BranchId, Edge, Input, Kind, Live, Next, Phase, Place, Post, Session, Stmt}
+use Rattle.node_rules.specs.Data.{Act, Advice, BranchId, Edge, Input, Kind, Live, Next, Phase, Place, Post, Stmt}
 use Rattle.node_rules.specs.Data.acts
 use Rattle.node_rules.specs.Data.inputs
 use Rattle.node_rules.specs.Data.kinds
 use Rattle.node_rules.specs.Data.nexts
-use Rattle.node_rules.specs.Data.pending
+use Rattle.node_rules.specs.declared.session.PendingCall.TheVariants as pending
+use Rattle.node_rules.specs.declared.session.Session.{Session}
 use Rattle.node_rules.specs.Data.phases
 use Rattle.node_rules.specs.Data.stmts
 use Rattle.node_rules.specs.Words.{same, item_at, put_item, drop_item, set_numbered}
@@ -23,6 +24,7 @@ use Rattle.node_rules.specs.Statement.{after_run, ran}
 use Rattle.node_rules.proofs.StandLemmas.{live_so}
 use Rattle.node_rules.proofs.Steps as steps
 use Rattle.node_rules.proofs.Steps.{Acting, Asked, Collects, HasRoot, IsOfRows, Step}
+use Rattle.run_rules.specs.Trail.{is_exec}
 use Rattle.run_base_laws.proofs.RootLemmas.{session_or_before}
 
 -- the live branch of an id, one that is put behind the others too
@@ -39,9 +41,27 @@ last_live (z ∷ ls) l b y found = by (same z.me b) found (last_live ls l b y)
     by true is later = inl is
     by false is later = later is
 
+none_before : (ls : List Live) (l : Live) (b : BranchId) → item_at live_id (ls ++ l ∷ []) b ≡ None → item_at live_id ls b ≡ None
+none_before [] l b none = refl
+none_before (z ∷ ls) l b none = by (same z.me b) none (none_before ls l b)
+  where
+    by : (here : Bool) → (if here then Some z else item_at live_id (ls ++ l ∷ []) b) ≡ None → (item_at live_id (ls ++ l ∷ []) b ≡ None → item_at live_id ls b ≡ None) → (if here then Some z else item_at live_id ls b) ≡ None
+    by true is later = absurd cc
+    by false is later = later is
+
 -- an Exec comes to a branch
 abbrev pub ExecCame : Input → BranchId → Type 0
 ExecCame input b = (from : BranchId) × (call given : ℕ) × (advice : Option Advice) × (s : Stmt) × Came input from b (kinds.Exec call given advice s)
+
+kind_in : Input → Option Kind
+kind_in (inputs.Message m) = Some m.kind
+kind_in _ = None
+
+-- what comes then is an Exec
+pub exec_kind : {input : Input} {b from to : BranchId} {kind : Kind} → ExecCame input b → Came input from to kind → is_exec kind ≡ true
+unfolding kind_in
+exec_kind {kind = kind} exec came =
+    let both : Some (kinds.Exec exec.1 exec.2 exec.3 exec.4) ≡ Some kind = sym (ap kind_in exec.5.is) ∙ ap kind_in came.is in let one : kinds.Exec exec.1 exec.2 exec.3 exec.4 ≡ kind = cc in ap is_exec (sym one)
 
 module _ (p : Place) (input : Input) (b : BranchId) where
   -- What became of a live branch in a step: it kept its comment, and its advice unless an Exec came; its collect began with a COMMIT
@@ -79,10 +99,10 @@ module _ (p : Place) (input : Input) (b : BranchId) where
       let mine : x.live.me ≡ b = sym same_one ∙ me in
       Keeps x.live (subst (λ c. live_at k c ≡ Some x.live) mine (live_so k x.live.me x found)) (inr (from, call, given, advice, s, subst (λ c. Came input from c (kinds.Exec call given advice s)) mine came)) comment (λ working. phase ∙ working)
 
-  collects : (k : NodeState) (l : Live) (comment : List ℕ) (q : Bool) (y : Live) → live_at k l.me ≡ Some l → Collects k input l comment q → y.advice ≡ l.advice → y.comment ≡ comment → l.me ≡ b → Got k y
-  collects k l comment q y live (steps.By_commit n given call has code is) advice comment_is me =
+  collects : (k : NodeState) (l : Live) (comment : List ℕ) {q : Bool} (y : Live) → live_at k l.me ≡ Some l → Collects k input l comment q → y.advice ≡ l.advice → y.comment ≡ comment → l.me ≡ b → Got k y
+  collects k l comment y live (steps.By_commit n given call has code is) advice comment_is me =
       Commits l (subst (λ c. live_at k c ≡ Some l) me live) advice n given call (subst (HasRoot k n) me has) code (comment_is ∙ is)
-  collects k l comment q y live (steps.By_prepare from q came working) advice comment_is me =
+  collects k l comment y live (steps.By_prepare from q came working) advice comment_is me =
       Prepares l (subst (λ c. live_at k c ≡ Some l) me live) advice from q (subst (λ c. Came input from c (kinds.Prepare q y.comment)) me (subst (λ c. Came input from l.me (kinds.Prepare q c)) (sym comment_is) came))
 
   busy : (k : NodeState) (l y : Live) → live_at k l.me ≡ Some l → y.advice ≡ l.advice → y.comment ≡ l.comment → (l.phase ≡ phases.Working → ⊥) → l.me ≡ b → Got k y
@@ -90,8 +110,8 @@ module _ (p : Place) (input : Input) (b : BranchId) where
 
   -- the branch of an act, as it then is
   acting : (k : NodeState) {l : Live} {q : Bool} {a : Act} (y : Live) → Acting k input l q a → y.advice ≡ l.advice → y.comment ≡ l.comment → l.me ≡ b → Got k y
-  acting k y (steps.Asks_down l comment q e es live begins has) advice comment_is me = collects k l comment q y live begins advice comment_is me
-  acting k y (steps.Has_no_children l comment q a live begins none collected) advice comment_is me = collects k l comment q y live begins advice comment_is me
+  acting k y (steps.Asks_down l comment q e es live begins has) advice comment_is me = collects k l comment y live begins advice comment_is me
+  acting k y (steps.Has_no_children l comment q a live begins none collected) advice comment_is me = collects k l comment y live begins advice comment_is me
   acting k y (steps.Hears_abort l from q live answers) advice comment_is me = busy k l y live advice comment_is (λ working. (let collects = answers.collecting in cc (collects, working))) me
   acting k y (steps.Waits_on l from v q live answers other some) advice comment_is me = busy k l y live advice comment_is (λ working. (let collects = answers.collecting in cc (collects, working))) me
   acting k y (steps.Hears_last l from v q a live answers other all collected) advice comment_is me = busy k l y live advice comment_is (λ working. (let collects = answers.collecting in cc (collects, working))) me
@@ -131,19 +151,7 @@ module _ (p : Place) (input : Input) (b : BranchId) where
       by (Commits z live advice m given other has code comment) =
           (let both : inputs.Call n (Some s) ≡ inputs.Call m (Some (stmts.Commit given)) = sym call ∙ other in let one : s ≡ stmts.Commit given = cc in absurd (no_commit s given rows one))
       by (Prepares z live advice from q came) = (let is = came.is in absurd (cc (is, call)))
-      by (Begins none advice phase not_exec) = by_none (item_at live_id k.lives b) refl
-        where
-          by_none : (o : Option Live) → item_at live_id k.lives b ≡ o → Got k y
-          by_none None gone = Begins gone advice phase not_exec
-          by_none (Some z) there = absurd (more k.lives z there none)
-            where
-              more : (ls : List Live) (z : Live) → item_at live_id ls b ≡ Some z → item_at live_id (ls ++ x ∷ []) b ≡ None → ⊥
-              more [] z there none = cc
-              more (l ∷ ls) z there none = by_one (same l.me b) there none
-                where
-                  by_one : (q : Bool) → (if q then Some l else item_at live_id ls b) ≡ Some z → (if q then Some l else item_at live_id (ls ++ x ∷ []) b) ≡ None → ⊥
-                  by_one true there none = cc
-                  by_one false there none = more ls z there none
+      by (Begins none advice phase not_exec) = Begins (none_before k.lives x b none) advice phase not_exec
 
   -- sessions that stay alike but for a pending call
   pends : (k : NodeState) (m : ℕ) (y : Live) → Got (record k { sessions = with_call k.sessions m pending.Commit }) y → Got k y
@@ -186,7 +194,7 @@ module _ (p : Place) (input : Input) (b : BranchId) where
       put k (hears_reply x i weight count e).live y (λ me. like k x.live (hears_reply x i weight count e).live (live_so k x.live.me x answered.live) refl refl refl me) live
   got_on (steps.Opens_branch {k = k} to parent edge root depth came new) y live = elim (last_live k.lives (fresh_live (next_child p k) root (Some parent) depth (strength_of p k)) b y live) [
     | inl before ↦ still k y before
-    | inr last ↦ Begins last.0 (ap (λ (l : Live). l.advice) (sym last.1)) (ap (λ (l : Live). l.phase) (sym last.1)) (λ exec. (let is = exec.5.is in let opens = came.is in cc (is, opens)))
+    | inr last ↦ Begins last.0 (ap (λ (l : Live). l.advice) (sym last.1)) (ap (λ (l : Live). l.phase) (sym last.1)) (λ exec. (let is_open = exec_kind exec came in cc))
   ]
   got_on (steps.Acts {k = k} l q a why) y live = acted k a y why live
   got_on (steps.Drops_told {k = k} x found drops) y live = left k x.me y live

@@ -1,6 +1,6 @@
 -- What each happening makes of the report so far: the lines of the commands before stay, those of the command that runs stay with
 -- more behind them, and the pending calls are of the same commands.
-use Rattle.std.proofs.Common.{◌≡◌, ℕ, ◌<◌, ◌==◌, not, Bool, true, false, if◌then◌else◌, List, [], ◌∷◌, ◌++◌, map, filter, find, Option, Some, None, refl, sym, ap, subst, ◌∙◌, arith, append-nil}
+use Rattle.std.proofs.Common.{◌≡◌, ℕ, ◌<◌, ◌==◌, ◌&&◌, not, Bool, true, false, if◌then◌else◌, List, [], ◌∷◌, ◌++◌, map, filter, find, is_none, Option, Some, None, refl, sym, ap, subst, ◌∙◌, arith, append-nil}
 use Rattle.std.specs.List.{AllByRecursion}
 use Rattle.std.proofs.lemmas.Bool.{cond_both, eqb-true}
 use Rattle.std.proofs.lemmas.List.{append_assoc}
@@ -8,27 +8,30 @@ use Rattle.node_rules.specs.Data.{BranchId, Input, Place}
 use Rattle.node_rules.specs.Data.inputs
 use Rattle.node_rules.specs.Data.stmts
 use Rattle.node_rules.specs.NodeState.{NodeState, TurnOutput}
-use Rattle.node_rules.specs.Points.{Point}
+use Rattle.node_rules.specs.Points.{Point, point_of}
+use Rattle.node_rules.specs.Sessions.{session_at}
 use Rattle.node_rules.specs.Refusals.{ora}
 use Rattle.node_rules.specs.Words.{one}
 use Rattle.node_rules.specs.Ids.{decimal}
 use Rattle.run_rules.specs.Calls.{is_call_at, call_at, without_call, change_call, is_complete, second_of, call_follows, call_ends, ends_or_follows, finished_call, finished, stopped_calls, waits, waits_if_pending, after_input}
 use Rattle.run_rules.specs.Cuts.{Cut_by, By_nothing, By_point, By_strike, cut_by, appends, appends_if, cut_appends, arms_point, arms, turn_appends}
 use Rattle.run_rules.specs.Data.{AnswerLine, Command, Finished, Said, Took, Turn}
+use Rattle.run_rules.specs.Data.notices
+use Rattle.run_rules.specs.Data.said
 use Rattle.run_rules.specs.Facts.{Facts, command_at}
 use Rattle.run_rules.specs.Lines.{is_down, is_reached, refuses_with, line, with_own, with_other, call_line_of, reached_line, call_line, with_stop}
 use Rattle.run_rules.specs.Past.{delivered_more, is_call, without_following, ends_calls, acts, report_turned, failed_start, start_refused, is_stop_of, stop_line, report_stopped}
 use Rattle.run_rules.specs.RunReport.{Call, RunReport}
 use Rattle.run_rules.proofs.ListLemmas.{all_filter, all_map, all_weaker}
 
--- calls of such commands
-abbrev pub AreOf : (ℕ → Type 0) → List Call → Type 0
-AreOf P cs = AllByRecursion (λ (c : Call). P c.command) cs
+-- calls of commands below a number
+abbrev pub AreBelow : ℕ → List Call → Type 0
+AreBelow m cs = AllByRecursion (λ (c : Call). c.command < m) cs
 
--- The lines of the commands before stay, and calls are of the same commands.
+-- The lines of the commands before stay, and no call is of a later command than those before.
 pub record Lasts (t u : RunReport) : Type 0 where
   pub lines : u.lines ≡ t.lines
-  pub calls : (P : ℕ → Type 0) → AreOf P t.calls → AreOf P u.calls
+  pub calls : (m : ℕ) → AreBelow m t.calls → AreBelow m u.calls
 
 -- So do those of the command that runs.
 pub record Grows (t u : RunReport) : Type 0 where
@@ -37,7 +40,7 @@ pub record Grows (t u : RunReport) : Type 0 where
   pub own : u.page.own ≡ t.page.own ++ more
 
 pub lasts_on : {t u v : RunReport} → Lasts t u → Lasts u v → Lasts t v
-lasts_on first second = record { lines = second.lines ∙ first.lines; calls = λ P all. second.calls P (first.calls P all) }
+lasts_on first second = record { lines = second.lines ∙ first.lines; calls = λ m all. second.calls m (first.calls m all) }
 
 pub grows_on : {t u v : RunReport} → Grows t u → Grows u v → Grows t v
 grows_on {t = t} first second = record {
@@ -47,7 +50,7 @@ grows_on {t = t} first second = record {
 }
 
 pub same_lasts : (t u : RunReport) → u.lines ≡ t.lines → u.calls ≡ t.calls → Lasts t u
-same_lasts t u lines calls = record { lines = lines; calls = λ P all. subst (AreOf P) (sym calls) all }
+same_lasts t u lines calls = record { lines = lines; calls = λ m all. subst (AreBelow m) (sym calls) all }
 
 pub same_grows : (t u : RunReport) → u.lines ≡ t.lines → u.calls ≡ t.calls → u.page.own ≡ t.page.own → Grows t u
 same_grows t u lines calls own = record { lasts = same_lasts t u lines calls; more = []; own = own ∙ sym (append-nil t.page.own) }
@@ -75,7 +78,7 @@ module _ (running : ℕ) where
   gone_grows t node session = record {
     lasts = record {
       lines = refl;
-      calls = λ P all. all_filter (λ (c : Call). P c.command) (λ (c : Call). P c.command) (λ c. not (is_call_at node session c)) (λ c passes so. so) t.calls all;
+      calls = λ m all. all_filter (λ (c : Call). c.command < m) (λ (c : Call). c.command < m) (λ c. not (is_call_at node session c)) (λ c passes so. so) t.calls all;
     };
     more = [];
     own = sym (append-nil t.page.own);
@@ -88,17 +91,17 @@ module _ (running : ℕ) where
   follows_grows t c = record {
     lasts = record {
       lines = refl;
-      calls = λ P all. all_map (λ (x : Call). P x.command) (change_call c) t.calls (all_weaker (λ (x : Call). P x.command) (λ x. P (change_call c x).command) (changed P) t.calls all);
+      calls = λ m all. all_map (λ (x : Call). x.command < m) (change_call c) t.calls (all_weaker (λ (x : Call). x.command < m) (λ x. (change_call c x).command < m) (changed m) t.calls all);
     };
     more = [];
     own = sym (append-nil t.page.own);
   }
     where
-      changed : (P : ℕ → Type 0) (x : Call) → P x.command → P (change_call c x).command
-      changed P x so = by (x.command == c.command) refl
+      changed : (m : ℕ) (x : Call) → x.command < m → (change_call c x).command < m
+      changed m x so = by (x.command == c.command) refl
         where
-          by : (q : Bool) → (x.command == c.command) ≡ q → P (if q then c else x).command
-          by true same = subst P (eqb-true x.command c.command same) so
+          by : (q : Bool) → (x.command == c.command) ≡ q → (if q then c else x).command < m
+          by true same = subst (λ n. n < m) (eqb-true x.command c.command same) so
           by false other = so
 
   one_grows : (t : RunReport) (f : Finished) (o : Option Call) → Grows t (finished_call running t f o)
@@ -144,7 +147,9 @@ module _ (n : ℕ) where
   point_same t None c number = itself t
 
   arms_same : (t : RunReport) (k : NodeState) (input : Input) → Same t (arms t n k input)
-  arms_same t k (inputs.Call session (Some (stmts.Commit (Some comment)))) = cond_both _ _ t (Same t) (λ free. point_same t _ _ _) (λ refused. itself t)
+  arms_same t k (inputs.Call session (Some (stmts.Commit (Some comment)))) =
+      cond_both (is_none (session_at k.sessions session).code) (arms_point t (session_at k.sessions session).root (call_at t n session) (point_of comment)) t (Same t)
+      (λ free. point_same t (session_at k.sessions session).root (call_at t n session) (point_of comment)) (λ refused. itself t)
   arms_same t k (inputs.Call session (Some (stmts.Commit None))) = itself t
   arms_same t k (inputs.Call session (Some _)) = itself t
   arms_same t k (inputs.Call session None) = itself t
@@ -167,7 +172,11 @@ following_same t input = cond_both (is_call input) _ t (Same t) (λ call. record
 -- ---- a turn
 
 waits_lasts : (t : RunReport) → Lasts t (waits t)
-waits_lasts t = cond_both _ _ t (Lasts t) (λ held. same_lasts t _ refl refl) (λ free. same_lasts t t refl refl)
+waits_lasts t = by (t.hold && is_none t.next_call)
+  where
+    by : (q : Bool) → Lasts t (if q then with_own t (one (said.World notices.Waiting)) else t)
+    by true = same_lasts t (with_own t (one (said.World notices.Waiting))) refl refl
+    by false = same_lasts t t refl refl
 
 pending_lasts : (running : ℕ) (t : RunReport) (o : Option Call) → Lasts t (waits_if_pending running t o)
 pending_lasts running t None = same_lasts t t refl refl
@@ -180,12 +189,12 @@ input_lasts running t node (inputs.GiveUp session) = same_lasts t t refl refl
 input_lasts running t node inputs.Reco = same_lasts t t refl refl
 
 -- a call that is found is of such a command
-found_of : (P : ℕ → Type 0) (q : Call → Bool) (cs : List Call) (c : Call) → find q cs ≡ Some c → AreOf P cs → P c.command
-found_of P q [] c is all = absurd cc
-found_of P q (x ∷ cs) c is all = by (q x) is (found_of P q cs c)
+found_below : (m : ℕ) (q : Call → Bool) (cs : List Call) (c : Call) → find q cs ≡ Some c → AreBelow m cs → c.command < m
+found_below m q [] c is all = absurd cc
+found_below m q (x ∷ cs) c is all = by (q x) is (found_below m q cs c)
   where
-    by : (here : Bool) → (if here then Some x else find q cs) ≡ Some c → (find q cs ≡ Some c → AreOf P cs → P c.command) → P c.command
-    by true is later = (let it : Some x ≡ Some c = is in let same : x ≡ c = cc in subst (λ (y : Call). P y.command) same all.0)
+    by : (here : Bool) → (if here then Some x else find q cs) ≡ Some c → (find q cs ≡ Some c → AreBelow m cs → c.command < m) → c.command < m
+    by true is later = (let it : Some x ≡ Some c = is in let same : x ≡ c = cc in subst (λ (y : Call). y.command < m) same all.0)
     by false is later = later is all.1
 
 module _ (running : ℕ) (k : Option NodeState) (t : RunReport) (u : Turn) (o : Option TurnOutput) where
@@ -207,13 +216,13 @@ module _ (running : ℕ) (k : Option NodeState) (t : RunReport) (u : Turn) (o : 
   turn_lasts = lasts_on before_grows.lasts (let it = ends_lasts u.cut o in record { lines = it.lines; calls = it.calls })
 
   -- while no call of the command that runs is pending
-  module _ (none : AreOf (λ m. m < running) t.calls) where
-    not_waiting : (w : RunReport) → AreOf (λ m. m < running) w.calls → (input : Input) → Grows w (after_input running w u.node input)
+  module _ (none : AreBelow running t.calls) where
+    not_waiting : (w : RunReport) → AreBelow running w.calls → (input : Input) → Grows w (after_input running w u.node input)
     not_waiting w less (inputs.Call session statement) = by (call_at w u.node session) refl
       where
         by : (p : Option Call) → call_at w u.node session ≡ p → Grows w (waits_if_pending running w p)
         by None at = stays w
-        by (Some c) at = (let low : c.command < running = found_of (λ m. m < running) (is_call_at u.node session) w.calls c at less in apart (c.command == running) refl low)
+        by (Some c) at = (let low : c.command < running = found_below running (is_call_at u.node session) w.calls c at less in apart (c.command == running) refl low)
           where
             apart : (q : Bool) → (c.command == running) ≡ q → c.command < running → Grows w (if q then waits w else w)
             apart true same low = (let one : c.command ≡ running = eqb-true c.command running same in absurd (omega (arith, one, low)))
@@ -228,7 +237,7 @@ module _ (running : ℕ) (k : Option NodeState) (t : RunReport) (u : Turn) (o : 
     ends_grow false (Some x) =
         let w : RunReport = finished running v u.node x.ended in
         let it : Grows v w = all_grow running v u.node x.ended in
-        grows_on it (not_waiting w (it.lasts.calls (λ m. m < running) (before_grows.lasts.calls (λ m. m < running) none)) u.input)
+        grows_on it (not_waiting w (it.lasts.calls running (before_grows.lasts.calls running none)) u.input)
 
     pub turn_grows : Grows t (report_turned running k t u o)
     turn_grows = grows_on before_grows (let it = ends_grow u.cut o in record { lasts = record { lines = it.lasts.lines; calls = it.lasts.calls }; more = it.more; own = it.own })
@@ -240,7 +249,7 @@ module _ (places : List Place) (running : ℕ) (n : ℕ) where
   calls_grow t [] = stays t
   calls_grow t (c ∷ cs) =
       cond_both (c.node == n) (stopped_calls places running (call_line running (without_call t c.node c.session) c.command (is_down places n)) n cs) (stopped_calls places running t n cs) (Grows t)
-      (λ here. grows_on (grows_on (gone_grows running t c.node c.session) (call_line_grows running (without_call t c.node c.session) c.command (is_down places n))) (calls_grow _ cs))
+      (λ here. grows_on (grows_on (gone_grows running t c.node c.session) (call_line_grows running (without_call t c.node c.session) c.command (is_down places n))) (calls_grow (call_line running (without_call t c.node c.session) c.command (is_down places n)) cs))
       (λ elsewhere. calls_grow t cs)
 
   line_same : (t : RunReport) (command : Command) → Grows t (stop_line places t command n)

@@ -1,12 +1,13 @@
 -- What SHOW shows stands in the report from then on, right behind the lines of the commands before.
-use Rattle.std.proofs.Common.{◌≡◌, ℕ, zero, suc, ◌+◌, ◌<◌, ◌≤◌, Bool, true, false, if◌then◌else◌, List, [], ◌∷◌, ◌++◌, map, Option, Some, None, refl, sym, ap, subst, subst₂, ◌∙◌, arith}
+use Rattle.std.proofs.Common.{◌≡◌, ℕ, zero, suc, ◌+◌, ◌<◌, ◌&&◌, not, Bool, true, false, if◌then◌else◌, List, [], ◌∷◌, ◌++◌, map, Option, Some, None, refl, sym, ap, subst, subst₂, ◌∙◌, arith}
 use Rattle.std.specs.Prelude.{slice_get, take, drop}
 use Rattle.std.specs.List.{AllByRecursion}
 use Rattle.std.proofs.lemmas.Bool.{cond_both}
 use Rattle.std.proofs.lemmas.List.{append_assoc}
-use Rattle.node_rules.specs.Data.{Place}
+use Rattle.node_rules.specs.Data.{Place, Stmt}
+use Rattle.node_rules.specs.Data.stmts
 use Rattle.node_rules.specs.Words.{one}
-use Rattle.run_rules.specs.Commands.{says_at_once, call_of, calls_after, has_transaction, commits_first}
+use Rattle.run_rules.specs.Commands.{says_at_once, call_of, calls_after, has_call, has_transaction, commits_first}
 use Rattle.run_rules.specs.Data.{AnswerLine, Command, Happening, Said}
 use Rattle.run_rules.specs.Data.commands
 use Rattle.run_rules.specs.Data.happenings
@@ -16,7 +17,7 @@ use Rattle.run_rules.specs.Disks.{struck}
 use Rattle.run_rules.specs.Due.{comes_next, IsTheRun}
 use Rattle.run_rules.specs.Facts.{Facts, command_at, facts_after, facts_of, is_up, node_at, outcome_at}
 use Rattle.run_rules.specs.Lawful.{History, IsLawful, IsLawfulRun, MayHappen}
-use Rattle.run_rules.specs.Lines.{line, page_lines, all_lines}
+use Rattle.run_rules.specs.Lines.{is_down, line, over_line, page_lines, all_lines}
 use Rattle.run_rules.specs.Past.{failed_start, next, past, report_after, started_says}
 use Rattle.run_rules.specs.RunReport.{Call, Past, RunReport, orders_at, start}
 use Rattle.run_rules.specs.Scripts.{IsTheRunOf}
@@ -26,7 +27,7 @@ use Rattle.run_claims.specs.Places.{past_upto}
 use Rattle.run_base_laws.proofs.PastLemmas.{past_on}
 use Rattle.view_laws.specs.ViewLaws.{lines_upto, Prints}
 use Rattle.view_laws.proofs.DueStartLemmas.{is_start, none_starts}
-use Rattle.view_laws.proofs.GrowLemmas.{AreOf, Lasts, Grows, turn_lasts, turn_grows, stop_lasts, stop_grows}
+use Rattle.view_laws.proofs.GrowLemmas.{AreBelow, Lasts, Grows, turn_lasts, turn_grows, stop_lasts, stop_grows}
 
 -- ---- lists
 
@@ -85,29 +86,40 @@ module _ (places : List Place) (asked : List Command) where
 
   -- ---- pending calls are of commands that began
 
-  abbrev AreLow : Past → Type 0
-  AreLow p = AreOf (λ m. m ≤ p.facts.command) p.run_report.calls
+  abbrev chosen : ℕ → ℕ → ℕ → Stmt → Bool → Call
+  chosen c node session s q =
+      if q then record { command = c; node = node; session = session; statement = Some (stmts.Commit None); follows = Some s } else record { command = c; node = node; session = session; statement = Some s; follows = None }
 
-  low_begun : (p : Past) (c : ℕ) (x : Command) → c ≡ p.facts.command + 1 → AreLow p → AreOf (λ m. m ≤ c) (calls_after p.facts p.run_report c x)
+  abbrev AreLow : Past → Type 0
+  AreLow p = AreBelow (p.facts.command + 1) p.run_report.calls
+
+  low_begun : (p : Past) (c : ℕ) (x : Command) → c ≡ p.facts.command + 1 → AreLow p → AreBelow (c + 1) (calls_after p.facts p.run_report c x)
   low_begun p c x number now = by x
     where
-      more : AreOf (λ m. m ≤ c) p.run_report.calls
-      more = all_weaker (λ (y : Call). y.command ≤ p.facts.command) (λ y. y.command ≤ c) (λ y low. omega (arith, low, number)) p.run_report.calls now
+      more : AreBelow (c + 1) p.run_report.calls
+      more = all_weaker (λ (y : Call). y.command < p.facts.command + 1) (λ y. y.command < c + 1) (λ y low. omega (arith, low, number)) p.run_report.calls now
 
-      new : (node session : ℕ) (s : Option _) (has : Bool) → (call_of c node session s has).command ≤ c
+      new : (node session : ℕ) (s : Option Stmt) (has : Bool) → (call_of c node session s has).command < c + 1
       new node session None has = omega arith
-      new node session (Some s) has = cond_both _ _ _ (λ (y : Call). y.command ≤ c) (λ first. omega arith) (λ alone. omega arith)
+      new node session (Some s) has = by (commits_first s && has)
+        where
+          by : (q : Bool) → (chosen c node session s q).command < c + 1
+          by true = omega arith
+          by false = omega arith
 
-      by : (x : Command) → AreOf (λ m. m ≤ c) (calls_after p.facts p.run_report c x)
-      by (commands.At node session statement) =
-          cond_both _ _ p.run_report.calls (AreOf (λ m. m ≤ c)) (λ free. all_append (λ (y : Call). y.command ≤ c) p.run_report.calls _ more (new node session statement (has_transaction (node_at p.facts node) session), tt)) (λ other. more)
+      by : (x : Command) → AreBelow (c + 1) (calls_after p.facts p.run_report c x)
+      by (commands.At node session statement) = free (is_up p.facts node && not (has_call p.run_report node session))
+        where
+          free : (q : Bool) → AreBelow (c + 1) (if q then p.run_report.calls ++ call_of c node session statement (has_transaction (node_at p.facts node) session) ∷ [] else p.run_report.calls)
+          free true = all_append (λ (y : Call). y.command < c + 1) p.run_report.calls _ more (new node session statement (has_transaction (node_at p.facts node) session), tt)
+          free false = more
       by _ = more
 
   low_on : (p : Past) (h : Happening) → comes_next places asked p ≡ Some h → MayHappen places asked p.facts h → AreLow p → AreLow (next places asked p h)
   unfolding next facts_after
   low_on p (happenings.Begun c) comes may now = low_begun p c (command_at asked c) may.1 now
-  low_on p (happenings.Turn u) comes may now = (turn_lasts p.facts.command (node_at p.facts u.node) p.run_report u (outcome_at places p.facts u)).calls (λ m. m ≤ p.facts.command) now
-  low_on p (happenings.Stopped n) comes may now = (stop_lasts places asked p.facts p.run_report n).calls (λ m. m ≤ p.facts.command) now
+  low_on p (happenings.Turn u) comes may now = (turn_lasts p.facts.command (node_at p.facts u.node) p.run_report u (outcome_at places p.facts u)).calls (p.facts.command + 1) now
+  low_on p (happenings.Stopped n) comes may now = (stop_lasts places asked p.facts p.run_report n).calls (p.facts.command + 1) now
   low_on p (happenings.Started n boot) comes may now = now
   low_on p (happenings.Cut a b) comes may now = now
   low_on p (happenings.Join a b) comes may now = now
@@ -118,20 +130,21 @@ module _ (places : List Place) (asked : List Command) where
   module _ (c : ℕ) (s : Said) (before : List AnswerLine) (plain : is_start (command_at asked c) ≡ false) where
     -- The command runs, and this is the first of its lines; or another one runs, and the line stands in the report.
     data Stands (p : Past) : Type 0 where
-      Runs : p.facts.command ≡ c → p.run_report.lines ≡ before → (more : List Said) → p.run_report.page.own ≡ s ∷ more → AreOf (λ m. m < c) p.run_report.calls → Stands p
+      Runs : p.facts.command ≡ c → p.run_report.lines ≡ before → (more : List Said) → p.run_report.page.own ≡ s ∷ more → AreBelow c p.run_report.calls → Stands p
       Ran : (more : List AnswerLine) → p.run_report.lines ≡ before ++ line c s ∷ more → Stands p
 
     -- so the report has it
     abbrev Has : List AnswerLine → Type 0
     Has xs = (more : List AnswerLine) × (xs ≡ before ++ line c s ∷ more)
 
+    abbrev all_with : Past → List AnswerLine → ℕ → List Said → List AnswerLine
+    all_with p lines n own = lines ++ ((map (line n) own ++ p.run_report.page.others) ++ map (line n) (p.run_report.page.stops ++ over_line p.facts p.run_report))
+
     has_line : (p : Past) → Stands p → Has (all_lines p.facts p.run_report)
-    has_line p (Runs runs lines more own none) =
-        let t : RunReport = p.run_report in
-        (
-          map (line c) more ++ t.page.others ++ map (line c) _,
-          ap (λ n. t.lines ++ map (line n) t.page.own ++ t.page.others ++ map (line n) _) runs ∙ (ap (λ xs. xs ++ map (line c) t.page.own ++ t.page.others ++ map (line c) _) lines ∙ ap (λ xs. before ++ map (line c) xs ++ t.page.others ++ map (line c) _) own),
-        )
+    has_line p (Runs runs lines more own none) = (
+      (map (line c) more ++ p.run_report.page.others) ++ map (line c) (p.run_report.page.stops ++ over_line p.facts p.run_report),
+      ap (λ n. all_with p p.run_report.lines n p.run_report.page.own) runs ∙ (ap (λ xs. all_with p xs c p.run_report.page.own) lines ∙ ap (all_with p before c) own),
+    )
     has_line p (Ran more lines) = (
       more ++ page_lines p.facts p.run_report,
       ap (λ xs. xs ++ page_lines p.facts p.run_report) lines ∙ append_assoc before (line c s ∷ more) (page_lines p.facts p.run_report),
@@ -143,7 +156,7 @@ module _ (places : List Place) (asked : List Command) where
 
     grown : (p q : Past) → q.facts.command ≡ p.facts.command → Grows p.run_report q.run_report → Stands p → Stands q
     grown p q command it (Runs runs lines more own none) =
-        Runs (command ∙ runs) (it.lasts.lines ∙ lines) (more ++ it.more) (it.own ∙ ap (λ xs. xs ++ it.more) own) (it.lasts.calls (λ m. m < c) none)
+        Runs (command ∙ runs) (it.lasts.lines ∙ lines) (more ++ it.more) (it.own ∙ ap (λ xs. xs ++ it.more) own) (it.lasts.calls c none)
     grown p q command it (Ran more lines) = Ran more (it.lasts.lines ∙ lines)
 
     stands_on : (p : Past) (h : Happening) → comes_next places asked p ≡ Some h → MayHappen places asked p.facts h → Stands p → Stands (next places asked p h)
@@ -151,7 +164,7 @@ module _ (places : List Place) (asked : List Command) where
     stands_on p (happenings.Begun d) comes may now = (let it = has_line p now in Ran it.0 it.1)
     stands_on p (happenings.Turn u) comes may (Runs runs lines more own none) =
         grown p (next places asked p (happenings.Turn u)) refl
-        (turn_grows p.facts.command (node_at p.facts u.node) p.run_report u (outcome_at places p.facts u) (subst (λ n. AreOf (λ m. m < n) p.run_report.calls) (sym runs) none)) (Runs runs lines more own none)
+        (turn_grows p.facts.command (node_at p.facts u.node) p.run_report u (outcome_at places p.facts u) (subst (λ n. AreBelow n p.run_report.calls) (sym runs) none)) (Runs runs lines more own none)
     stands_on p (happenings.Turn u) comes may (Ran more lines) = Ran more ((turn_lasts p.facts.command (node_at p.facts u.node) p.run_report u (outcome_at places p.facts u)).lines ∙ lines)
     stands_on p (happenings.Stopped n) comes may (Runs runs lines more own none) =
         grown p (next places asked p (happenings.Stopped n)) refl
@@ -182,7 +195,7 @@ module _ (t : History) (due : IsTheRunOf t) (whole : IsLawfulRun t) (i c : ℕ) 
     unfolding next facts_after
     begun_stands number low =
         Runs refl refl [] (ap (says_at_once t.places p.facts p.run_report) command ∙ says)
-        (subst (AreOf (λ m. m < c)) (sym (ap (calls_after p.facts p.run_report c) command ∙ calls)) (all_weaker (λ (y : Call). y.command ≤ p.facts.command) (λ y. y.command < c) (λ y less. omega (arith, less, number)) p.run_report.calls low))
+        (subst (AreBelow c) (sym (ap (calls_after p.facts p.run_report c) command ∙ calls)) (subst (λ n. AreBelow n p.run_report.calls) (sym number) low))
 
     pub stays_printed : (j : ℕ) → i < j → (more : List AnswerLine) × (lines_upto t j ≡ lines_upto t i ++ line c s ∷ more)
     unfolding past IsTheRun IsLawful
@@ -203,8 +216,8 @@ module _ (t : History) (due : IsTheRunOf t) (whole : IsLawfulRun t) (i c : ℕ) 
 
   pub pending_printed : (n : ℕ) → command_at t.commands c ≡ commands.ShowPending n → is_up p.facts n ≡ true → Prints t i c (shown t.places p.facts (commands.ShowPending n))
   pending_printed n command up =
-      stays_printed (commands.ShowPending n) command refl refl _ (ap (λ q. if q then one (said.World (notices.Shown (shown t.places p.facts (commands.ShowPending n)))) else one _) up)
+      stays_printed (commands.ShowPending n) command refl refl _ (ap (λ q. if q then one (said.World (notices.Shown (shown t.places p.facts (commands.ShowPending n)))) else one (is_down t.places n)) up)
 
   pub neighbors_printed : (n : ℕ) → command_at t.commands c ≡ commands.ShowNeighbors n → is_up p.facts n ≡ true → Prints t i c (shown t.places p.facts (commands.ShowNeighbors n))
   neighbors_printed n command up =
-      stays_printed (commands.ShowNeighbors n) command refl refl _ (ap (λ q. if q then one (said.World (notices.Shown (shown t.places p.facts (commands.ShowNeighbors n)))) else one _) up)
+      stays_printed (commands.ShowNeighbors n) command refl refl _ (ap (λ q. if q then one (said.World (notices.Shown (shown t.places p.facts (commands.ShowNeighbors n)))) else one (is_down t.places n)) up)

@@ -10,7 +10,8 @@ use Rattle.run_rules.specs.Data.{Turn}
 use Rattle.run_rules.specs.Facts.{Facts, first_facts, facts_of}
 use Rattle.run_rules.specs.Trail.{trail_of}
 use Rattle.run_branch_laws.specs.TriedRun.{names, places, calls, takes, played, coming, a, b}
-use Rattle.view_laws.specs.BranchRows.{OpenColumns, pending_at, neighbors_at}
+use Rattle.view_laws.specs.GivenColumns.{Given, nothing_given, given_of}
+use Rattle.view_laws.specs.BranchRows.{pending_at, neighbors_at}
 
 -- the facts when these have come
 abbrev pub facts_when : List (Facts → Turn) → Facts
@@ -20,13 +21,13 @@ facts_when comes = facts_of places [] (first_facts places) (played (first_facts 
 abbrev pub trail_when : List (Facts → Turn) → Trail
 trail_when comes = trail_of places [] (first_facts places) no_trail (played (first_facts places) comes)
 
--- nothing in the open columns
-abbrev pub blank : BranchId → OpenColumns
-blank g = record { root = g; advice = None; comment = [] }
+-- and what came for the rows of branches that collect
+abbrev pub given_when : List (Facts → Turn) → Given
+given_when comes = given_of places [] (first_facts places) no_trail nothing_given (played (first_facts places) comes)
 
 -- the rows of a branch
 abbrev pub rows_when : List (Facts → Turn) → ℕ → BranchId → List Pending
-rows_when comes n g = pending_at (facts_when comes) (trail_when comes) n blank g
+rows_when comes n g = pending_at (facts_when comes) (trail_when comes) (given_when comes) n g
 
 -- and their states
 abbrev pub states_when : List (Facts → Turn) → ℕ → BranchId → List (List ℕ)
