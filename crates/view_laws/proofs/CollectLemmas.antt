@@ -135,7 +135,7 @@ IsPlanned tr g root c = (plan_at tr root ≢ None) × (c ≡ g.comment root)
 
 -- What is told of a live branch for its row.
 pub record LiveGot (tr : Trail) (g : Given) (l : Live) : Type 0 where
-  pub root : (s : Seen) × (seen_at tr l.me ≡ Some s) × (s.root ≡ l.root)
+  pub told : (s : Seen) × (seen_at tr l.me ≡ Some s) × (s.root ≡ l.root) × (s.parent ≡ l.parent)
   pub advice : l.advice ≡ g.advice l.me
   pub top : l.parent ≡ None → l.advice ≡ None
   pub comment : l.phase ≢ phases.Working → IsPlanned tr g l.root l.comment
@@ -185,7 +185,7 @@ module _ (t : History) (whole : IsLawfulRun t) where
   GivesAt hs = Gives (births_of (so_far t hs)) (f_at t hs) (tr_at t hs) (g_at t hs)
 
   -- one happening more
-  gives_at : (hs : List Happening) (h : Happening)
+  pub gives_at : (hs : List Happening) (h : Happening)
       → Gives (births_of (so_far t (hs ++ h ∷ []))) (facts_after t.places t.commands (f_at t hs) h) (trail_after t.places (f_at t hs) (tr_at t hs) h) (given_after t.places (f_at t hs) (tr_at t hs) h (g_at t hs)) → GivesAt (hs ++ h ∷ [])
   gives_at hs h it =
       subst (λ f. Gives (births_of (so_far t (hs ++ h ∷ []))) f (tr_at t (hs ++ h ∷ [])) (g_at t (hs ++ h ∷ []))) (sym (one_on t hs h))
@@ -242,7 +242,7 @@ module _ (t : History) (whole : IsLawfulRun t) where
         let own : l.me.node ≡ n = all_found (λ (y : Live). y.me.node ≡ n) live_id j.lives l.me l (ids_name_their_node s0 lawful0 n j before).lives live in
         let not_here : ExecCame u.input l.me → ⊥ = (λ exec. other (sym (came_here f0 k u.node u.input u.took may.1.comes exec.0 l.me (kinds.Exec exec.1 exec.2 exec.3 exec.4) exec.5) ∙ own)) in
         record {
-          root = (turned t.places f0 tr0 u was.root.0, seen_turned t.places f0 tr0 u l.me was.root.0 was.root.1, was.root.2);
+          told = (turned t.places f0 tr0 u was.told.0, seen_turned t.places f0 tr0 u l.me was.told.0 was.told.1, was.told.2, was.told.3);
           advice = was.advice ∙ sym (none_gives tr0 l.me (g0.advice l.me) u.input not_here);
           top = was.top;
           comment = λ busy. planned_on l.root l.comment (was.comment busy);
@@ -455,13 +455,13 @@ module _ (t : History) (whole : IsLawfulRun t) where
             by (Prepares z there advice from q came) = by_prepare z (back l.me (Some z) there) from q came
             by (Begins gone advice phase not_exec) = absurd (busy phase)
 
-        root_so : (s : Seen) × (seen_at tr1 l.me ≡ Some s) × (s.root ≡ l.root)
-        root_so = (turned t.places f0 tr0 u told.0, seen_begun t.places f0 tr0 u l.me told.0 told.1, told.2)
+        told_so : (s : Seen) × (seen_at tr1 l.me ≡ Some s) × (s.root ≡ l.root) × (s.parent ≡ l.parent)
+        told_so = (turned t.places f0 tr0 u told.0, seen_begun t.places f0 tr0 u l.me told.0 told.1, told.2, told.3)
           where
-            new_told : live_at k l.me ≡ None → (s : Seen) × (seen_at trb l.me ≡ Some s) × (s.root ≡ l.root)
+            new_told : live_at k l.me ≡ None → (s : Seen) × (seen_at trb l.me ≡ Some s) × (s.root ≡ l.root) × (s.parent ≡ l.parent)
             new_told none = elim ((turns.opens_by t whole hs u rest is roots0 owns0 cut l live).new none) [
               | inl top ↦ by_root top (view t whole hs u rest is roots0.roots tops.counts tops.born cut)
-              | inr opened ↦ (newly_seen l.me opened.root (Some opened.parent), kids.opened_begun t whole hs u rest is tells cut l opened, sym opened.is_root)
+              | inr opened ↦ (newly_seen l.me opened.root (Some opened.parent), kids.opened_begun t whole hs u rest is tells cut l opened, sym opened.is_root, sym opened.is_parent)
             ]
               where
                 known : Knows k1 trb l.me
@@ -470,11 +470,11 @@ module _ (t : History) (whole : IsLawfulRun t) where
                 begun_one : item_at seen_id (begun_in_turn f0 tr0 u) l.me ≡ Some known.seen
                 begun_one = sym (later_seen tr0.seen (begun_in_turn f0 tr0 u) l.me (not_told none)) ∙ known.at
 
-                by_root : l.parent ≡ None → TurnBegins t whole hs u rest is roots0.roots tops.counts tops.born (begun_in_turn f0 tr0 u) → (s : Seen) × (seen_at trb l.me ≡ Some s) × (s.root ≡ l.root)
+                by_root : l.parent ≡ None → TurnBegins t whole hs u rest is roots0.roots tops.counts tops.born (begun_in_turn f0 tr0 u) → (s : Seen) × (seen_at trb l.me ≡ Some s) × (s.root ≡ l.root) × (s.parent ≡ l.parent)
                 by_root top (None_begins nobody are) = (let nothing : item_at seen_id [] l.me ≡ Some known.seen = subst (λ ys. item_at seen_id ys l.me ≡ Some known.seen) are begun_one in absurd cc)
                 by_root top (Root_begins n s call rows range no_root are) =
                     let one : root_seen (new_root p k n) ≡ known.seen = only_one (root_seen (new_root p k n)) l.me known.seen (subst (λ ys. item_at seen_id ys l.me ≡ Some known.seen) are begun_one) in
-                    (known.seen, known.at, ap (λ (y : Seen). y.root) (sym one) ∙ (ap (λ (y : Seen). y.me) one ∙ (item_is seen_id trb.seen l.me known.seen known.at ∙ sym (own_root top))))
+                    (known.seen, known.at, ap (λ (y : Seen). y.root) (sym one) ∙ (ap (λ (y : Seen). y.me) one ∙ (item_is seen_id trb.seen l.me known.seen known.at ∙ sym (own_root top))), ap (λ (y : Seen). y.parent) (sym one) ∙ sym top)
                 by_root top (Child_begins y nobody its below alive untold are) =
                     let one : y ≡ known.seen = only_one y l.me known.seen (subst (λ ys. item_at seen_id ys l.me ≡ Some known.seen) are begun_one) in
                     let y_me : y.me ≡ l.me = ap (λ (z : Seen). z.me) one ∙ item_is seen_id trb.seen l.me known.seen known.at in
@@ -483,17 +483,17 @@ module _ (t : History) (whole : IsLawfulRun t) where
                     let same_one : its.0 ≡ born1.born = cc in
                     absurd (its.3 (ap (λ (x : Born). x.parent) same_one ∙ (born1.is_parent ∙ top)))
 
-            by : (o : Option Live) → live_at k l.me ≡ o → (s : Seen) × (seen_at trb l.me ≡ Some s) × (s.root ≡ l.root)
+            by : (o : Option Live) → live_at k l.me ≡ o → (s : Seen) × (seen_at trb l.me ≡ Some s) × (s.root ≡ l.root) × (s.parent ≡ l.parent)
             by None none = new_told none
             by (Some z) there =
-                let it = (was z there).root in
-                (it.0, find_more (is_item_of seen_id l.me) tr0.seen _ it.0 (subst (λ c. seen_at tr0 c ≡ Some it.0) (me z there) it.1), it.2 ∙ root_same z there)
+                let it = (was z there).told in
+                (it.0, find_more (is_item_of seen_id l.me) tr0.seen _ it.0 (subst (λ c. seen_at tr0 c ≡ Some it.0) (me z there) it.1), it.2 ∙ root_same z there, it.3 ∙ parent_same z there)
 
-            told : (s : Seen) × (seen_at trb l.me ≡ Some s) × (s.root ≡ l.root)
+            told : (s : Seen) × (seen_at trb l.me ≡ Some s) × (s.root ≡ l.root) × (s.parent ≡ l.parent)
             told = by (live_at k l.me) refl
 
         own_got : LiveGot tr1 g1 l
-        own_got = record { root = root_so; advice = advice_so; top = top_so; comment = comment_so }
+        own_got = record { told = told_so; advice = advice_so; top = top_so; comment = comment_so }
 
       -- ---- what is sent
 
@@ -503,7 +503,7 @@ module _ (t : History) (whole : IsLawfulRun t) where
           let its : StandsBelow (Began bs1) x (Some from) = subst (StandsBelow (Began bs1) x) parent stands in
           (its.0, its.1, its.2, its.3)
 
-      one_sent : (from to : BranchId) (kind : Kind) → CarriesSo k1.sessions d.after from kind → GoesSo (Began bs1) from to kind → PrepareGot bs1 tr1 g1 to kind
+      one_sent : (from to : BranchId) (kind : Kind) → CarriesSo d.after from kind → GoesSo (Began bs1) from to kind → PrepareGot bs1 tr1 g1 to kind
       one_sent from to (kinds.Prepare site_below c) carries goes =
           let l : Live = carries.live in
           let l_me : l.me ≡ from = item_is live_id d.after.lives from l carries.at in
@@ -518,7 +518,7 @@ module _ (t : History) (whole : IsLawfulRun t) where
           (goes.0, goes.1, goes.2, subst (IsPlanned tr1 g1 goes.0.root) carries.same (subst (λ r. IsPlanned tr1 g1 r l.comment) root planned))
       one_sent from to _ carries goes = tt
 
-      all_sent : (posts : List Post) → AllByRecursion (λ x. CarriesSo k1.sessions d.after x.from x.kind) posts → AllByRecursion (λ (x : Post). GoesSo (Began bs1) x.from x.to x.kind) (map post_of (map (stamped d.after.clock) posts))
+      all_sent : (posts : List Post) → AllByRecursion (λ x. CarriesSo d.after x.from x.kind) posts → AllByRecursion (λ (x : Post). GoesSo (Began bs1) x.from x.to x.kind) (map post_of (map (stamped d.after.clock) posts))
           → AllByRecursion (λ m. PrepareGot bs1 tr1 g1 m.to m.kind) (map (stamped d.after.clock) posts)
       all_sent [] carry go = tt
       all_sent (x ∷ posts) carry go = (one_sent x.from x.to x.kind carry.0 go.0, all_sent posts carry.1 go.1)
@@ -539,7 +539,7 @@ module _ (t : History) (whole : IsLawfulRun t) where
         by true cut = subst (AllByRecursion (λ m. PrepareGot bs1 tr1 g1 m.to m.kind)) (sym (subst (λ c. IsOwed p k u.input u.wrote u.sent c) cut may.1.owed).1) tt
         by false cut =
             let sent : u.sent ≡ map (stamped d.after.clock) d.says = (subst (λ c. IsOwed p k u.input u.wrote u.sent c) cut may.1.owed).1 in
-            let carry : CarrySo k1.sessions d = carry_on p u.input (serves t.places f0 u k may.1).step in
+            let carry : CarrySo d = carry_on p u.input (serves t.places f0 u k may.1).step in
             subst (AllByRecursion (λ m. PrepareGot bs1 tr1 g1 m.to m.kind)) (sym sent)
             (all_sent cut d.says carry (subst (λ ms. AllByRecursion (λ (x : Post). GoesSo (Began bs1) x.from x.to x.kind) (map post_of ms)) sent goes1))
 
@@ -585,7 +585,7 @@ module _ (t : History) (whole : IsLawfulRun t) where
     same_gives : (g : Facts) (tr : Trail) (v : Given) → facts_after t.places t.commands (f_at t hs) h ≡ g → trail_after t.places (f_at t hs) (tr_at t hs) h ≡ tr → given_after t.places (f_at t hs) (tr_at t hs) h (g_at t hs) ≡ v
         → ((n : ℕ) (j : NodeState) → node_at g n ≡ Some j → (l : Live) → live_at j l.me ≡ Some l → node_at (f_at t hs) n ≡ Some j)
         → AllByRecursion (λ x. PrepareGot (births_of (so_far t (hs ++ h ∷ []))) (trail_after t.places (f_at t hs) (tr_at t hs) h) (given_after t.places (f_at t hs) (tr_at t hs) h (g_at t hs)) x.msg.to x.msg.kind) (facts_after t.places t.commands (f_at t hs) h).net.packets
-        → ((b : BranchId) (s : Seen) → seen_at (tr_at t hs) b ≡ Some s → (y : Seen) × (seen_at tr b ≡ Some y) × (y.root ≡ s.root) × (y.taken ≡ s.taken)) → ((b : BranchId) → v.advice b ≡ (g_at t hs).advice b) → GivesAt (hs ++ h ∷ [])
+        → ((b : BranchId) (s : Seen) → seen_at (tr_at t hs) b ≡ Some s → (y : Seen) × (seen_at tr b ≡ Some y) × (y.root ≡ s.root) × (y.taken ≡ s.taken) × (y.parent ≡ s.parent)) → ((b : BranchId) → v.advice b ≡ (g_at t hs).advice b) → GivesAt (hs ++ h ∷ [])
     same_gives g tr v facts trail given still said told advice =
         gives_at hs h
         (subst (λ f. Gives (births_of (so_far t (hs ++ h ∷ []))) f (trail_after t.places (f_at t hs) (tr_at t hs) h) (given_after t.places (f_at t hs) (tr_at t hs) h (g_at t hs))) refl (record {
@@ -595,15 +595,15 @@ module _ (t : History) (whole : IsLawfulRun t) where
           unseen = λ b none. ap (λ (w : Given). w.advice b) given ∙ (advice b ∙ now.unseen b (before b (subst (λ x. seen_at x b ≡ None) trail none)));
         }))
       where
-        told_so : (b : BranchId) (s : Seen) → seen_at (tr_at t hs) b ≡ Some s → (y : Seen) × (seen_at (trail_after t.places (f_at t hs) (tr_at t hs) h) b ≡ Some y) × (y.root ≡ s.root) × (y.taken ≡ s.taken)
-        told_so b s at = let it = told b s at in (it.0, subst (λ x. seen_at x b ≡ Some it.0) (sym trail) it.1, it.2, it.3)
+        told_so : (b : BranchId) (s : Seen) → seen_at (tr_at t hs) b ≡ Some s → (y : Seen) × (seen_at (trail_after t.places (f_at t hs) (tr_at t hs) h) b ≡ Some y) × (y.root ≡ s.root) × (y.taken ≡ s.taken) × (y.parent ≡ s.parent)
+        told_so b s at = let it = told b s at in (it.0, subst (λ x. seen_at x b ≡ Some it.0) (sym trail) it.1, it.2, it.3, it.4)
 
         one : (n : ℕ) (j : NodeState) → node_at (f_at t hs) n ≡ Some j → (l : Live) → live_at j l.me ≡ Some l → LiveGot (trail_after t.places (f_at t hs) (tr_at t hs) h) (given_after t.places (f_at t hs) (tr_at t hs) h (g_at t hs)) l
         one n j up l live =
             let was : LiveGot (tr_at t hs) (g_at t hs) l = now.lives n j up l live in
-            let it = told_so l.me was.root.0 was.root.1 in
+            let it = told_so l.me was.told.0 was.told.1 in
             record {
-              root = (it.0, it.1, it.2 ∙ was.root.2);
+              told = (it.0, it.1, it.2 ∙ was.told.2, it.4 ∙ was.told.3);
               advice = was.advice ∙ sym (ap (λ (w : Given). w.advice l.me) given ∙ advice l.me);
               top = was.top;
               comment = λ busy. planned_after t.places (f_at t hs) (tr_at t hs) (g_at t hs) h l.root l.comment (was.comment busy);
@@ -611,7 +611,7 @@ module _ (t : History) (whole : IsLawfulRun t) where
 
         calls : (n : ℕ) (j : NodeState) → node_at (f_at t hs) n ≡ Some j → (l : Live) → live_at j l.me ≡ Some l → taken_of (seen_at (trail_after t.places (f_at t hs) (tr_at t hs) h) l.me) ≡ last_of j l.me
         calls n j up l live =
-            let was = (now.lives n j up l live).root in
+            let was = (now.lives n j up l live).told in
             let it = told_so l.me was.0 was.1 in
             ap taken_of it.1 ∙ (it.3 ∙ (sym (ap taken_of was.1) ∙ now.calls n j up l live))
 
@@ -625,12 +625,12 @@ module _ (t : History) (whole : IsLawfulRun t) where
     old_said : AllByRecursion (λ x. PrepareGot (births_of (so_far t (hs ++ h ∷ []))) (trail_after t.places (f_at t hs) (tr_at t hs) h) (given_after t.places (f_at t hs) (tr_at t hs) h (g_at t hs)) x.msg.to x.msg.kind) (f_at t hs).net.packets
     old_said = all_weaker _ _ (λ x got. prepare_on hs h rest is x.msg.to x.msg.kind got) (f_at t hs).net.packets now.said
 
-  stopped_told : (n : ℕ) (s : Seen) → ((stopped_by n s).root ≡ s.root) × ((stopped_by n s).taken ≡ s.taken)
+  stopped_told : (n : ℕ) (s : Seen) → ((stopped_by n s).root ≡ s.root) × ((stopped_by n s).taken ≡ s.taken) × ((stopped_by n s).parent ≡ s.parent)
   stopped_told n s = by (is_live_at n s)
     where
-      by : (q : Bool) → ((if q then record s { exit = Some Dropped } else s).root ≡ s.root) × ((if q then record s { exit = Some Dropped } else s).taken ≡ s.taken)
-      by true = (refl, refl)
-      by false = (refl, refl)
+      by : (q : Bool) → ((if q then record s { exit = Some Dropped } else s).root ≡ s.root) × ((if q then record s { exit = Some Dropped } else s).taken ≡ s.taken) × ((if q then record s { exit = Some Dropped } else s).parent ≡ s.parent)
+      by true = (refl, refl, refl)
+      by false = (refl, refl, refl)
 
   abbrev PreparesSo : List Happening → Happening → Msg → Type 0
   PreparesSo hs h m = PrepareGot (births_of (so_far t (hs ++ h ∷ []))) (trail_after t.places (f_at t hs) (tr_at t hs) h) (given_after t.places (f_at t hs) (tr_at t hs) h (g_at t hs)) m.to m.kind
@@ -641,7 +641,7 @@ module _ (t : History) (whole : IsLawfulRun t) where
   gives_on hs (happenings.Stopped n) rest is now =
       same_gives hs (happenings.Stopped n) rest is now _ _ _ refl refl refl (λ m j up l live. stop_still t whole (f_at t hs) n m j up)
       (sent_after (PreparesSo hs (happenings.Stopped n)) t.places t.commands (f_at t hs) (happenings.Stopped n) tt (old_said hs (happenings.Stopped n) rest is now))
-      (λ b s at. (let it = stopped_told n s in (stopped_by n s, item_mapped seen_id (stopped_by n) (stopped_me n) (tr_at t hs).seen b s at, it.0, it.1))) (λ b. refl)
+      (λ b s at. (let it = stopped_told n s in (stopped_by n s, item_mapped seen_id (stopped_by n) (stopped_me n) (tr_at t hs).seen b s at, it.0, it.1, it.2))) (λ b. refl)
   gives_on hs (happenings.Started n boot) rest is now =
       same_gives hs (happenings.Started n boot) rest is now _ _ _ refl refl refl
       (λ m j up l live. elim (set_or_before (f_at t hs).nodes n m (Some (start_of (with_boot (f_at t hs) n boot)))) [
@@ -649,19 +649,19 @@ module _ (t : History) (whole : IsLawfulRun t) where
         | inr new ↦ absurd (started_none (f_at t hs) n boot m j l new.1 up live)
       ])
       (sent_after (PreparesSo hs (happenings.Started n boot)) t.places t.commands (f_at t hs) (happenings.Started n boot) tt (old_said hs (happenings.Started n boot) rest is now))
-      (λ b s at. (s, at, refl, refl)) (λ b. refl)
+      (λ b s at. (s, at, refl, refl, refl)) (λ b. refl)
   gives_on hs (happenings.Begun c) rest is now =
       same_gives hs (happenings.Begun c) rest is now _ _ _ refl refl refl (λ m j up l live. up)
-      (sent_after (PreparesSo hs (happenings.Begun c)) t.places t.commands (f_at t hs) (happenings.Begun c) tt (old_said hs (happenings.Begun c) rest is now)) (λ b s at. (s, at, refl, refl)) (λ b. refl)
+      (sent_after (PreparesSo hs (happenings.Begun c)) t.places t.commands (f_at t hs) (happenings.Begun c) tt (old_said hs (happenings.Begun c) rest is now)) (λ b s at. (s, at, refl, refl, refl)) (λ b. refl)
   gives_on hs (happenings.Cut x y) rest is now =
       same_gives hs (happenings.Cut x y) rest is now _ _ _ refl refl refl (λ m j up l live. up)
-      (sent_after (PreparesSo hs (happenings.Cut x y)) t.places t.commands (f_at t hs) (happenings.Cut x y) tt (old_said hs (happenings.Cut x y) rest is now)) (λ b s at. (s, at, refl, refl)) (λ b. refl)
+      (sent_after (PreparesSo hs (happenings.Cut x y)) t.places t.commands (f_at t hs) (happenings.Cut x y) tt (old_said hs (happenings.Cut x y) rest is now)) (λ b s at. (s, at, refl, refl, refl)) (λ b. refl)
   gives_on hs (happenings.Join x y) rest is now =
       same_gives hs (happenings.Join x y) rest is now _ _ _ refl refl refl (λ m j up l live. up)
-      (sent_after (PreparesSo hs (happenings.Join x y)) t.places t.commands (f_at t hs) (happenings.Join x y) tt (old_said hs (happenings.Join x y) rest is now)) (λ b s at. (s, at, refl, refl)) (λ b. refl)
+      (sent_after (PreparesSo hs (happenings.Join x y)) t.places t.commands (f_at t hs) (happenings.Join x y) tt (old_said hs (happenings.Join x y) rest is now)) (λ b s at. (s, at, refl, refl, refl)) (λ b. refl)
   gives_on hs (happenings.Lost x) rest is now =
       same_gives hs (happenings.Lost x) rest is now _ _ _ refl refl refl (λ m j up l live. up)
-      (sent_after (PreparesSo hs (happenings.Lost x)) t.places t.commands (f_at t hs) (happenings.Lost x) tt (old_said hs (happenings.Lost x) rest is now)) (λ b s at. (s, at, refl, refl)) (λ b. refl)
+      (sent_after (PreparesSo hs (happenings.Lost x)) t.places t.commands (f_at t hs) (happenings.Lost x) tt (old_said hs (happenings.Lost x) rest is now)) (λ b s at. (s, at, refl, refl, refl)) (λ b. refl)
 
   first_gives : GivesAt []
   unfolding facts_of trail_of start_of

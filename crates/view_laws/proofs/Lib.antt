@@ -6,6 +6,7 @@ mod DiskRunLemmas
 mod ShownLemmas
 mod SortLemmas
 mod GotLemmas
+mod AdviceLemmas
 mod CarryLemmas
 mod GrowLemmas
 mod DueStartLemmas

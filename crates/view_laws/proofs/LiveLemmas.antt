@@ -136,7 +136,7 @@ module _ (t : History) (whole : IsLawfulRun t) (hs : List Happening) (c : ℕ) (
       me = item_is seen_id (tr_at t hs).seen l.me s at
 
       root : s.root ≡ l.root
-      root = (let both : Some s ≡ Some its.root.0 = sym at ∙ its.root.1 in let one : s ≡ its.root.0 = cc in ap (λ (y : Seen). y.root) one ∙ its.root.2)
+      root = (let both : Some s ≡ Some its.told.0 = sym at ∙ its.told.1 in let one : s ≡ its.told.0 = cc in ap (λ (y : Seen). y.root) one ∙ its.told.2)
 
       advice : (if is_none s.parent then None else (g_at t hs).advice s.me) ≡ l.advice
       advice = ap (λ o. if is_none o then None else (g_at t hs).advice s.me) told.parent ∙ by l.parent refl
