@@ -77,13 +77,13 @@ module _ (ss : List Session) where
   ended_if_advice false root = λ m. refl
 
 -- in two changes
-both : {ss rs qs : List Session} → SameAdvice ss rs → SameAdvice rs qs → SameAdvice ss qs
-both first second m = second m ∙ first m
+both : (ss rs qs : List Session) → SameAdvice ss rs → SameAdvice rs qs → SameAdvice ss qs
+both ss rs qs first second m = second m ∙ first m
 
 module _ (p : Place) (input : Input) (none : (n : ℕ) (a : Option Advice) → IsCall input n (stmts.Advise a) → ⊥) where
   pub advice_on : {k : NodeState} {d : TurnDraft} → Step p input k d → SameAdvice k.sessions d.after.sessions
-  advice_on (steps.Begins {k = k} n s call rows range free step) = both (root_advice k.sessions n (new_root p k n)) (advice_on step)
-  advice_on (steps.Pends {k = k} n l given call has live code step) = both (call_advice k.sessions n pending.Commit) (advice_on step)
+  advice_on (steps.Begins {k = k} n s call rows range free step) = both _ _ _ (root_advice k.sessions n (new_root p k n)) (advice_on step)
+  advice_on (steps.Pends {k = k} n l given call has live code step) = both _ _ _ (call_advice k.sessions n pending.Commit) (advice_on step)
   advice_on (steps.Lets_reads_go l comment q live begins step) = advice_on step
   advice_on (steps.Counts_ack s from kept came counts step) = advice_on step
   advice_on (steps.Runs {k = k} x s given t asked way) = answered_advice k.sessions x.live x.live.parent
@@ -91,7 +91,7 @@ module _ (p : Place) (input : Input) (none : (n : ℕ) (a : Option Advice) → I
   advice_on (steps.Calls {k = k} x s given i table asked way) = pends_advice k.sessions x.live
   advice_on (steps.Opens {k = k} x s given node link table asked way) = pends_advice k.sessions x.live
   advice_on (steps.Goes_on {k = k} x from strength g link opened) = pends_advice k.sessions x.live
-  advice_on (steps.Hears_reply {k = k} x weight count a i e answered) = both (heard_advice k.sessions x.live a) (answered_advice (heard_sessions k.sessions x.live a) x.live x.live.parent)
+  advice_on (steps.Hears_reply {k = k} x weight count a i e answered) = both _ _ _ (heard_advice k.sessions x.live a) (answered_advice (heard_sessions k.sessions x.live a) x.live x.live.parent)
   advice_on (steps.Opens_branch to parent edge root depth came new) = λ m. refl
   advice_on (steps.Acts {k = k} l q acts.Decide why) = ended_if_advice k.sessions (is_alone l) l.me
   advice_on (steps.Acts {k = k} l q acts.Finish why) = ended_advice k.sessions l.me
@@ -116,7 +116,7 @@ module _ (p : Place) (input : Input) (none : (n : ℕ) (a : Option Advice) → I
   advice_on (steps.Forces_rollback {k = k} n id b call named) = ended_advice k.sessions b
   advice_on (steps.Advises n a call) = absurd (none n a call)
   advice_on (steps.Rolls_back {k = k} n x call has live) = done_advice k.sessions n
-  advice_on (steps.Gives_up {k = k} n x gives has calls live) = both (call_advice k.sessions n pending.NoCall) (needs_advice (with_call k.sessions n pending.NoCall) n (dtx 3 []).code)
+  advice_on (steps.Gives_up {k = k} n x gives has calls live) = both _ _ _ (call_advice k.sessions n pending.NoCall) (needs_advice (with_call k.sessions n pending.NoCall) n (dtx 3 []).code)
   advice_on (steps.Gives_up_commit {k = k} n b (Some l) gives has calls live) = ended_advice k.sessions l.me
   advice_on (steps.Gives_up_commit {k = k} n b None gives has calls live) = ended_advice k.sessions b
   advice_on (steps.Makes_record n s r d call makes) = λ m. refl

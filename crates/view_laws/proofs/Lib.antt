@@ -13,6 +13,7 @@ mod DueStartLemmas
 mod PrintLemmas
 mod GivenLemmas
 mod CollectLemmas
+mod AdvisedLemmas
 mod LiveLemmas
 mod ViewLemmas
 mod TriedViewLemmas

@@ -47,6 +47,7 @@ use Rattle.view_laws.proofs.SaidLemmas.{HasLeft, unsaid, row_left}
 use Rattle.view_laws.proofs.DiskRunLemmas.{kept_of, Disk, disks_at}
 use Rattle.view_laws.proofs.ShownLemmas.{HasRow, pending_is, neighbors_are, has_row, has_row_too}
 use Rattle.view_laws.proofs.SortLemmas.{sorted_rows, rows_flat, strict, ascend_filter, apart_by, found_each, count_mapped, found_among, count_joined}
+use Rattle.view_laws.proofs.AdvisedLemmas.{advice_goes_on}
 use Rattle.view_laws.proofs.GivenLemmas.{g_at}
 use Rattle.view_laws.proofs.PrintLemmas.{split_at, past_facts, pending_printed, neighbors_printed}
 use Rattle.view_laws.proofs.LiveLemmas.{live_rows, live_stays, seen_rows}
@@ -304,10 +305,10 @@ module _ (t : History) (due : IsTheRunOf t) (whole : IsLawfulRun t) (i c : ℕ) 
             (neighbors_printed t due whole i c begins n command (ap (λ f. is_up f n) same_facts ∙ up));
       }
 
+view_right : (t : History) → IsTheRunOf t → IsLawfulRun t → (i c : ℕ) → slice_get t.trace i ≡ Some (happenings.Begun c) → (x : Command) → command_at t.commands c ≡ x → ViewIsRight t i c x
+view_right t due whole i c begins (commands.ShowPending n) command = shows_pending t due whole i c begins n command
+view_right t due whole i c begins (commands.ShowNeighbors n) command = shows_neighbors t due whole i c begins n command
+view_right t due whole i c begins _ command = tt
+
 pub views_are_of_branches : ViewsAreOfBranches
-views_are_of_branches t due whole i c begins = by (command_at t.commands c) refl
-  where
-    by : (x : Command) → command_at t.commands c ≡ x → ViewIsRight t i c x
-    by (commands.ShowPending n) command = shows_pending t due whole i c begins n command
-    by (commands.ShowNeighbors n) command = shows_neighbors t due whole i c begins n command
-    by _ command = tt
+views_are_of_branches t due whole = record { shown = λ i c begins. view_right t due whole i c begins (command_at t.commands c) refl; advised = advice_goes_on t whole }

@@ -1,4 +1,5 @@
 pub mod GivenColumns
+pub mod AdviceLaws
 pub mod BranchRows
 pub mod ViewLaws
 pub mod TriedViews

@@ -1,8 +1,9 @@
 -- The rows of the views, tried on the run of two nodes. A has asked B to prepare, and then decides. B is prepared; an administrator
 -- forces it to roll back, it meets the commit as mixed, and its row is purged.
-use Rattle.std.specs.Prelude.{◌≡◌, ℕ, true, List, [], ◌∷◌, ◌++◌, map, take, codes, None}
+use Rattle.std.specs.Prelude.{◌≡◌, ℕ, true, List, [], ◌∷◌, ◌++◌, map, take, drop, codes, Some, None}
 use Rattle.pending_view.specs.Views.{Pending}
 use Rattle.node_rules.specs.Data.{BranchId}
+use Rattle.node_rules.specs.Data.advices
 use Rattle.node_rules.specs.Data.stmts
 use Rattle.node_rules.specs.Ids.{local_text}
 use Rattle.run_rules.specs.Branches.{Trail, no_trail}
@@ -49,7 +50,16 @@ met = forced_back ++ takes 7 ∷ []
 abbrev pub purged : List (Facts → Turn)
 purged = met ++ calls 2 (stmts.PurgeMixed (local_text b)) ∷ []
 
--- The states of the rows of A and B, and whether B's row of its parent points to the commit point site.
+-- the same with a comment on COMMIT
+abbrev pub commented : List (Facts → Turn)
+commented = take 9 coming ++ calls 1 (stmts.Commit (Some (codes "x"))) ∷ []
+
+-- and with an advice, as the Exec has come to B
+abbrev pub advised : List (Facts → Turn)
+advised = take 3 coming ++ calls 1 (stmts.Advise (Some advices.Commit)) ∷ take 4 (drop 3 coming)
+
+-- The states of the rows of A and B, whether B's row of its parent points to the commit point site, the
+-- transaction, the comment and the advice of A's row while it collects, and the advice that came to B.
 pub record TheTriedViews : Type 0 where
   pub working : states_when (take 9 coming) 1 a ≡ []
   pub collecting : states_when (take 10 coming) 1 a ≡ codes "collecting" ∷ []
@@ -59,4 +69,8 @@ pub record TheTriedViews : Type 0 where
   pub mixed : map (λ r. r.mixed) (rows_when met 2 b) ≡ true ∷ []
   pub hidden : states_when purged 2 b ≡ []
   pub forgotten : states_when coming 1 a ≡ []
+  pub root : map (λ r. r.root) (rows_when (take 10 coming) 1 a) ≡ a ∷ []
+  pub comment : map (λ r. r.comment) (rows_when commented 1 a) ≡ codes "x" ∷ []
+  pub none : map (λ r. r.advice) (rows_when commented 1 a) ≡ None ∷ []
+  pub advice : (given_when advised).advice b ≡ Some advices.Commit
   pub toward : map (λ r. r.to_site) (neighbors_at names (facts_when prepared) 2 b) ≡ true ∷ []

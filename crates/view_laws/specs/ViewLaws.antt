@@ -19,6 +19,7 @@ use Rattle.run_rules.specs.Lawful.{History, IsLawfulRun}
 use Rattle.run_rules.specs.Lines.{line, all_lines}
 use Rattle.run_rules.specs.Scripts.{IsTheRunOf}
 use Rattle.run_claims.specs.Places.{past_upto}
+use Rattle.view_laws.specs.AdviceLaws.{AdviceGoesOn}
 use Rattle.view_laws.specs.GivenColumns.{given_upto}
 use Rattle.view_laws.specs.BranchRows.{pending_at, neighbors_at}
 
@@ -69,9 +70,10 @@ ViewIsRight t i c (commands.ShowPending n) = is_up (facts_upto t i) n ≡ true �
 ViewIsRight t i c (commands.ShowNeighbors n) = is_up (facts_upto t i) n ≡ true → ShowsNeighbors t i c n
 ViewIsRight t i c _ = Unit {0}
 
--- wherever a command begins in a run
-abbrev pub ViewsOf : History → Type 0
-ViewsOf t = (i c : ℕ) → slice_get t.trace i ≡ Some (happenings.Begun c) → ViewIsRight t i c (command_at t.commands c)
+-- It is so wherever a command begins in a run, and the advice that branches show is that of their clients' sessions.
+pub record ViewsOf (t : History) : Type 0 where
+  pub shown : (i c : ℕ) → slice_get t.trace i ≡ Some (happenings.Begun c) → ViewIsRight t i c (command_at t.commands c)
+  pub advised : AdviceGoesOn t
 
 -- In the run of a script, which is a lawful one, it is so.
 abbrev pub ViewsAreOfBranches : Type 0
