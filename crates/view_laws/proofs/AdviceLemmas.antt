@@ -1,7 +1,7 @@
 -- The advice of a session: ALTER SESSION ADVISE sets it, and nothing else that a node does touches it.
-use Rattle.std.proofs.Common.{◌≡◌, ℕ, zero, suc, ◌&&◌, Bool, true, false, if◌then◌else◌, is_none, List, [], ◌∷◌, replicate, slice_get, unwrap_or, Option, Some, None, inl, inr, refl, ap, ◌∙◌}
+use Rattle.std.proofs.Common.{◌≡◌, ℕ, zero, suc, ◌&&◌, Bool, true, false, if◌then◌else◌, is_none, List, [], replicate, slice_get, unwrap_or, Option, Some, None, inl, inr, refl, ap, ◌∙◌}
 use Rattle.std.proofs.lemmas.Bool.{cond_both}
-use Rattle.node_rules.specs.Data.{Act, Advice, Answer, BranchId, Decision, Input, Live, Place, Stmt}
+use Rattle.node_rules.specs.Data.{Advice, Answer, BranchId, Decision, Input, Live, Place}
 use Rattle.node_rules.specs.Data.acts
 use Rattle.node_rules.specs.Data.decisions
 use Rattle.node_rules.specs.Data.nexts

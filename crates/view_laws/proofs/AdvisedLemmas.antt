@@ -1,5 +1,5 @@
 -- In every lawful run a session has the advice that its last ALTER SESSION ADVISE set, and an Exec brings that of its sender.
-use Rattle.std.proofs.Common.{◌≡◌, ◌≢◌, ℕ, zero, suc, ◌+◌, ◌==◌, ◌&&◌, ◌⊎◌, Bool, true, false, if◌then◌else◌, is_none, List, [], ◌∷◌, ◌++◌, map, unwrap_or, Option, Some, None, inl, inr, refl, sym, ap, subst, ◌∙◌, arith}
+use Rattle.std.proofs.Common.{◌≡◌, ℕ, zero, suc, ◌+◌, ◌==◌, ◌&&◌, ◌⊎◌, Bool, true, false, if◌then◌else◌, is_none, List, [], ◌∷◌, ◌++◌, map, unwrap_or, Option, Some, None, inl, inr, refl, sym, ap, subst, ◌∙◌, arith}
 use Rattle.std.specs.Prelude.{slice_get, take}
 use Rattle.std.specs.List.{AllByRecursion}
 use Rattle.std.proofs.lemmas.Bool.{cases_eq, eq-eqb, eqb-true, ne_eqb}
@@ -15,12 +15,12 @@ use Rattle.node_rules.specs.NodeState.{NodeState, live_at, live_id}
 use Rattle.node_rules.specs.Sessions.{fresh_session, session_at}
 use Rattle.node_rules.specs.Turn.{draft_of, heard, made, stamped, start_of, turn_of}
 use Rattle.node_rules.specs.Words.{numbered, set_numbered}
-use Rattle.run_rules.specs.Branches.{Seen, Trail, seen_at}
+use Rattle.run_rules.specs.Branches.{seen_at}
 use Rattle.run_rules.specs.Data.{Happening, Turn}
 use Rattle.run_rules.specs.Data.happenings
 use Rattle.run_rules.specs.Facts.{Facts, facts_after, facts_of, flat, kept_after, node_at, with_boot}
 use Rattle.run_rules.specs.Lawful.{History, IsLawfulRun, IsOwed}
-use Rattle.run_rules.specs.Trail.{trail_after, trail_of}
+use Rattle.run_rules.specs.Trail.{trail_of}
 use Rattle.run_rules.proofs.AtNodeLemmas.{item_there, turn_elsewhere, turn_here}
 use Rattle.run_base_laws.proofs.EventsStandLemmas.{ids_name_their_node, run_stands}
 use Rattle.run_base_laws.proofs.LawfulLemmas.{serves}
@@ -28,7 +28,7 @@ use Rattle.run_base_laws.proofs.NodeLemmas.{kept_alone}
 use Rattle.run_base_laws.proofs.OwnLemmas.{all_found}
 use Rattle.run_base_laws.proofs.RootLemmas.{SessionsFit, session_or_before, sessions_keep}
 use Rattle.tree_laws.proofs.AtTurn.{at_turn}
-use Rattle.tree_laws.proofs.PrefixLemmas.{f_at, one_on, so_far}
+use Rattle.tree_laws.proofs.PrefixLemmas.{f_at, one_on}
 use Rattle.tree_laws.proofs.TimeLemmas.{Part, keep_on, may_of, part_on}
 use Rattle.tree_trail_laws.proofs.AtTrail.{at_trail}
 use Rattle.tree_trail_laws.proofs.CallLemmas.{call_free}
@@ -36,9 +36,10 @@ use Rattle.tree_trail_laws.proofs.LowerRunLemmas.{stop_still}
 use Rattle.tree_trail_laws.proofs.MomentLemmas.{tr_at}
 use Rattle.view_laws.specs.AdviceLaws.{advice_of, BringsAdvice, AdviceGoesOn}
 use Rattle.view_laws.specs.GivenColumns.{Given, advised_after, given_after}
-use Rattle.view_laws.proofs.AdviceLemmas.{SameAdvice, advice_at, advice_on, fresh_advice}
+use Rattle.view_laws.proofs.AdviceLemmas.{advice_at, advice_on, fresh_advice}
 use Rattle.view_laws.proofs.CarryLemmas.{CarriesSo, CarrySo, carry_on}
-use Rattle.view_laws.proofs.CollectLemmas.{LiveGot, all_given}
+use Rattle.view_laws.proofs.CollectLemmas.{LiveGot}
+use Rattle.view_laws.proofs.CollectRunLemmas.{all_given}
 use Rattle.view_laws.proofs.GivenLemmas.{g_at, given_one_on}
 use Rattle.view_laws.proofs.PrintLemmas.{split_at}
 

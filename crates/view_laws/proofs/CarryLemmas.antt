@@ -1,24 +1,19 @@
 -- Whose comment a Prepare carries, and whose advice an Exec: its sender is live after the turn, and has them.
-use Rattle.std.proofs.Common.{◌≡◌, ◌≢◌, ℕ, ◌+◌, ◌-◌, ◌&&◌, Bool, true, false, if◌then◌else◌, is_none, List, [], ◌∷◌, ◌++◌, map, length, Option, Some, None, inl, inr, refl, sym, ap, subst, ◌∙◌}
+use Rattle.std.proofs.Common.{◌≡◌, ◌≢◌, ℕ, ◌+◌, ◌-◌, Bool, if◌then◌else◌, is_none, List, [], ◌∷◌, map, length, Option, Some, None, refl, sym, ap}
 use Rattle.std.specs.List.{AllByRecursion}
 use Rattle.tran_ids.proofs.ListedLemmas.{put_found}
 use Rattle.session_tree.specs.Live.{new_edge, peer_of}
 use Rattle.session_tree.specs.Tree.{step as step_from}
-use Rattle.node_rules.specs.Data.{Act, Advice, Answer, BranchId, Edge, Input, Kind, Live, Next, Place, Post, Stmt}
+use Rattle.node_rules.specs.Data.{Act, Advice, Answer, BranchId, Edge, Input, Kind, Live, Place, Post, Stmt}
 use Rattle.node_rules.specs.Data.acts
 use Rattle.node_rules.specs.Data.kinds
 use Rattle.node_rules.specs.Data.nexts
-use Rattle.node_rules.specs.declared.session.PendingCall.TheVariants as pending
-use Rattle.node_rules.specs.declared.session.Session.{Session}
 use Rattle.node_rules.specs.Data.phases
-use Rattle.node_rules.specs.Words.{set_numbered}
 use Rattle.node_rules.specs.Calls.{answer_says, calls_over, exec_to, hears_reply, with_edge}
-use Rattle.node_rules.specs.Client.{new_root}
 use Rattle.node_rules.specs.Commit.{beyond}
-use Rattle.node_rules.specs.NodeState.{Branch, NodeState, TurnDraft, live_id, live_at, post, to_each, to_one}
+use Rattle.node_rules.specs.NodeState.{Branch, NodeState, TurnDraft, live_id, live_at, to_each, to_one}
 use Rattle.node_rules.specs.Prepare.{act_turn, path_of, prepares, site_neighbors}
 use Rattle.node_rules.specs.Recovery.{kept_told}
-use Rattle.node_rules.specs.Sessions.{session_at, with_call, with_root}
 use Rattle.node_rules.specs.Statement.{after_run, ran}
 use Rattle.node_rules.proofs.Steps as steps
 use Rattle.node_rules.proofs.Steps.{Acting, Says, Step}

@@ -3,7 +3,7 @@
 use Rattle.std.proofs.Common.{◌≡◌, ◌≢◌, ℕ, ◌&&◌, ◌⊎◌, Bool, true, false, if◌then◌else◌, is_none, is_some, List, [], ◌∷◌, ◌++◌, unwrap_or, Option, Some, None, inl, inr, refl, sym, ap, ◌∙◌}
 use Rattle.std.specs.Prelude.{nat_lt}
 use Rattle.tran_ids.proofs.BranchLemmas.{equal_from_same, same_from_equal}
-use Rattle.node_rules.specs.Data.{Advice, BranchId, Input, Kind, Msg, Place, Stmt}
+use Rattle.node_rules.specs.Data.{Advice, BranchId, Input, Kind, Place, Stmt}
 use Rattle.node_rules.specs.Data.inputs
 use Rattle.node_rules.specs.Data.kinds
 use Rattle.node_rules.specs.Data.stmts

@@ -1,10 +1,9 @@
 -- What a step makes of the advice and the comment of a live branch, and whose comment and advice its messages carry.
-use Rattle.std.proofs.Common.{◌≡◌, ℕ, ◌⊎◌, Bool, true, false, if◌then◌else◌, List, [], ◌∷◌, ◌++◌, length, unwrap_or, Option, Some, None, inl, inr, refl, sym, ap, subst, ◌∙◌}
-use Rattle.std.specs.List.{AllByRecursion}
-use Rattle.tran_ids.proofs.BranchLemmas.{equal_from_same, same_from_equal}
-use Rattle.tran_ids.proofs.ListedLemmas.{item_is, put_found, put_or_before, drop_gone, drop_leaves}
+use Rattle.std.proofs.Common.{◌≡◌, ℕ, ◌⊎◌, Bool, true, false, if◌then◌else◌, List, [], ◌∷◌, ◌++◌, unwrap_or, Option, Some, None, inl, inr, refl, sym, ap, subst, ◌∙◌}
+use Rattle.tran_ids.proofs.BranchLemmas.{equal_from_same}
+use Rattle.tran_ids.proofs.ListedLemmas.{put_or_before, drop_gone, drop_leaves}
 use Rattle.session_tree.specs.Live.{fresh_live, new_edge}
-use Rattle.node_rules.specs.Data.{Act, Advice, BranchId, Edge, Input, Kind, Live, Next, Phase, Place, Post, Stmt}
+use Rattle.node_rules.specs.Data.{Act, Advice, BranchId, Input, Kind, Live, Place, Stmt}
 use Rattle.node_rules.specs.Data.acts
 use Rattle.node_rules.specs.Data.inputs
 use Rattle.node_rules.specs.Data.kinds
@@ -13,13 +12,13 @@ use Rattle.node_rules.specs.declared.session.PendingCall.TheVariants as pending
 use Rattle.node_rules.specs.declared.session.Session.{Session}
 use Rattle.node_rules.specs.Data.phases
 use Rattle.node_rules.specs.Data.stmts
-use Rattle.node_rules.specs.Words.{same, item_at, put_item, drop_item, set_numbered}
+use Rattle.node_rules.specs.Words.{same, item_at, put_item, drop_item}
 use Rattle.node_rules.specs.Calls.{hears_reply, next_child, strength_of, with_edge}
 use Rattle.node_rules.specs.Client.{begun_by, fresh_root, new_root}
 use Rattle.node_rules.specs.Inputs.{Came, IsCall}
-use Rattle.node_rules.specs.NodeState.{Branch, NodeState, TurnDraft, live_id, live_at, branch_at}
-use Rattle.node_rules.specs.Prepare.{act_turn, collecting, ready, voted, with_comment}
-use Rattle.node_rules.specs.Sessions.{session_at, with_call, with_root}
+use Rattle.node_rules.specs.NodeState.{Branch, NodeState, TurnDraft, live_id, live_at}
+use Rattle.node_rules.specs.Prepare.{act_turn, collecting, ready}
+use Rattle.node_rules.specs.Sessions.{session_at, with_call}
 use Rattle.node_rules.specs.Statement.{after_run, ran}
 use Rattle.node_rules.proofs.StandLemmas.{live_so}
 use Rattle.node_rules.proofs.Steps as steps

@@ -1,6 +1,6 @@
 -- What each happening makes of the report so far: the lines of the commands before stay, those of the command that runs stay with
 -- more behind them, and the pending calls are of the same commands.
-use Rattle.std.proofs.Common.{◌≡◌, ℕ, ◌<◌, ◌==◌, ◌&&◌, not, Bool, true, false, if◌then◌else◌, List, [], ◌∷◌, ◌++◌, map, filter, find, is_none, Option, Some, None, refl, sym, ap, subst, ◌∙◌, arith, append-nil}
+use Rattle.std.proofs.Common.{◌≡◌, ℕ, ◌<◌, ◌==◌, ◌&&◌, not, Bool, true, false, if◌then◌else◌, List, [], ◌∷◌, ◌++◌, find, is_none, Option, Some, None, refl, sym, ap, subst, ◌∙◌, arith, append-nil}
 use Rattle.std.specs.List.{AllByRecursion}
 use Rattle.std.proofs.lemmas.Bool.{cond_both, eqb-true}
 use Rattle.std.proofs.lemmas.List.{append_assoc}
@@ -15,7 +15,7 @@ use Rattle.node_rules.specs.Words.{one}
 use Rattle.node_rules.specs.Ids.{decimal}
 use Rattle.run_rules.specs.Calls.{is_call_at, call_at, without_call, change_call, is_complete, second_of, call_follows, call_ends, ends_or_follows, finished_call, finished, stopped_calls, waits, waits_if_pending, after_input}
 use Rattle.run_rules.specs.Cuts.{Cut_by, By_nothing, By_point, By_strike, cut_by, appends, appends_if, cut_appends, arms_point, arms, turn_appends}
-use Rattle.run_rules.specs.Data.{AnswerLine, Command, Finished, Said, Took, Turn}
+use Rattle.run_rules.specs.Data.{Command, Finished, Said, Took, Turn}
 use Rattle.run_rules.specs.Data.notices
 use Rattle.run_rules.specs.Data.said
 use Rattle.run_rules.specs.Facts.{Facts, command_at}

@@ -13,6 +13,8 @@ mod DueStartLemmas
 mod PrintLemmas
 mod GivenLemmas
 mod CollectLemmas
+mod CollectBranchLemmas
+mod CollectRunLemmas
 mod AdvisedLemmas
 mod LiveLemmas
 mod ViewLemmas

@@ -31,7 +31,8 @@ use Rattle.tree_trail_laws.proofs.TopFollowLemmas.{tops_at}
 use Rattle.tree_trail_laws.proofs.TopTurnLemmas.{Tops}
 use Rattle.tree_trail_laws.proofs.LeftLemmas.{IsToldLeft, left_are_told}
 use Rattle.view_laws.specs.BranchRows.{is_collecting, pending_collecting, pending_seen}
-use Rattle.view_laws.proofs.CollectLemmas.{GivesAt, LiveGot, all_given}
+use Rattle.view_laws.proofs.CollectLemmas.{GivesAt, LiveGot}
+use Rattle.view_laws.proofs.CollectRunLemmas.{all_given}
 use Rattle.view_laws.proofs.GivenLemmas.{g_at}
 
 -- the row of a live branch, if it has sent Prepare

@@ -1,8 +1,6 @@
 -- What SHOW shows stands in the report from then on, right behind the lines of the commands before.
-use Rattle.std.proofs.Common.{◌≡◌, ℕ, zero, suc, ◌+◌, ◌<◌, ◌&&◌, not, Bool, true, false, if◌then◌else◌, List, [], ◌∷◌, ◌++◌, map, Option, Some, None, refl, sym, ap, subst, subst₂, ◌∙◌, arith}
+use Rattle.std.proofs.Common.{◌≡◌, ℕ, zero, suc, ◌+◌, ◌<◌, ◌&&◌, not, Bool, true, false, if◌then◌else◌, List, [], ◌∷◌, ◌++◌, map, Option, Some, None, refl, sym, ap, subst, ◌∙◌, arith}
 use Rattle.std.specs.Prelude.{slice_get, take, drop}
-use Rattle.std.specs.List.{AllByRecursion}
-use Rattle.std.proofs.lemmas.Bool.{cond_both}
 use Rattle.std.proofs.lemmas.List.{append_assoc}
 use Rattle.node_rules.specs.Data.{Place, Stmt}
 use Rattle.node_rules.specs.Data.stmts
@@ -13,13 +11,12 @@ use Rattle.run_rules.specs.Data.commands
 use Rattle.run_rules.specs.Data.happenings
 use Rattle.run_rules.specs.Data.notices
 use Rattle.run_rules.specs.Data.said
-use Rattle.run_rules.specs.Disks.{struck}
 use Rattle.run_rules.specs.Due.{comes_next, IsTheRun}
 use Rattle.run_rules.specs.Facts.{Facts, command_at, facts_after, facts_of, is_up, node_at, outcome_at}
 use Rattle.run_rules.specs.Lawful.{History, IsLawful, IsLawfulRun, MayHappen}
 use Rattle.run_rules.specs.Lines.{is_down, line, over_line, page_lines, all_lines}
-use Rattle.run_rules.specs.Past.{failed_start, next, past, report_after, started_says}
-use Rattle.run_rules.specs.RunReport.{Call, Past, RunReport, orders_at, start}
+use Rattle.run_rules.specs.Past.{failed_start, next, past}
+use Rattle.run_rules.specs.RunReport.{Call, Past, start}
 use Rattle.run_rules.specs.Scripts.{IsTheRunOf}
 use Rattle.run_rules.specs.Shown.{shown}
 use Rattle.run_rules.proofs.ListLemmas.{all_append, all_weaker}
@@ -27,7 +24,7 @@ use Rattle.run_claims.specs.Places.{past_upto}
 use Rattle.run_base_laws.proofs.PastLemmas.{past_on}
 use Rattle.view_laws.specs.ViewLaws.{lines_upto, Prints}
 use Rattle.view_laws.proofs.DueStartLemmas.{is_start, none_starts}
-use Rattle.view_laws.proofs.GrowLemmas.{AreBelow, Lasts, Grows, turn_lasts, turn_grows, stop_lasts, stop_grows}
+use Rattle.view_laws.proofs.GrowLemmas.{AreBelow, Grows, turn_lasts, turn_grows, stop_lasts, stop_grows}
 
 -- ---- lists
 
@@ -212,7 +209,7 @@ module _ (t : History) (due : IsTheRunOf t) (whole : IsLawfulRun t) (i c : ℕ) 
         (two.1.0.1, subst (λ f. IsLawful t.places t.commands f part.0) (sym (next_facts t.places t.commands p (happenings.Begun c))) two.1.1.1) first in
         let it = has_line t.places t.commands c s (lines_upto t i) plain_too (past t.places t.commands q part.0) last in
         let same : past_upto t j ≡ past t.places t.commands q part.0 = ap (past t.places t.commands (start t.places)) part.2 ∙ past_on t.places t.commands (start t.places) (take i t.trace) (happenings.Begun c ∷ part.0) in
-        (it.0, ap (λ (r : Past). all_lines r.facts r.run_report) same ∙ it.1)
+        subst (λ (r : Past). Has t.places t.commands c s (lines_upto t i) plain_too (all_lines r.facts r.run_report)) (sym same) it
 
   pub pending_printed : (n : ℕ) → command_at t.commands c ≡ commands.ShowPending n → is_up p.facts n ≡ true → Prints t i c (shown t.places p.facts (commands.ShowPending n))
   pending_printed n command up =
