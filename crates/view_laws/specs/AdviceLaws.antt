@@ -1,5 +1,5 @@
--- Where the advice in an Exec comes from: a root passes on that of its session, any other branch that of the last Exec that it took. So
--- the advice of a branch is the one that its client's session had. (SQL Language Reference, ALTER SESSION ADVISE; Database
+-- Where the advice in an Exec comes from: a root passes on that of its session, any other branch that of the last Exec that it
+-- took. So the advice of a branch is the one that its client's session had. (SQL Language Reference, ALTER SESSION; Database
 -- Administrator's Guide, "Distributed Transactions Concepts": local coordinators.)
 use Rattle.std.specs.Prelude.{◌≡◌, ℕ, ◌+◌, if◌then◌else◌, slice_get, is_none, Option, Some, None}
 use Rattle.std.specs.List.{AllByRecursion}

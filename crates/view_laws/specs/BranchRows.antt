@@ -1,6 +1,7 @@
 -- Which branches have a row in the views of pending transactions, and what stands in it: by the redo records on their node's
--- disk, and for branches that are still live by the branch history and what came with messages and calls. (Database Administrator's Guide, "Managing Distributed
--- Transactions", on viewing information about distributed transactions; Database Reference, DBA_2PC_PENDING, DBA_2PC_NEIGHBORS.)
+-- disk, and for branches that are still live by the branch history and by what came with messages and calls. (Database
+-- Administrator's Guide, "Managing Distributed Transactions", on viewing information about distributed transactions; Database
+-- Reference, DBA_2PC_PENDING, DBA_2PC_NEIGHBORS.)
 use Rattle.std.specs.Prelude.{ℕ, ◌==◌, ◌&&◌, ◌||◌, not, Bool, true, false, if◌then◌else◌, List, [], ◌∷◌, ◌++◌, map, slice_get, is_some, option_to_list, codes, is_none, Option, Some, None}
 use Rattle.std.specs.List.{list_any}
 use Rattle.tran_ids.specs.Texts.{name_of}

@@ -1,6 +1,6 @@
 -- The columns of a collecting branch's row that neither records nor the branch history have: its advice came with an Exec, its
--- comment with the COMMIT of its transaction. (Database Administrator's Guide, "Managing Distributed Transactions": advice and
--- comments of in-doubt transactions; SQL Language Reference, ALTER SESSION ADVISE, COMMIT COMMENT.)
+-- comment with the COMMIT of its transaction. (Database Administrator's Guide, "Managing Distributed Transactions", on viewing
+-- information about distributed transactions; SQL Language Reference, ALTER SESSION, COMMIT.)
 use Rattle.std.specs.Prelude.{ℕ, ◌==◌, ◌&&◌, if◌then◌else◌, List, [], ◌∷◌, take, is_none, is_some, Option, Some, None}
 use Rattle.node_rules.specs.Data.{Advice, BranchId, Kind, Input, Place}
 use Rattle.node_rules.specs.Data.kinds

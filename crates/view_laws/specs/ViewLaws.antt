@@ -1,6 +1,6 @@
 -- What the views of pending transactions show is what the records and the branch history say: each branch that has a row is
--- shown, no other, and they stand in the order of their local ids; and what they show stands in the report. (Database Administrator's Guide, "Managing Distributed
--- Transactions", on viewing information about distributed transactions.)
+-- shown, no other, and they stand in the order of their local ids; and what is shown stands in the report. (Database
+-- Administrator's Guide, "Managing Distributed Transactions", on viewing information about distributed transactions.)
 use Rattle.std.specs.Prelude.{◌≡◌, ◌≢◌, ℕ, ◌<◌, true, List, [], ◌∷◌, ◌++◌, map, flat_map, slice_get, codes, Some}
 use Rattle.std.specs.List.{AllByRecursion}
 use Rattle.tran_ids.specs.Branch.{branch_below}
@@ -47,7 +47,7 @@ neighbor_lines rows = view_lines (codes "LOCAL_TRAN_ID|IN_OUT|DATABASE|DBUSER_OW
 abbrev pub lines_upto : History → ℕ → List AnswerLine
 lines_upto t i = all_lines (past_upto t i).facts (past_upto t i).run_report
 
--- The command that begins as the next happening prints this, each line with the command's number in front: from then on it
+-- The command that begins after so many happenings prints this, each line with the command's number in front: from then on it
 -- stands in the report, right behind the lines of the commands before.
 abbrev pub Prints : History → ℕ → ℕ → List (List ℕ) → Type 0
 Prints t i c shows = (j : ℕ) → i < j → (more : List AnswerLine) × (lines_upto t j ≡ lines_upto t i ++ line c (said.World (notices.Shown shows)) ∷ more)
@@ -70,7 +70,7 @@ ViewIsRight t i c (commands.ShowPending n) = is_up (facts_upto t i) n ≡ true �
 ViewIsRight t i c (commands.ShowNeighbors n) = is_up (facts_upto t i) n ≡ true → ShowsNeighbors t i c n
 ViewIsRight t i c _ = Unit {0}
 
--- It is so wherever a command begins in a run, and the advice that branches show is that of their clients' sessions.
+-- It is so wherever a command begins in a run, and the advice that branches have is that of their clients' sessions.
 pub record ViewsOf (t : History) : Type 0 where
   pub shown : (i c : ℕ) → slice_get t.trace i ≡ Some (happenings.Begun c) → ViewIsRight t i c (command_at t.commands c)
   pub advised : AdviceGoesOn t
