@@ -18,4 +18,5 @@ mod CollectRunLemmas
 mod AdvisedLemmas
 mod LiveLemmas
 mod ViewLemmas
+mod ReportLemmas
 mod TriedViewLemmas

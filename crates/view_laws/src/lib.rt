@@ -7,6 +7,7 @@
 #![tactic(auto)]
 
 ghost use Rattle.view_laws.specs.ViewLaws.{ViewsAreOfBranches};
+ghost use Rattle.view_laws.specs.ReportedViews.{ViewsAreReported};
 ghost use Rattle.view_laws.specs.TriedViews.{TheTriedViews};
 
 /// In the run of a script SHOW PENDING and SHOW NEIGHBORS of a node that is up print the rows of just those branches, as they
@@ -19,6 +20,12 @@ ghost use Rattle.view_laws.specs.TriedViews.{TheTriedViews};
 /// advice that the session had set, along all local coordinators.
 pub fn views_are_of_branches()
     ensures { ViewsAreOfBranches }
+{}
+
+/// In the report of a run what a view prints stands right behind the lines of the commands before, each line with the number of
+/// its command in front. Where memory ran out, the report may end before it.
+pub fn views_are_reported()
+    ensures { ViewsAreReported }
 {}
 
 /// The law is not about nothing: in the tried run of two nodes A is collecting, with the comment of its COMMIT, and then
