@@ -34,7 +34,7 @@ use Rattle.tree_trail_laws.proofs.AtTrail.{at_trail}
 use Rattle.tree_trail_laws.proofs.CallLemmas.{call_free}
 use Rattle.tree_trail_laws.proofs.LowerRunLemmas.{stop_still}
 use Rattle.tree_trail_laws.proofs.MomentLemmas.{tr_at}
-use Rattle.view_laws.specs.AdviceLaws.{advice_of, BringsAdvice, AdviceGoesOn}
+use Rattle.view_laws.specs.AdviceLaws.{passed_advice, BringsAdvice, AdviceGoesOn}
 use Rattle.view_laws.specs.GivenColumns.{Given, advised_after, given_after}
 use Rattle.view_laws.proofs.AdviceLemmas.{advice_at, advice_on, fresh_advice}
 use Rattle.view_laws.proofs.CarryLemmas.{CarriesSo, CarrySo, carry_on}
@@ -166,9 +166,9 @@ module _ (t : History) (whole : IsLawfulRun t) where
           let got : LiveGot (tr_at t hs1) (g_at t hs1) l = (all_given t whole hs1 part1).lives u.node d.after up1 l live in
           let node : l.me.node ≡ u.node = all_found (λ (y : Live). y.me.node ≡ u.node) live_id d.after.lives l.me l (ids_name_their_node s1 lawful1 u.node d.after up1).lives live in
           let session : advice_at d.after.sessions l.me.session ≡ (g_at t hs1).advised l.me.node l.me.session = subst (λ i. advice_at d.after.sessions l.me.session ≡ (g_at t hs1).advised i l.me.session) (sym node) (advised u.node d.after up1 l.me.session) in
-          let its : advice_of (g_at t hs1) l.me (seen_at (tr_at t hs1) l.me) ≡ (if is_none l.parent then (g_at t hs1).advised l.me.node l.me.session else (g_at t hs1).advice l.me)
-          = ap (advice_of (g_at t hs1) l.me) got.told.1 ∙ ap (λ o. if is_none o then (g_at t hs1).advised l.me.node l.me.session else (g_at t hs1).advice l.me) got.told.3 in
-          subst (λ b. advice ≡ advice_of (g_at t hs1) b (seen_at (tr_at t hs1) b)) me
+          let its : passed_advice (g_at t hs1) l.me (seen_at (tr_at t hs1) l.me) ≡ (if is_none l.parent then (g_at t hs1).advised l.me.node l.me.session else (g_at t hs1).advice l.me)
+          = ap (passed_advice (g_at t hs1) l.me) got.told.1 ∙ ap (λ o. if is_none o then (g_at t hs1).advised l.me.node l.me.session else (g_at t hs1).advice l.me) got.told.3 in
+          subst (λ b. advice ≡ passed_advice (g_at t hs1) b (seen_at (tr_at t hs1) b)) me
           (carries.same ∙ (ap (λ a. if is_none l.parent then a else l.advice) session ∙ (ap (λ a. if is_none l.parent then (g_at t hs1).advised l.me.node l.me.session else a) got.advice ∙ sym its)))
       one_brings cut from _ carries = tt
 

@@ -12,7 +12,7 @@ use Rattle.run_rules.specs.Lines.{line, page_lines, all_lines}
 use Rattle.run_rules.specs.Past.{past}
 use Rattle.run_rules.specs.Reported.{Ending, All_run, Out_of_memory, IsReported, LineIs, LinesAre, is_shown_disk, past_of}
 use Rattle.run_rules.specs.RunReport.{Past, start}
-use Rattle.view_laws.specs.ReportedViews.{is_view, StandsAt, ViewsAreReported}
+use Rattle.view_laws.specs.ReportedViews.{is_view, IsAnswerAt, ViewsAreReported}
 use Rattle.view_laws.specs.ViewLaws.{lines_upto, Prints}
 
 -- ---- lists
@@ -98,7 +98,7 @@ module _ (t : History) (answers : List AnswerLine) (i c : ℕ) (shows : List (Li
           let both : Some x ≡ Some its = sym (front_at p.run_report.lines (page_lines p.facts p.run_report) place x some) ∙ due in
           inr (lines_at t p.run_report.lines answers are place its (some ∙ both) plain)
 
-  pub stands_at : (ending : Ending) → IsReported t answers ending → StandsAt answers ending place its
+  pub stands_at : (ending : Ending) → IsReported t answers ending → IsAnswerAt answers ending place its
   stands_at All_run reported = of_all reported.1
   stands_at Out_of_memory (inl first) = of_first first
   stands_at Out_of_memory (inr all) = inr (of_all all.1)

@@ -13,13 +13,13 @@ use Rattle.run_rules.specs.Lawful.{History}
 use Rattle.view_laws.specs.GivenColumns.{Given, given_upto}
 
 -- the advice that a branch passes on
-abbrev pub advice_of : Given → BranchId → Option Seen → Option Advice
-advice_of g b None = None
-advice_of g b (Some s) = if is_none s.parent then g.advised b.node b.session else g.advice b
+abbrev pub passed_advice : Given → BranchId → Option Seen → Option Advice
+passed_advice g b None = None
+passed_advice g b (Some s) = if is_none s.parent then g.advised b.node b.session else g.advice b
 
 -- an Exec brings the advice of its sender
 abbrev pub BringsAdvice : Trail → Given → BranchId → Kind → Type 0
-BringsAdvice tr g from (kinds.Exec call given advice s) = advice ≡ advice_of g from (seen_at tr from)
+BringsAdvice tr g from (kinds.Exec call given advice s) = advice ≡ passed_advice g from (seen_at tr from)
 BringsAdvice tr g from _ = Unit {0}
 
 -- each Exec of a turn does, by what stands after it

@@ -20,13 +20,13 @@ is_view (commands.ShowNeighbors n) = true
 is_view _ = false
 
 -- an answer stands at this place; where memory ran out there may be fewer
-abbrev pub StandsAt : List AnswerLine → Ending → ℕ → AnswerLine → Type 0
-StandsAt answers All_run place l = slice_get answers place ≡ Some l
-StandsAt answers Out_of_memory place l = (length answers ≤ place) ⊎ (slice_get answers place ≡ Some l)
+abbrev pub IsAnswerAt : List AnswerLine → Ending → ℕ → AnswerLine → Type 0
+IsAnswerAt answers All_run place l = slice_get answers place ≡ Some l
+IsAnswerAt answers Out_of_memory place l = (length answers ≤ place) ⊎ (slice_get answers place ≡ Some l)
 
 -- A line is among the answers, behind those of the commands before, and this is its text.
 pub record IsInReport (t : History) (answers : List AnswerLine) (ending : Ending) (i c : ℕ) (shows : List (List ℕ)) : Type 0 where
-  pub stands : StandsAt answers ending (length (lines_upto t i)) (line c (said.World (notices.Shown shows)))
+  pub stands : IsAnswerAt answers ending (length (lines_upto t i)) (line c (said.World (notices.Shown shows)))
   pub text : line_text (line c (said.World (notices.Shown shows))) ≡ map (numbered c) shows
 
 -- Whatever a view prints is in the report of its run.
