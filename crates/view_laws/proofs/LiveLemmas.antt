@@ -1,9 +1,9 @@
 -- Where a command begins, a branch that is live by the branch history is live at its node, and is collecting there.
-use Rattle.std.proofs.Common.{◌≡◌, ◌≢◌, ℕ, ◌&&◌, not, Bool, true, false, if◌then◌else◌, List, [], ◌∷◌, ◌++◌, map, slice_get, is_some, is_none, Option, Some, None, inl, inr, refl, sym, ap, subst, ◌∙◌}
+use Rattle.std.proofs.Common.{◌≡◌, ◌≢◌, ℕ, ◌&&◌, not, Bool, true, false, if◌then◌else◌, List, [], ◌∷◌, ◌++◌, map, slice_get, codes, is_some, is_none, Option, Some, None, inl, inr, refl, sym, ap, subst, ◌∙◌}
 use Rattle.tran_ids.proofs.ListedLemmas.{item_is}
 use Rattle.pending_view.specs.Views.{Pending, is_working, has_sent_prepare, pending_live}
 use Rattle.agreement.specs.Events.{Exit, exit}
-use Rattle.node_rules.specs.Data.{BranchId, Edge, Live, Phase}
+use Rattle.node_rules.specs.Data.{Advice, BranchId, Edge, Live, Phase}
 use Rattle.node_rules.specs.Data.phases
 use Rattle.node_rules.specs.NodeState.{NodeState, live_id, live_at}
 use Rattle.run_rules.specs.Births.{births_of, born_at}
@@ -30,17 +30,19 @@ use Rattle.tree_trail_laws.proofs.TopBirthLemmas.{IsBorn}
 use Rattle.tree_trail_laws.proofs.TopFollowLemmas.{tops_at}
 use Rattle.tree_trail_laws.proofs.TopTurnLemmas.{Tops}
 use Rattle.tree_trail_laws.proofs.LeftLemmas.{IsToldLeft, left_are_told}
-use Rattle.view_laws.specs.BranchRows.{OpenColumns, is_collecting, pending_collecting, pending_seen}
-
--- the open columns of a live branch, as its node keeps them
-abbrev pub columns_of : BranchId → Option Live → OpenColumns
-columns_of b None = record { root = b; advice = None; comment = [] }
-columns_of b (Some l) = record { root = l.root; advice = l.advice; comment = l.comment }
+use Rattle.view_laws.specs.BranchRows.{is_collecting, pending_collecting, pending_seen}
+use Rattle.view_laws.proofs.CollectLemmas.{GivesAt, LiveGot}
+use Rattle.view_laws.proofs.CollectRunLemmas.{all_given}
+use Rattle.view_laws.proofs.GivenLemmas.{g_at}
 
 -- the row of a live branch, if it has sent Prepare
 abbrev pub live_rows : Option Live → List Pending
 live_rows None = []
 live_rows (Some l) = if has_sent_prepare l then pending_live l ∷ [] else []
+
+-- a row of that state
+abbrev collecting_row : BranchId → BranchId → Option Advice → List ℕ → Pending
+collecting_row me root advice comment = record { me = me; root = root; state = codes "collecting"; mixed = false; advice = advice; comment = comment; number = None }
 
 first_edge : (es : List Edge) → is_some (slice_get (map (λ (e : Edge). e.peer) es) 0) ≡ is_some (slice_get es 0)
 first_edge [] = refl
@@ -120,22 +122,52 @@ module _ (t : History) (whole : IsLawfulRun t) (hs : List Happening) (c : ℕ) (
                 | inr stops ↦ (let upright = settled.upright in cc (upright, stops))
               ]
 
+  given : GivesAt t whole hs
+  given = all_given t whole hs part
+
+  -- the row of a branch that collects
+  row_same : (n : ℕ) (k : NodeState) → node_at (f_at t hs) n ≡ Some k → (l : Live) → live_at k l.me ≡ Some l → has_sent_prepare l ≡ true → (s : Seen) → seen_at (tr_at t hs) l.me ≡ Some s → IsTracedLive l s
+      → pending_collecting (g_at t hs) s ≡ pending_live l
+  row_same n k up l live asked s at told = λ i. collecting_row (me i) (root i) (advice i) (comment i)
+    where
+      its : LiveGot (tr_at t hs) (g_at t hs) l
+      its = given.lives n k up l live
+
+      me : s.me ≡ l.me
+      me = item_is seen_id (tr_at t hs).seen l.me s at
+
+      root : s.root ≡ l.root
+      root = (let both : Some s ≡ Some its.told.0 = sym at ∙ its.told.1 in let one : s ≡ its.told.0 = cc in ap (λ (y : Seen). y.root) one ∙ its.told.2)
+
+      advice : (if is_none s.parent then None else (g_at t hs).advice s.me) ≡ l.advice
+      advice = ap (λ o. if is_none o then None else (g_at t hs).advice s.me) told.parent ∙ by l.parent refl
+        where
+          by : (o : Option BranchId) → l.parent ≡ o → (if is_none o then None else (g_at t hs).advice s.me) ≡ l.advice
+          by None top = sym (its.top top)
+          by (Some p) below = ap (g_at t hs).advice me ∙ sym its.advice
+
+      comment : (g_at t hs).comment s.root ≡ l.comment
+      comment = ap (g_at t hs).comment root ∙ sym (its.comment (λ working. (let none : has_sent_prepare l ≡ false = ap (λ p. not (is_working p) && is_some (slice_get l.edges 0)) working in cc (none, asked)))).1
+
   -- the rows of live branches by the branch history are those at their node
-  pub seen_rows : (n : ℕ) (k : NodeState) → node_at (f_at t hs) n ≡ Some k → (b : BranchId) → b.node ≡ n → pending_seen (columns_of b (live_at k b)) (seen_at (tr_at t hs) b) ≡ live_rows (live_at k b)
+  pub seen_rows : (n : ℕ) (k : NodeState) → node_at (f_at t hs) n ≡ Some k → (b : BranchId) → b.node ≡ n → pending_seen (g_at t hs) (seen_at (tr_at t hs) b) ≡ live_rows (live_at k b)
   seen_rows n k up b here = by (live_at k b) refl (seen_at (tr_at t hs) b) refl
     where
-      by : (o : Option Live) → live_at k b ≡ o → (p : Option Seen) → seen_at (tr_at t hs) b ≡ p → pending_seen (columns_of b o) p ≡ live_rows o
+      by : (o : Option Live) → live_at k b ≡ o → (p : Option Seen) → seen_at (tr_at t hs) b ≡ p → pending_seen (g_at t hs) p ≡ live_rows o
       by (Some l) live p at =
           let me : l.me ≡ b = item_is live_id k.lives b l live in
-          let it = saw.lives n k up l (subst (λ m. live_at k m ≡ Some l) (sym me) live) in
+          let l_live : live_at k l.me ≡ Some l = subst (λ m. live_at k m ≡ Some l) (sym me) live in
+          let it = saw.lives n k up l l_live in
           let found : seen_at (tr_at t hs) b ≡ Some it.0 = subst (λ m. seen_at (tr_at t hs) m ≡ Some it.0) me it.1 in
-          let s_me : it.0.me ≡ l.me = item_is seen_id (tr_at t hs).seen b it.0 found ∙ sym me in
-          ap (pending_seen (columns_of b (Some l))) (sym at ∙ found)
-          ∙ (ap (λ q. if q then pending_collecting (columns_of b (Some l)) it.0 ∷ [] else []) (collecting_same l it.0 it.2.told)
-          ∙ ap (λ m. if has_sent_prepare l then (record (pending_live l) { me = m }) ∷ [] else []) s_me)
+          ap (pending_seen (g_at t hs)) (sym at ∙ found)
+          ∙ (ap (λ q. if q then pending_collecting (g_at t hs) it.0 ∷ [] else []) (collecting_same l it.0 it.2.told) ∙ sent (has_sent_prepare l) (λ asked. row_same n k up l l_live asked it.0 it.1 it.2.told))
+        where
+          sent : (q : Bool) {x y : Pending} → (q ≡ true → x ≡ y) → (if q then x ∷ [] else []) ≡ (if q then y ∷ [] else [])
+          sent true same = ap (λ r. r ∷ []) (same refl)
+          sent false same = refl
       by None gone None at = refl
       by None gone (Some s) at = none s.exit refl
         where
-          none : (x : Option Exit) → s.exit ≡ x → pending_seen (columns_of b None) (Some s) ≡ []
+          none : (x : Option Exit) → s.exit ≡ x → pending_seen (g_at t hs) (Some s) ≡ []
           none None live = absurd (live_back n k up b here s at live gone)
-          none (Some x) out = ap (λ o. if is_none o && (s.collects && is_some (slice_get s.children 0)) then pending_collecting (columns_of b None) s ∷ [] else []) out
+          none (Some x) out = ap (λ o. if is_none o && (s.collects && is_some (slice_get s.children 0)) then pending_collecting (g_at t hs) s ∷ [] else []) out

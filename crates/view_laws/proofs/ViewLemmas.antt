@@ -1,6 +1,6 @@
 -- In every lawful run the views of pending transactions show the rows of the branches.
 use Rattle.std.proofs.Common.{◌≡◌, ◌≢◌, ℕ, ◌+◌, ◌≤◌, ◌==◌, ◌||◌, not, Bool, true, false, if◌then◌else◌, List, [], ◌∷◌, ◌++◌, map, filter, flat_map, Option, Some, None, refl, sym, ap, subst, ◌∙◌, arith}
-use Rattle.std.specs.Prelude.{fold}
+use Rattle.std.specs.Prelude.{fold, is_some, slice_get, take}
 use Rattle.std.specs.Option.{option_map_or}
 use Rattle.std.specs.List.{AllByRecursion}
 use Rattle.std.proofs.lemmas.Bool.{or_left, or_right, eq-eqb, eqb-true}
@@ -17,10 +17,16 @@ use Rattle.node_rules.specs.NodeState.{NodeState, Stored, live_id, live_at, kept
 use Rattle.node_rules.specs.Records.{nothing_stored}
 use Rattle.run_rules.specs.Branches.{is_among, seen_at}
 use Rattle.run_rules.specs.BranchRecords.{sealed_in, decided_in}
-use Rattle.run_rules.specs.Data.{Happening}
+use Rattle.run_rules.specs.Data.{Command, Happening}
+use Rattle.run_rules.specs.Data.commands
 use Rattle.run_rules.specs.Data.happenings
-use Rattle.run_rules.specs.Facts.{names_in, node_at, records_at}
+use Rattle.run_rules.specs.Each.{facts_upto}
+use Rattle.run_rules.specs.Facts.{command_at, is_up, names_in, node_at, records_at}
 use Rattle.run_rules.specs.Lawful.{History, IsLawfulRun}
+use Rattle.run_rules.specs.RunReport.{start}
+use Rattle.run_rules.specs.Scripts.{IsTheRunOf}
+use Rattle.run_rules.specs.Shown.{shown}
+use Rattle.run_claims.specs.Places.{past_upto}
 use Rattle.run_rules.proofs.ListLemmas.{all_append, all_map, all_filter}
 use Rattle.run_base_laws.specs.IdLaws.{AreOwn}
 use Rattle.run_base_laws.specs.NodeLaws.{count_of, unacked_kid, unacked_row}
@@ -31,16 +37,20 @@ use Rattle.run_base_laws.proofs.StoredLemmas.{records_are_kept}
 use Rattle.book_laws.proofs.KeptLemmas.{durable_stored}
 use Rattle.tree_laws.proofs.PrefixLemmas.{so_far, f_at, e_at}
 use Rattle.tree_laws.proofs.TimeLemmas.{part_lawful, part_of}
-use Rattle.tree_trail_laws.proofs.MomentLemmas.{tr_at, by_moment}
-use Rattle.view_laws.specs.BranchRows.{OpenColumns, is_shown, pending_first, pending_seen, pending_recorded, pending_at, neighbors_at}
-use Rattle.view_laws.specs.ViewLaws.{AreAscending, pending_lines, neighbor_lines, ShowsPending, ShowsNeighbors, ViewsWhere, ViewsAreOfBranches}
+use Rattle.tree_trail_laws.proofs.MomentLemmas.{tr_at}
+use Rattle.view_laws.specs.GivenColumns.{Given}
+use Rattle.view_laws.specs.BranchRows.{is_shown, pending_first, pending_seen, pending_recorded, pending_at, neighbors_at}
+use Rattle.view_laws.specs.ViewLaws.{AreAscending, AreRowsOf, pending_lines, neighbor_lines, Prints, ShowsPending, ShowsNeighbors, ViewIsRight, ViewsAreOfBranches}
 use Rattle.view_laws.proofs.OneMoreLemmas.{Says, says}
 use Rattle.view_laws.proofs.RowLemmas.{nothing_said, row_with}
 use Rattle.view_laws.proofs.SaidLemmas.{HasLeft, unsaid, row_left}
 use Rattle.view_laws.proofs.DiskRunLemmas.{kept_of, Disk, disks_at}
 use Rattle.view_laws.proofs.ShownLemmas.{HasRow, pending_is, neighbors_are, has_row, has_row_too}
 use Rattle.view_laws.proofs.SortLemmas.{sorted_rows, rows_flat, strict, ascend_filter, apart_by, found_each, count_mapped, found_among, count_joined}
-use Rattle.view_laws.proofs.LiveLemmas.{columns_of, live_rows, live_stays, seen_rows}
+use Rattle.view_laws.proofs.AdvisedLemmas.{advice_goes_on}
+use Rattle.view_laws.proofs.GivenLemmas.{g_at}
+use Rattle.view_laws.proofs.PrintLemmas.{split_at, past_facts, pending_printed, neighbors_printed}
+use Rattle.view_laws.proofs.LiveLemmas.{live_rows, live_stays, seen_rows}
 
 -- ---- Acks are not shown
 
@@ -100,7 +110,7 @@ module _ (t : History) (whole : IsLawfulRun t) (hs : List Happening) (c : ℕ) (
   abbrev rs : List RedoRecord
   rs = records_at (f_at t hs) n
 
-  abbrev ks : List KeptRow
+  abbrev pub ks : List KeptRow
   ks = (durable rs).kept
 
   disk : Disk (e_at t hs) rs
@@ -128,13 +138,13 @@ module _ (t : History) (whole : IsLawfulRun t) (hs : List Happening) (c : ℕ) (
 
   -- ---- the rows of one branch
 
-  abbrev open_ones : BranchId → OpenColumns
-  open_ones b = columns_of b (live_at k b)
+  abbrev gave : Given
+  gave = g_at t hs
 
-  here_at : (b : BranchId) → b.node ≡ n → pending_at (f_at t hs) (tr_at t hs) n open_ones b ≡ live_rows (live_at k b) ++ pending_recorded rs b
-  here_at b at = ap (λ q. if q then pending_seen (open_ones b) (seen_at (tr_at t hs) b) ++ pending_recorded rs b else []) (eq-eqb b.node n at) ∙ ap (λ ps. ps ++ pending_recorded rs b) (seen_rows t whole hs c rest is n k up b at)
+  here_at : (b : BranchId) → b.node ≡ n → pending_at (f_at t hs) (tr_at t hs) gave n b ≡ live_rows (live_at k b) ++ pending_recorded rs b
+  here_at b at = ap (λ q. if q then pending_seen gave (seen_at (tr_at t hs) b) ++ pending_recorded rs b else []) (eq-eqb b.node n at) ∙ ap (λ ps. ps ++ pending_recorded rs b) (seen_rows t whole hs c rest is n k up b at)
 
-  of_live : (l : Live) → l.me.node ≡ n → live_at k l.me ≡ Some l → has_sent_prepare l ≡ true → pending_at (f_at t hs) (tr_at t hs) n open_ones l.me ≡ pending_live l ∷ []
+  of_live : (l : Live) → l.me.node ≡ n → live_at k l.me ≡ Some l → has_sent_prepare l ≡ true → pending_at (f_at t hs) (tr_at t hs) gave n l.me ≡ pending_live l ∷ []
   of_live l at live sent =
       let none : says rs l.me ≡ nothing_said = unsaid (e_at t hs) l.me (live_stays t whole hs c rest is n k up l.me l live) rs disk.0 in
       here_at l.me at
@@ -152,7 +162,7 @@ module _ (t : History) (whole : IsLawfulRun t) (hs : List Happening) (c : ℕ) (
   row_found : (x : KeptRow) → item_at kept_row_id ks x.me ≡ Some x → row_with (says rs x.me) ≡ Some x
   row_found x found = sym (disk.1 x.me) ∙ found
 
-  of_kept : (x : KeptRow) → x.me.node ≡ n → item_at kept_row_id ks x.me ≡ Some x → not x.hidden ≡ true → pending_at (f_at t hs) (tr_at t hs) n open_ones x.me ≡ pending_kept x ∷ []
+  of_kept : (x : KeptRow) → x.me.node ≡ n → item_at kept_row_id ks x.me ≡ Some x → not x.hidden ≡ true → pending_at (f_at t hs) (tr_at t hs) gave n x.me ≡ pending_kept x ∷ []
   of_kept x at found seen =
       let left : HasLeft (e_at t hs) x.me = row_left (e_at t hs) x.me rs disk.0 (λ none. (let some = row_found x found in cc (some, none))) in
       here_at x.me at ∙ (ap (λ o. live_rows o ++ pending_recorded rs x.me) (no_live x.me left) ∙ pending_is (e_at t hs) rs disk.0 x.me x (row_found x found) (unhidden x.hidden seen))
@@ -183,7 +193,7 @@ module _ (t : History) (whole : IsLawfulRun t) (hs : List Happening) (c : ℕ) (
   both P Q (x ∷ xs) one two = ((one.0, two.0), both P Q xs one.1 two.1)
 
   abbrev IsOwnRow : Pending → Type 0
-  IsOwnRow r = pending_at (f_at t hs) (tr_at t hs) n open_ones (pending_id r) ≡ r ∷ []
+  IsOwnRow r = pending_at (f_at t hs) (tr_at t hs) gave n (pending_id r) ≡ r ∷ []
 
   all_right : AllByRecursion IsOwnRow all_rows
   all_right =
@@ -193,7 +203,7 @@ module _ (t : History) (whole : IsLawfulRun t) (hs : List Happening) (c : ℕ) (
       (all_map IsOwnRow pending_kept (in_view ks)
       (all_filter (λ (x : KeptRow). (x.me.node ≡ n) × (item_at kept_row_id ks x.me ≡ Some x)) (λ x. IsOwnRow (pending_kept x)) (λ x. not x.hidden) (λ x seen at. of_kept x at.0 at.1 seen) ks (both (λ (x : KeptRow). x.me.node ≡ n) (λ x. item_at kept_row_id ks x.me ≡ Some x) ks kept_own kept_found)))
 
-  among_all : (b : BranchId) → pending_at (f_at t hs) (tr_at t hs) n open_ones b ≢ [] → is_among b (map pending_id all_rows) ≡ true
+  among_all : (b : BranchId) → pending_at (f_at t hs) (tr_at t hs) gave n b ≢ [] → is_among b (map pending_id all_rows) ≡ true
   among_all b some = by (b.node == n) refl
     where
       joined : is_among b (map pending_id all_rows) ≡ (is_among b (map pending_id (map pending_live (filter has_sent_prepare k.lives))) || is_among b (map pending_id (map pending_kept (in_view ks))))
@@ -215,19 +225,20 @@ module _ (t : History) (whole : IsLawfulRun t) (hs : List Happening) (c : ℕ) (
               (kept_there (λ none. there (ap (λ q. (if q then pending_live l ∷ [] else []) ++ pending_recorded rs b) unasked ∙ none)))
 
       by : (q : Bool) → (b.node == n) ≡ q → is_among b (map pending_id all_rows) ≡ true
-      by false other = absurd (some (ap (λ q. if q then pending_seen (open_ones b) (seen_at (tr_at t hs) b) ++ pending_recorded rs b else []) other))
+      by false other = absurd (some (ap (λ q. if q then pending_seen gave (seen_at (tr_at t hs) b) ++ pending_recorded rs b else []) other))
       by true at = from (live_at k b) refl (λ none. some (here_at b (eqb-true b.node n at) ∙ none))
 
-  shows_pending : ShowsPending t.places (f_at t hs) (tr_at t hs) n
+  abbrev pub sorted : List Pending
+  sorted = fold (put_by_branch pending_id) [] all_rows
+
+  pub pending_are : AreRowsOf (pending_at (f_at t hs) (tr_at t hs) gave n) sorted
+  pending_are = sorted_rows pending_id (pending_at (f_at t hs) (tr_at t hs) gave n) all_rows (apart_by pending_id n all_rows one_each all_own) all_right among_all
+
+  pub pending_shown : shown t.places (f_at t hs) (commands.ShowPending n) ≡ pending_lines (names_in t.places) sorted
   unfolding pending_rows
-  shows_pending = record {
-    rows = fold (put_by_branch pending_id) [] all_rows;
-    open_ones = open_ones;
-    are = sorted_rows pending_id (pending_at (f_at t hs) (tr_at t hs) n open_ones) all_rows (apart_by pending_id n all_rows one_each all_own) all_right among_all;
-    prints =
-        ap (λ o. option_map_or (λ (j : NodeState). pending_view (names_in t.places) j.stored.durable.kept j.lives) o []) up
-        ∙ ap (λ xs. pending_lines (names_in t.places) (fold (put_by_branch pending_id) [] (map pending_live (filter has_sent_prepare k.lives) ++ xs))) (sym (pending_unacked k.stored.durable.kept) ∙ ap (λ xs. map pending_kept (in_view xs)) rows);
-  }
+  pending_shown =
+      ap (λ o. option_map_or (λ (j : NodeState). pending_view (names_in t.places) j.stored.durable.kept j.lives) o []) up
+      ∙ ap (λ xs. pending_lines (names_in t.places) (fold (put_by_branch pending_id) [] (map pending_live (filter has_sent_prepare k.lives) ++ xs))) (sym (pending_unacked k.stored.durable.kept) ∙ ap (λ xs. map pending_kept (in_view xs)) rows)
 
   -- ---- neighbours
 
@@ -237,40 +248,67 @@ module _ (t : History) (whole : IsLawfulRun t) (hs : List Happening) (c : ℕ) (
   ascending : AreAscending (map kept_row_id ks)
   ascending = strict ks (rows_in_order no_durable tt rs) (apart_by kept_row_id n ks (λ b. omega (arith, counts b)) kept_own)
 
-  shows_neighbors : ShowsNeighbors t.places (f_at t hs) n
-  unfolding neighbor_rows
-  shows_neighbors = record {
-    rows = flat_map (neighbors_of names) (in_view ks);
-    are = record {
-      branches = map kept_row_id (in_view ks);
-      order = ascend_filter (λ x. not x.hidden) ks ascending;
-      all = λ b some. (let it : HasRow (e_at t hs) rs disk.0 b = has_row_too (e_at t hs) rs disk.0 b names some in
-          subst (λ zs. is_among b zs ≡ true) (map_ids (in_view ks)) (found_among kept_row_id kept_row_id (λ x. x) (λ x. refl) (λ x. not x.hidden) b ks it.row (disk.1 b ∙ it.found) (ap not it.seen)));
-      are = rows_flat kept_row_id (neighbors_at names (f_at t hs) n) (neighbors_of names) (in_view ks)
-          (all_filter (λ (x : KeptRow). item_at kept_row_id ks x.me ≡ Some x) (λ x. neighbors_at names (f_at t hs) n x.me ≡ neighbors_of names x) (λ x. not x.hidden)
-          (λ x seen found. neighbors_are (e_at t hs) rs disk.0 x.me names x (row_found x found) (unhidden x.hidden seen)) ks kept_found);
-    };
-    prints =
-        ap (λ o. option_map_or (λ (j : NodeState). neighbors_view (names_in t.places) j.stored.durable.kept) o []) up
-        ∙ ap neighbor_lines (sym (neighbors_unacked names k.stored.durable.kept) ∙ ap (λ xs. flat_map (neighbors_of names) (in_view xs)) rows);
+  pub neighbors_are_of : AreRowsOf (neighbors_at names (f_at t hs) n) (flat_map (neighbors_of names) (in_view ks))
+  neighbors_are_of = record {
+    branches = map kept_row_id (in_view ks);
+    order = ascend_filter (λ x. not x.hidden) ks ascending;
+    all = λ b some. (let it : HasRow (e_at t hs) rs disk.0 b = has_row_too (e_at t hs) rs disk.0 b names some in
+        subst (λ zs. is_among b zs ≡ true) (map_ids (in_view ks)) (found_among kept_row_id kept_row_id (λ x. x) (λ x. refl) (λ x. not x.hidden) b ks it.row (disk.1 b ∙ it.found) (ap not it.seen)));
+    are = rows_flat kept_row_id (neighbors_at names (f_at t hs) n) (neighbors_of names) (in_view ks)
+        (all_filter (λ (x : KeptRow). item_at kept_row_id ks x.me ≡ Some x) (λ x. neighbors_at names (f_at t hs) n x.me ≡ neighbors_of names x) (λ x. not x.hidden)
+        (λ x seen found. neighbors_are (e_at t hs) rs disk.0 x.me names x (row_found x found) (unhidden x.hidden seen)) ks kept_found);
   }
     where
       map_ids : (xs : List KeptRow) → map kept_row_id (map (λ x. x) xs) ≡ map kept_row_id xs
       map_ids [] = refl
       map_ids (x ∷ xs) = ap (λ zs. x.me ∷ zs) (map_ids xs)
 
-  pub views_right : ShowsPending t.places (f_at t hs) (tr_at t hs) n × ShowsNeighbors t.places (f_at t hs) n
-  views_right = (shows_pending, shows_neighbors)
+  pub neighbors_shown : shown t.places (f_at t hs) (commands.ShowNeighbors n) ≡ neighbor_lines (flat_map (neighbors_of names) (in_view ks))
+  unfolding neighbor_rows
+  neighbors_shown =
+      ap (λ o. option_map_or (λ (j : NodeState). neighbors_view (names_in t.places) j.stored.durable.kept) o []) up
+      ∙ ap neighbor_lines (sym (neighbors_unacked names k.stored.durable.kept) ∙ ap (λ xs. flat_map (neighbors_of names) (in_view xs)) rows)
 
-module _ (t : History) (whole : IsLawfulRun t) where
-  views_at : (hs : List Happening) (h : Happening) (rest : List Happening) → hs ++ h ∷ rest ≡ t.trace → ViewsWhere t.places (f_at t hs) (tr_at t hs) h
-  views_at hs (happenings.Begun c) rest is = λ n k up. views_right t whole hs c rest is n k up
-  views_at hs (happenings.Turn u) rest is = tt
-  views_at hs (happenings.Stopped n) rest is = tt
-  views_at hs (happenings.Started n boot) rest is = tt
-  views_at hs (happenings.Cut x y) rest is = tt
-  views_at hs (happenings.Join x y) rest is = tt
-  views_at hs (happenings.Lost x) rest is = tt
+-- ---- in the run of a script
+
+module _ (t : History) (due : IsTheRunOf t) (whole : IsLawfulRun t) (i c : ℕ) (begins : slice_get t.trace i ≡ Some (happenings.Begun c)) (n : ℕ) where
+  abbrev hs : List Happening
+  hs = take i t.trace
+
+  at : (rest : List Happening) × (take i t.trace ++ happenings.Begun c ∷ rest ≡ t.trace)
+  at = split_at t.trace i (happenings.Begun c) begins
+
+  same_facts : (past_upto t i).facts ≡ facts_upto t i
+  same_facts = past_facts t.places t.commands (start t.places) (take i t.trace)
+
+  node_up : (o : Option NodeState) → is_some o ≡ true → (k : NodeState) × (o ≡ Some k)
+  node_up None up = absurd cc
+  node_up (Some k) up = (k, refl)
+
+  pub shows_pending : command_at t.commands c ≡ commands.ShowPending n → is_up (facts_upto t i) n ≡ true → ShowsPending t i c n
+  shows_pending command up =
+      let k = node_up (node_at (facts_upto t i) n) up in
+      record {
+        rows = sorted t whole hs c at.0 at.1 n k.0 k.1;
+        are = pending_are t whole hs c at.0 at.1 n k.0 k.1;
+        prints = subst (Prints t i c) (ap (λ f. shown t.places f (commands.ShowPending n)) same_facts ∙ pending_shown t whole hs c at.0 at.1 n k.0 k.1)
+            (pending_printed t due whole i c begins n command (ap (λ f. is_up f n) same_facts ∙ up));
+      }
+
+  pub shows_neighbors : command_at t.commands c ≡ commands.ShowNeighbors n → is_up (facts_upto t i) n ≡ true → ShowsNeighbors t i c n
+  shows_neighbors command up =
+      let k = node_up (node_at (facts_upto t i) n) up in
+      record {
+        rows = flat_map (neighbors_of (names_in t.places)) (in_view (ks t whole hs c at.0 at.1 n k.0 k.1));
+        are = neighbors_are_of t whole hs c at.0 at.1 n k.0 k.1;
+        prints = subst (Prints t i c) (ap (λ f. shown t.places f (commands.ShowNeighbors n)) same_facts ∙ neighbors_shown t whole hs c at.0 at.1 n k.0 k.1)
+            (neighbors_printed t due whole i c begins n command (ap (λ f. is_up f n) same_facts ∙ up));
+      }
+
+view_right : (t : History) → IsTheRunOf t → IsLawfulRun t → (i c : ℕ) → slice_get t.trace i ≡ Some (happenings.Begun c) → (x : Command) → command_at t.commands c ≡ x → ViewIsRight t i c x
+view_right t due whole i c begins (commands.ShowPending n) command = shows_pending t due whole i c begins n command
+view_right t due whole i c begins (commands.ShowNeighbors n) command = shows_neighbors t due whole i c begins n command
+view_right t due whole i c begins _ command = tt
 
 pub views_are_of_branches : ViewsAreOfBranches
-views_are_of_branches t whole = by_moment t ViewsWhere (views_at t whole)
+views_are_of_branches t due whole = record { shown = λ i c begins. view_right t due whole i c begins (command_at t.commands c) refl; advised = advice_goes_on t whole }

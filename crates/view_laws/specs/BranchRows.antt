@@ -1,13 +1,14 @@
 -- Which branches have a row in the views of pending transactions, and what stands in it: by the redo records on their node's
--- disk, and for branches that are still live by the branch history. (Database Administrator's Guide, "Managing Distributed
--- Transactions", on viewing information about distributed transactions; Database Reference, DBA_2PC_PENDING, DBA_2PC_NEIGHBORS.)
-use Rattle.std.specs.Prelude.{ℕ, ◌==◌, ◌&&◌, ◌||◌, not, Bool, true, false, if◌then◌else◌, List, [], ◌∷◌, ◌++◌, map, slice_get, is_some, option_to_list, codes, Option, Some, None}
+-- disk, and for branches that are still live by the branch history and by what came with messages and calls. (Database
+-- Administrator's Guide, "Managing Distributed Transactions", on viewing information about distributed transactions; Database
+-- Reference, DBA_2PC_PENDING, DBA_2PC_NEIGHBORS.)
+use Rattle.std.specs.Prelude.{ℕ, ◌==◌, ◌&&◌, ◌||◌, not, Bool, true, false, if◌then◌else◌, List, [], ◌∷◌, ◌++◌, map, slice_get, is_some, option_to_list, codes, is_none, Option, Some, None}
 use Rattle.std.specs.List.{list_any}
 use Rattle.tran_ids.specs.Texts.{name_of}
 use Rattle.redo_record.specs.Rows.{toward_of}
 use Rattle.session_tree.specs.Live.{is_branch}
 use Rattle.pending_view.specs.Views.{Pending, Neighbor}
-use Rattle.node_rules.specs.Data.{Advice, BranchId, Decision, RedoRecord, Sealed, Decided}
+use Rattle.node_rules.specs.Data.{BranchId, Decision, RedoRecord, Sealed, Decided}
 use Rattle.redo_record.specs.declared.record.Peer.{Peer}
 use Rattle.node_rules.specs.Data.decisions
 use Rattle.node_rules.specs.Data.records
@@ -15,6 +16,7 @@ use Rattle.node_rules.specs.Words.{same}
 use Rattle.run_rules.specs.Branches.{Seen, Trail, seen_at, is_live}
 use Rattle.run_rules.specs.BranchRecords.{sealed_in, decided_in}
 use Rattle.run_rules.specs.Facts.{Facts, records_at}
+use Rattle.view_laws.specs.GivenColumns.{Given}
 
 -- ---- what a record says of a branch
 
@@ -119,28 +121,22 @@ pending_first rs None None = []
 abbrev pub pending_recorded : List RedoRecord → BranchId → List Pending
 pending_recorded rs b = if is_shown rs b then pending_first rs (sealed_in rs b) (decided_in rs b) else []
 
--- The columns of a live branch's row that are left open here: its transaction, the advice and the comment.
-pub record OpenColumns : Type 0 where
-  pub root : BranchId
-  pub advice : Option Advice
-  pub comment : List ℕ
-
--- the row of a live branch that has asked its children to prepare
-abbrev pub pending_collecting : OpenColumns → Seen → Pending
-pending_collecting open_ones s = record { me = s.me; root = open_ones.root; state = codes "collecting"; mixed = false; advice = open_ones.advice; comment = open_ones.comment; number = None }
+-- the row of a live branch that has asked its children to prepare; a root has no advice
+abbrev pub pending_collecting : Given → Seen → Pending
+pending_collecting g s = record { me = s.me; root = s.root; state = codes "collecting"; mixed = false; advice = if is_none s.parent then None else g.advice s.me; comment = g.comment s.root; number = None }
 
 -- whether a branch is live and has asked its children to prepare
 abbrev pub is_collecting : Seen → Bool
 is_collecting s = is_live s && (s.collects && is_some (slice_get s.children 0))
 
 -- the same, of a branch that began, or did not
-abbrev pub pending_seen : OpenColumns → Option Seen → List Pending
-pending_seen open_ones None = []
-pending_seen open_ones (Some s) = if is_collecting s then pending_collecting open_ones s ∷ [] else []
+abbrev pub pending_seen : Given → Option Seen → List Pending
+pending_seen g None = []
+pending_seen g (Some s) = if is_collecting s then pending_collecting g s ∷ [] else []
 
 -- the row of a branch at a node, if it has one
-abbrev pub pending_at : Facts → Trail → ℕ → (BranchId → OpenColumns) → BranchId → List Pending
-pending_at f tr n open_ones b = if b.node == n then pending_seen (open_ones b) (seen_at tr b) ++ pending_recorded (records_at f n) b else []
+abbrev pub pending_at : Facts → Trail → Given → ℕ → BranchId → List Pending
+pending_at f tr g n b = if b.node == n then pending_seen g (seen_at tr b) ++ pending_recorded (records_at f n) b else []
 
 -- ---- DBA_2PC_NEIGHBORS
 

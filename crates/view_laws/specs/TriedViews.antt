@@ -1,8 +1,9 @@
 -- The rows of the views, tried on the run of two nodes. A has asked B to prepare, and then decides. B is prepared; an administrator
 -- forces it to roll back, it meets the commit as mixed, and its row is purged.
-use Rattle.std.specs.Prelude.{◌≡◌, ℕ, true, List, [], ◌∷◌, ◌++◌, map, take, codes, None}
+use Rattle.std.specs.Prelude.{◌≡◌, ℕ, true, List, [], ◌∷◌, ◌++◌, map, take, drop, codes, Some, None}
 use Rattle.pending_view.specs.Views.{Pending}
 use Rattle.node_rules.specs.Data.{BranchId}
+use Rattle.node_rules.specs.Data.advices
 use Rattle.node_rules.specs.Data.stmts
 use Rattle.node_rules.specs.Ids.{local_text}
 use Rattle.run_rules.specs.Branches.{Trail, no_trail}
@@ -10,7 +11,8 @@ use Rattle.run_rules.specs.Data.{Turn}
 use Rattle.run_rules.specs.Facts.{Facts, first_facts, facts_of}
 use Rattle.run_rules.specs.Trail.{trail_of}
 use Rattle.run_branch_laws.specs.TriedRun.{names, places, calls, takes, played, coming, a, b}
-use Rattle.view_laws.specs.BranchRows.{OpenColumns, pending_at, neighbors_at}
+use Rattle.view_laws.specs.GivenColumns.{Given, nothing_given, given_of}
+use Rattle.view_laws.specs.BranchRows.{pending_at, neighbors_at}
 
 -- the facts when these have come
 abbrev pub facts_when : List (Facts → Turn) → Facts
@@ -20,13 +22,13 @@ facts_when comes = facts_of places [] (first_facts places) (played (first_facts 
 abbrev pub trail_when : List (Facts → Turn) → Trail
 trail_when comes = trail_of places [] (first_facts places) no_trail (played (first_facts places) comes)
 
--- nothing in the open columns
-abbrev pub blank : BranchId → OpenColumns
-blank g = record { root = g; advice = None; comment = [] }
+-- and what came for the rows of branches that collect
+abbrev pub given_when : List (Facts → Turn) → Given
+given_when comes = given_of places [] (first_facts places) no_trail nothing_given (played (first_facts places) comes)
 
 -- the rows of a branch
 abbrev pub rows_when : List (Facts → Turn) → ℕ → BranchId → List Pending
-rows_when comes n g = pending_at (facts_when comes) (trail_when comes) n blank g
+rows_when comes n g = pending_at (facts_when comes) (trail_when comes) (given_when comes) n g
 
 -- and their states
 abbrev pub states_when : List (Facts → Turn) → ℕ → BranchId → List (List ℕ)
@@ -48,7 +50,16 @@ met = forced_back ++ takes 7 ∷ []
 abbrev pub purged : List (Facts → Turn)
 purged = met ++ calls 2 (stmts.PurgeMixed (local_text b)) ∷ []
 
--- The states of the rows of A and B, and whether B's row of its parent points to the commit point site.
+-- the same with a comment on COMMIT
+abbrev pub commented : List (Facts → Turn)
+commented = take 9 coming ++ calls 1 (stmts.Commit (Some (codes "x"))) ∷ []
+
+-- and with an advice, as the Exec has come to B
+abbrev pub advised : List (Facts → Turn)
+advised = take 3 coming ++ calls 1 (stmts.Advise (Some advices.Commit)) ∷ take 4 (drop 3 coming)
+
+-- The states of the rows of A and B, whether B's row of its parent points to the commit point site, the
+-- transaction, the comment and the advice of A's row while it collects, and the advice that came to B.
 pub record TheTriedViews : Type 0 where
   pub working : states_when (take 9 coming) 1 a ≡ []
   pub collecting : states_when (take 10 coming) 1 a ≡ codes "collecting" ∷ []
@@ -58,4 +69,8 @@ pub record TheTriedViews : Type 0 where
   pub mixed : map (λ r. r.mixed) (rows_when met 2 b) ≡ true ∷ []
   pub hidden : states_when purged 2 b ≡ []
   pub forgotten : states_when coming 1 a ≡ []
+  pub root : map (λ r. r.root) (rows_when (take 10 coming) 1 a) ≡ a ∷ []
+  pub comment : map (λ r. r.comment) (rows_when commented 1 a) ≡ codes "x" ∷ []
+  pub none : map (λ r. r.advice) (rows_when commented 1 a) ≡ None ∷ []
+  pub advice : (given_when advised).advice b ≡ Some advices.Commit
   pub toward : map (λ r. r.to_site) (neighbors_at names (facts_when prepared) 2 b) ≡ true ∷ []
