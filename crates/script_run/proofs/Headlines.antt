@@ -30,6 +30,7 @@ use Rattle.commit_answer_laws.specs.CommitLines.{CommitsAnswerTruly}
 use Rattle.commit_obey_laws.specs.ObeyLaws.{EveryDecisionIsObeyed}
 use Rattle.node_purge_laws.specs.LeftOutLaws.{EveryPurgeChangesNothing}
 use Rattle.start_laws.specs.StartLaws.{EveryStartRestores}
+use Rattle.view_laws.specs.ReportedViews.{ViewsAreReported}
 use Rattle.view_laws.specs.ViewLaws.{ViewsAreOfBranches}
 use Rattle.answer_once_laws.specs.OnceLaws.{EveryCommandIsAnsweredOnce}
 use Rattle.world.specs.Ran.{IsRan, as_ending}
@@ -51,7 +52,7 @@ empty_report : IsReported (history_of nothing_done no_script) [] All_run
 unfolding past due_of
 empty_report = (refl, tt)
 
-module _ (lawful : TheRunIsLawful) (once : EveryCommandIsAnsweredOnce) (views : ViewsAreOfBranches) (starts : EveryStartRestores) (knows : EveryTurnKnows) (meant : EveryRunIsMeant) (comes : EveryAnswerHasItsPlace) (tells : DoneIsReported) (ended : PendingCallsEnd) (caused : CausesEndCommits) (commits : CommitsAnswerTruly) (completes : QuietCommitsAreComplete) (obeys : EveryDecisionIsObeyed) (purged : EveryPurgeChangesNothing) (sites : EverySiteDecides) (covers : EveryDecisionCovers) (agrees : EveryBookAgrees) (marked : EveryMixedIsMarked) (later : EveryScnIsLater) where
+module _ (lawful : TheRunIsLawful) (once : EveryCommandIsAnsweredOnce) (views : ViewsAreOfBranches) (reported : ViewsAreReported) (starts : EveryStartRestores) (knows : EveryTurnKnows) (meant : EveryRunIsMeant) (comes : EveryAnswerHasItsPlace) (tells : DoneIsReported) (ended : PendingCallsEnd) (caused : CausesEndCommits) (commits : CommitsAnswerTruly) (completes : QuietCommitsAreComplete) (obeys : EveryDecisionIsObeyed) (purged : EveryPurgeChangesNothing) (sites : EverySiteDecides) (covers : EveryDecisionCovers) (agrees : EveryBookAgrees) (marked : EveryMixedIsMarked) (later : EveryScnIsLater) where
   -- by the laws, of what is due and told
   by_laws : (run : Run) (ending : Ending) (script : AreOfAScript (places_of run.commands) run.commands)
       → IsTheRun (places_of run.commands) run.commands (start (places_of run.commands)) run.trace → run.book ≡ book_of run.trace
@@ -66,7 +67,7 @@ module _ (lawful : TheRunIsLawful) (once : EveryCommandIsAnsweredOnce) (views : 
         booked = booked;
         answered = told;
         once = once t due;
-        views = views t may;
+        views = (views t due may, reported t run.answers ending told);
         starts = starts t may;
         knows = knows t may;
         meant = meant t may;
@@ -112,7 +113,7 @@ stands_too run is = record {
   booked = is.booked;
   answered = inr (between _ is.answered.0, is.answered.1);
   once = is.once;
-  views = is.views;
+  views = (is.views.0, λ i c shows begun view prints. (let it = is.views.1 i c shows begun view prints in record { stands = inr it.stands; text = it.text }));
   starts = is.starts;
   knows = is.knows;
   meant = is.meant;

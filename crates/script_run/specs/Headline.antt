@@ -18,6 +18,7 @@ use Rattle.commit_answer_laws.specs.CommitLines.{CommitAnswersAreTrue}
 use Rattle.commit_obey_laws.specs.ObeyLaws.{Obedience}
 use Rattle.node_purge_laws.specs.LeftOutLaws.{PurgesChangeNothing}
 use Rattle.start_laws.specs.StartLaws.{StartsRestore}
+use Rattle.view_laws.specs.ReportedViews.{ViewsAreAmong}
 use Rattle.view_laws.specs.ViewLaws.{ViewsOf}
 use Rattle.answer_once_laws.specs.OnceLaws.{EachIsAnsweredOnce, AllAreAnsweredOnce, LaterAnswersStandWhereCallsEnd}
 use Rattle.script_run.specs.declared.outcome.Run.{Run}
@@ -31,7 +32,7 @@ history_of run script = record { places = places_of run.commands; commands = run
 -- the records that were written. The lines answer the commands in order: each is the one that the rules give at its
 -- happening, and SHOW DISK shows bytes that stand for the records so far. Each command that was done has one answer, or
 -- `waiting` and one answer more once its call has ended, with the command in whose course it ended; what else has its number
--- is a notice. SHOW PENDING and SHOW NEIGHBORS show just the branches that by the records are prepared, committed or forced
+-- is a notice. SHOW PENDING and SHOW NEIGHBORS print just the rows of the branches that by the records are prepared, committed or forced
 -- there, and SHOW PENDING those that are collecting.
 -- After each start a node has, at each key that is not in doubt, the row that the book leaves there; the keys of its branches in
 -- doubt are locked, and no others; its catalog and kept rows are those of its records; and nobody is live there.
@@ -60,7 +61,7 @@ pub record IsRun (run : Run) (ending : Ending) : Type 0 where
   pub booked : run.book ≡ book_of run.trace
   pub answered : IsReported (history_of run script) run.answers ending
   pub once : EachIsAnsweredOnce (history_of run script) × AllAreAnsweredOnce (history_of run script) × LaterAnswersStandWhereCallsEnd (history_of run script)
-  pub views : ViewsOf (history_of run script)
+  pub views : ViewsOf (history_of run script) × ViewsAreAmong (history_of run script) run.answers ending
   pub starts : StartsRestore (history_of run script)
   pub knows : Knowledge (history_of run script)
   pub meant : RunsAreMeant (history_of run script)

@@ -11,6 +11,7 @@ ghost use Rattle.commit_answer_laws.specs.CauseLaws.{CausesEndCommits};
 ghost use Rattle.commit_answer_laws.specs.CommitLines.{CommitsAnswerTruly};
 ghost use Rattle.commit_obey_laws.specs.ObeyLaws.{EveryDecisionIsObeyed};
 ghost use Rattle.node_purge_laws.specs.LeftOutLaws.{EveryPurgeChangesNothing};
+ghost use Rattle.view_laws.specs.ReportedViews.{ViewsAreReported};
 ghost use Rattle.view_laws.specs.ViewLaws.{ViewsAreOfBranches};
 ghost use Rattle.start_laws.specs.StartLaws.{EveryStartRestores};
 ghost use Rattle.answer_once_laws.specs.OnceLaws.{EveryCommandIsAnsweredOnce};
@@ -37,7 +38,7 @@ use std::alloc::Global;
 use tree_cover_laws::every_decision_covers;
 use tree_laws::every_book_agrees;
 use tree_trail_laws::{every_run_is_meant, every_site_decides};
-use view_laws::views_are_of_branches;
+use view_laws::{views_are_of_branches, views_are_reported};
 use world::EndedRun;
 
 /// How a run of the program ends.
@@ -94,6 +95,7 @@ fn laws_of_runs()
     ensures lawful { TheRunIsLawful }
     ensures once { EveryCommandIsAnsweredOnce }
     ensures views { ViewsAreOfBranches }
+    ensures reported { ViewsAreReported }
     ensures starts { EveryStartRestores }
     ensures knows { EveryTurnKnows }
     ensures meant { EveryRunIsMeant }
@@ -114,6 +116,7 @@ fn laws_of_runs()
     the_run_is_lawful();
     every_command_is_answered_once();
     views_are_of_branches();
+    views_are_reported();
     every_start_restores();
     every_turn_knows();
     every_run_is_meant();

@@ -29,7 +29,11 @@ pub record IsInReport (t : History) (answers : List AnswerLine) (ending : Ending
   pub stands : IsAnswerAt answers ending (length (lines_upto t i)) (line c (said.World (notices.Shown shows)))
   pub text : line_text (line c (said.World (notices.Shown shows))) ≡ map (numbered c) shows
 
--- Whatever a view prints is in the report of its run.
+-- Whatever a view prints is among the answers.
+abbrev pub ViewsAreAmong : History → List AnswerLine → Ending → Type 0
+ViewsAreAmong t answers ending = (i c : ℕ) (shows : List (List ℕ)) → slice_get t.trace i ≡ Some (happenings.Begun c) → is_view (command_at t.commands c) ≡ true → Prints t i c shows
+    → IsInReport t answers ending i c shows
+
+-- It is so of the report of each run.
 abbrev pub ViewsAreReported : Type 0
-ViewsAreReported = (t : History) (answers : List AnswerLine) (ending : Ending) → IsReported t answers ending → (i c : ℕ) (shows : List (List ℕ)) → slice_get t.trace i ≡ Some (happenings.Begun c)
-    → is_view (command_at t.commands c) ≡ true → Prints t i c shows → IsInReport t answers ending i c shows
+ViewsAreReported = (t : History) (answers : List AnswerLine) (ending : Ending) → IsReported t answers ending → ViewsAreAmong t answers ending
