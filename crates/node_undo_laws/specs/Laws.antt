@@ -1,0 +1,43 @@
+-- The undo of a node stands from turn to turn and over a start. So the undo that is kept of a live branch is that of the branch in doubt
+-- that it becomes, and a start never needs more space than the node had.
+use Rattle.std.specs.Prelude.{ℕ, ◌≤◌, List, [], ◌∷◌, ◌++◌, IfSome}
+use Rattle.row_store.specs.Store.{doubt_extents, used_extents}
+use Rattle.node_rules.specs.Data.{KeptRow, RedoRecord, Place, Input}
+use Rattle.node_rules.specs.Data.records
+use Rattle.node_rules.specs.NodeState.{NodeState, Stored}
+use Rattle.node_rules.specs.Records.{nothing_stored, doubts_after}
+use Rattle.node_rules.specs.Inputs.{IsFit}
+use Rattle.node_rules.specs.Turn.{turn_of, start_of, made}
+use Rattle.node_ready_laws.specs.Following.{MayAllFollow}
+use Rattle.node_ready_laws.specs.Sound.{with_rows}
+use Rattle.node_ready_laws.specs.Ready.{IsReady}
+use Rattle.node_undo_laws.specs.Kept.{HasUndo}
+use Rattle.node_undo_laws.specs.Fits.{FitsDoubts, AllFitDoubts}
+
+-- each turn of a ready node keeps its undo
+abbrev pub TurnsKeepUndo : Type 0
+TurnsKeepUndo = (p : Place) (k : NodeState) (input : Input) → IsFit input → IsReady p k → HasUndo p k → HasUndo p (turn_of p k input).after
+
+-- and its record fits beside the branches in doubt
+abbrev pub RecordsFitDoubts : Type 0
+RecordsFitDoubts = (p : Place) (k : NodeState) (input : Input) → IsFit input → IsReady p k → HasUndo p k → IfSome (turn_of p k input).wrote (FitsDoubts p.undo k.stored)
+
+-- the branches in doubt after a record take no more extents than all branches took before the turn
+abbrev pub NeedsNoMore : NodeState → RedoRecord → Type 0
+NeedsNoMore k r = doubt_extents (doubts_after k.stored.rows k.stored.doubts r) ≤ used_extents k.owns k.stored.doubts
+
+-- so it is with the record of each turn
+abbrev pub RecordsNeedNoMore : Type 0
+RecordsNeedNoMore = (p : Place) (k : NodeState) (input : Input) → IsFit input → IsReady p k → HasUndo p k → IfSome (turn_of p k input).wrote (NeedsNoMore k)
+
+-- whether a record fits does not hang on the rows of kept branches, where Acks are noted that no record has
+abbrev pub AcksDoNotMatter : Type 0
+AcksDoNotMatter = (undo : ℕ) (s : Stored) (kept : List KeptRow) (r : RedoRecord) → FitsDoubts undo s r → FitsDoubts undo (with_rows s kept) r
+
+-- a node that has just been made has no undo
+abbrev pub NoUndoAtFirst : Type 0
+NoUndoAtFirst = (p : Place) → HasUndo p made
+
+-- a node that starts has the undo of its branches in doubt, and space for it, where each of its records may stand next
+abbrev pub StartsHaveUndo : Type 0
+StartsHaveUndo = (p : Place) (rs : List RedoRecord) (boot : ℕ) → MayAllFollow nothing_stored rs → AllFitDoubts p.undo nothing_stored rs → HasUndo p (start_of (rs ++ records.Boot boot ∷ []))
