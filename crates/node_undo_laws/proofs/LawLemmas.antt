@@ -47,20 +47,20 @@ space_heard k inputs.Reco w is = is
 
 pub turns_keep_undo : TurnsKeepUndo
 unfolding turn_of
-turns_keep_undo p k input fit ready now =
+turns_keep_undo p k input fit rows ids now =
     let step = step_of p k input fit in
-    let rows = rows_heard k input ready.rows in
-    let ids = ids_heard k input ready.ids in
+    let there = rows_heard k input rows in
+    let own = ids_heard k input ids in
     let here = undo_heard p k input now in
     record {
       lives = changes_on p input step here.lives;
-      keys = keys_on p input step (sees_rows (heard k input) rows) here.lives (apart_of (heard k input) ids) here.keys;
-      stands = undo_on p input step rows ids here.lives here.keys here.stands;
+      keys = keys_on p input step (sees_rows (heard k input) there) here.lives (apart_of (heard k input) own) here.keys;
+      stands = undo_on p input step there own here.lives here.keys here.stands;
     }
 
 pub records_need_no_more : RecordsNeedNoMore
 unfolding turn_of
-records_need_no_more p k input fit ready now = space_heard k input _ (space_on p input (step_of p k input fit) (undo_heard p k input now).stands)
+records_need_no_more p k input fit now = space_heard k input _ (space_on p input (step_of p k input fit) (undo_heard p k input now).stands)
 
 fits_by : (p : Place) (k : NodeState) (w : Option RedoRecord) → HasUndo p k → IfSome w (ChangesFreeKeys k.stored.doubts) → IfSome w (NeedsNoMore k) → IfSome w (FitsDoubts p.undo k.stored)
 fits_by p k None now free less = tt
@@ -68,10 +68,10 @@ fits_by p k (Some r) now free less = record { free = free; room = omega (arith, 
 
 pub records_fit_doubts : RecordsFitDoubts
 unfolding turn_of
-records_fit_doubts p k input fit ready now =
+records_fit_doubts p k input fit ids now =
     fits_by p k _ now
-    (free_heard k input _ (step_free p input (step_of p k input fit) (apart_of (heard k input) (ids_heard k input ready.ids)) (undo_heard p k input now).keys))
-    (records_need_no_more p k input fit ready now)
+    (free_heard k input _ (step_free p input (step_of p k input fit) (apart_of (heard k input) (ids_heard k input ids)) (undo_heard p k input now).keys))
+    (records_need_no_more p k input fit now)
 
 pub acks_do_not_matter : AcksDoNotMatter
 acks_do_not_matter undo s kept r fits = record { free = fits.free; room = fits.room }

@@ -85,6 +85,12 @@ unfolding stored_by MayAllFollow AllFitDoubts
 left_by undo s [] may fits now = now
 left_by undo s (r ∷ rs) may fits now = left_by undo (applied s r) rs may.1 fits.1 (left_with undo s r may.0 fits.0 now)
 
+-- one more behind them
+pub fits_last : (undo : ℕ) (s : Stored) (rs : List RedoRecord) (r : RedoRecord) → AllFitDoubts undo s rs → FitsDoubts undo (stored_by s rs) r → AllFitDoubts undo s (rs ++ r ∷ [])
+unfolding stored_by AllFitDoubts
+fits_last undo s [] r all fits = (fits, tt)
+fits_last undo s (x ∷ rs) r all fits = (all.0, fits_last undo (applied s x) rs r all.1 fits)
+
 pub none_left : (undo : ℕ) → IsLeft undo nothing_stored
 none_left undo = record { stands = record { ordered = tt; own = λ b. refl; held_back = tt; room = omega arith }; apart = tt; there = tt }
 

@@ -10,17 +10,18 @@ use Rattle.node_rules.specs.Inputs.{IsFit}
 use Rattle.node_rules.specs.Turn.{turn_of, start_of, made}
 use Rattle.node_ready_laws.specs.Following.{MayAllFollow}
 use Rattle.node_ready_laws.specs.Sound.{with_rows}
-use Rattle.node_ready_laws.specs.Ready.{IsReady}
+use Rattle.node_ready_laws.specs.Rows.{HasRows}
+use Rattle.node_ready_laws.specs.Ids.{HasOwnIds}
 use Rattle.node_undo_laws.specs.Kept.{HasUndo}
 use Rattle.node_undo_laws.specs.Fits.{FitsDoubts, AllFitDoubts}
 
--- each turn of a ready node keeps its undo
+-- each turn keeps the undo of a node whose rows are of its tables and whose branches have their own ids
 abbrev pub TurnsKeepUndo : Type 0
-TurnsKeepUndo = (p : Place) (k : NodeState) (input : Input) → IsFit input → IsReady p k → HasUndo p k → HasUndo p (turn_of p k input).after
+TurnsKeepUndo = (p : Place) (k : NodeState) (input : Input) → IsFit input → HasRows k → HasOwnIds k → HasUndo p k → HasUndo p (turn_of p k input).after
 
 -- and its record fits beside the branches in doubt
 abbrev pub RecordsFitDoubts : Type 0
-RecordsFitDoubts = (p : Place) (k : NodeState) (input : Input) → IsFit input → IsReady p k → HasUndo p k → IfSome (turn_of p k input).wrote (FitsDoubts p.undo k.stored)
+RecordsFitDoubts = (p : Place) (k : NodeState) (input : Input) → IsFit input → HasOwnIds k → HasUndo p k → IfSome (turn_of p k input).wrote (FitsDoubts p.undo k.stored)
 
 -- the branches in doubt after a record take no more extents than all branches took before the turn
 abbrev pub NeedsNoMore : NodeState → RedoRecord → Type 0
@@ -28,7 +29,7 @@ NeedsNoMore k r = doubt_extents (doubts_after k.stored.rows k.stored.doubts r) �
 
 -- so it is with the record of each turn
 abbrev pub RecordsNeedNoMore : Type 0
-RecordsNeedNoMore = (p : Place) (k : NodeState) (input : Input) → IsFit input → IsReady p k → HasUndo p k → IfSome (turn_of p k input).wrote (NeedsNoMore k)
+RecordsNeedNoMore = (p : Place) (k : NodeState) (input : Input) → IsFit input → HasUndo p k → IfSome (turn_of p k input).wrote (NeedsNoMore k)
 
 -- whether a record fits does not hang on the rows of kept branches, where Acks are noted that no record has
 abbrev pub AcksDoNotMatter : Type 0
