@@ -3,6 +3,8 @@ use Rattle.std.proofs.Common.{Option, Some, None, arith}
 use Rattle.std.specs.Prelude.{IfSome}
 use Rattle.node_rules.specs.Data.{RedoRecord, Input}
 use Rattle.node_rules.specs.Data.inputs
+use Rattle.node_rules.specs.Data.records
+use Rattle.node_rules.specs.Records.{doubt_over}
 use Rattle.node_rules.specs.NodeState.{NodeState}
 use Rattle.node_rules.specs.Turn.{heard, turn_of}
 use Rattle.node_rules.specs.Data.{Place}
@@ -12,12 +14,13 @@ use Rattle.node_ready_laws.proofs.IdStepLemmas.{ids_heard}
 use Rattle.node_undo_laws.specs.Keys.{ChangesFreeKeys}
 use Rattle.node_undo_laws.specs.Kept.{HasUndo}
 use Rattle.node_undo_laws.specs.Fits.{FitsDoubts}
-use Rattle.node_undo_laws.specs.Laws.{TurnsKeepUndo, RecordsFitDoubts, NeedsNoMore, RecordsNeedNoMore, AcksDoNotMatter}
+use Rattle.node_undo_laws.specs.Laws.{TurnsKeepUndo, RecordsFitDoubts, NeedsNoMore, RecordsNeedNoMore, SealsWithItsUndo, SealsKeepUndo, SealsHaveRoom, AcksDoNotMatter}
 use Rattle.node_undo_laws.proofs.ChangedLemmas.{changes_on}
 use Rattle.node_undo_laws.proofs.FreeLemmas.{step_free}
 use Rattle.node_undo_laws.proofs.KeyStepLemmas.{keys_on}
 use Rattle.node_undo_laws.proofs.SeeLemmas.{apart_of, sees_rows}
-use Rattle.node_undo_laws.proofs.UndoStepLemmas.{undo_on, space_on}
+use Rattle.node_undo_laws.proofs.UndoStepLemmas.{undo_on, space_on, seal_on}
+use Rattle.node_undo_laws.proofs.RoomLemmas.{doubts_with}
 
 -- ---- what a node hears changes none of this
 
@@ -43,6 +46,14 @@ space_heard k (inputs.Call n s) w is = is
 space_heard k (inputs.GiveUp n) w is = is
 space_heard k inputs.Reco w is = is
 
+seal_heard : (k : NodeState) (input : Input) (w : Option RedoRecord) → IfSome w (SealsWithItsUndo (heard k input)) → IfSome w (SealsWithItsUndo k)
+seal_heard k input None is = tt
+seal_heard k (inputs.Message m) (Some (records.Sealed r)) is = is
+seal_heard k (inputs.Call n s) (Some (records.Sealed r)) is = is
+seal_heard k (inputs.GiveUp n) (Some (records.Sealed r)) is = is
+seal_heard k inputs.Reco (Some (records.Sealed r)) is = is
+seal_heard k input (Some _) is = tt
+
 -- ---- turns
 
 pub turns_keep_undo : TurnsKeepUndo
@@ -61,6 +72,13 @@ turns_keep_undo p k input fit rows ids now =
 pub records_need_no_more : RecordsNeedNoMore
 unfolding turn_of
 records_need_no_more p k input fit now = space_heard k input _ (space_on p input (step_of p k input fit) (undo_heard p k input now).stands)
+
+pub seals_keep_undo : SealsKeepUndo
+unfolding turn_of
+seals_keep_undo p k input fit now = seal_heard k input _ (seal_on p input (step_of p k input fit) (undo_heard p k input now).stands)
+
+pub seals_have_room : SealsHaveRoom
+seals_have_room undo s r fits = let more = doubts_with s.doubts (doubt_over s.rows r) in let room = fits.room in omega (arith, more, room)
 
 fits_by : (p : Place) (k : NodeState) (w : Option RedoRecord) → HasUndo p k → IfSome w (ChangesFreeKeys k.stored.doubts) → IfSome w (NeedsNoMore k) → IfSome w (FitsDoubts p.undo k.stored)
 fits_by p k None now free less = tt

@@ -14,3 +14,4 @@ pub mod SeeLemmas
 pub mod UndoStepLemmas
 pub mod LawLemmas
 pub mod StartLemmas
+mod TriedLemmas

@@ -30,7 +30,7 @@ use Rattle.node_rules.specs.Statement.{ran, ground_of, owns_after, view}
 use Rattle.node_rules.proofs.SessionLemmas.{call_seqs}
 use Rattle.node_rules.proofs.Steps as steps
 use Rattle.node_rules.proofs.Steps.{Step, Makes}
-use Rattle.node_rules.proofs.StepLemmas.{IsLive, acting_live}
+use Rattle.node_rules.proofs.StepLemmas.{IsLive, acting_live, made_so}
 use Rattle.node_ready_laws.specs.Ids.{HasOwnIds}
 use Rattle.node_ready_laws.specs.Rows.{HasRows}
 use Rattle.node_ready_laws.proofs.IdStepLemmas.{still, begun_ids, with_ack}
@@ -38,7 +38,7 @@ use Rattle.node_ready_laws.proofs.ListLemmas.{all_weaker, all_both, all_found}
 use Rattle.node_undo_laws.specs.Changed.{changes_at, ChangesAreOfLives}
 use Rattle.node_undo_laws.specs.Keys.{is_written_by, is_doubted_by, AreHeld}
 use Rattle.node_undo_laws.specs.Kept.{UndoStands}
-use Rattle.node_undo_laws.specs.Laws.{NeedsNoMore}
+use Rattle.node_undo_laws.specs.Laws.{NeedsNoMore, SealsWithItsUndo}
 use Rattle.node_undo_laws.proofs.ChangedLemmas.{begun_fits}
 use Rattle.node_undo_laws.proofs.HolderLemmas.{LeaveKeys, keys_apart, doubted_written, doubts_apart, held_leaves}
 use Rattle.node_undo_laws.proofs.KeptLemmas.{rows_changed_beside, table_made, dropped, sealed_room, sealed, ran as ran_so, ended}
@@ -203,3 +203,19 @@ module _ (p : Place) (input : Input) where
   space_on (steps.Hides {k = k} n mixed id s call found) now = doubts_within k
   space_on (steps.Gives_up_commit n b None gives has pending none) now = tt
   space_on _ now = tt
+
+  -- ---- the undo of a branch that seals
+
+  -- each step that seals a branch seals it with the undo that was kept
+  pub seal_on : {k : NodeState} {d : TurnDraft} → Step p input k d → Stands p k → IfSome d.wrote (SealsWithItsUndo k)
+  seal_on (steps.Begins {k = k} n s call of_rows fit none step) now = seal_on step now
+  seal_on (steps.Pends {k = k} n l given call has live code step) now = seal_on step now
+  seal_on (steps.Lets_reads_go {k = k} l comment site_below live begins step) now = seal_on step now
+  seal_on (steps.Counts_ack {k = k} s from kept came counts step) now = seal_on step now
+  seal_on (steps.Acts {k = k} l site_below acts.Seal why) now = sym (now.own l.me)
+  seal_on (steps.Acts {k = k} l site_below (acts.SealAndPass i) why) now = sym (now.own l.me)
+  seal_on (steps.Acts l site_below acts.Rest why) now = tt
+  seal_on (steps.Does s from nexts.Rest kept why) now = tt
+  seal_on (steps.Makes_record {k = k} n s r d call makes) now = made_so (SealsWithItsUndo k) (λ t. tt) (λ l. tt) (λ y. tt) (λ on. tt) makes
+  seal_on (steps.Gives_up_commit n b None gives has pending none) now = tt
+  seal_on _ now = tt

@@ -1,10 +1,11 @@
 -- The undo of a node stands from turn to turn and over a start. So the undo that is kept of a live branch is that of the branch in doubt
 -- that it becomes, and a start never needs more space than the node had.
-use Rattle.std.specs.Prelude.{ℕ, ◌≤◌, List, [], ◌∷◌, ◌++◌, IfSome}
-use Rattle.row_store.specs.Store.{doubt_extents, used_extents}
-use Rattle.node_rules.specs.Data.{KeptRow, RedoRecord, Place, Input}
+use Rattle.std.specs.Prelude.{◌≡◌, ℕ, ◌≤◌, List, [], ◌∷◌, ◌++◌, IfSome}
+use Rattle.row_store.specs.Store.{doubt_extents, used_extents, extents_free}
+use Rattle.node_rules.specs.Data.{KeptRow, RedoRecord, Sealed, Place, Input}
 use Rattle.node_rules.specs.Data.records
-use Rattle.node_rules.specs.NodeState.{NodeState, Stored}
+use Rattle.node_rules.specs.Rows.{changes_length, extents, undo_of, undo_over}
+use Rattle.node_rules.specs.NodeState.{NodeState, Stored, sets_at}
 use Rattle.node_rules.specs.Records.{nothing_stored, doubts_after}
 use Rattle.node_rules.specs.Inputs.{IsFit}
 use Rattle.node_rules.specs.Turn.{turn_of, start_of, made}
@@ -30,6 +31,20 @@ NeedsNoMore k r = doubt_extents (doubts_after k.stored.rows k.stored.doubts r) �
 -- so it is with the record of each turn
 abbrev pub RecordsNeedNoMore : Type 0
 RecordsNeedNoMore = (p : Place) (k : NodeState) (input : Input) → IsFit input → HasUndo p k → IfSome (turn_of p k input).wrote (NeedsNoMore k)
+
+-- the undo of a branch that seals, over the committed rows, is what was kept of its statements
+abbrev pub SealsWithItsUndo : NodeState → RedoRecord → Type 0
+SealsWithItsUndo k (records.Sealed r) = undo_over k.stored.rows r.changes ≡ undo_of (sets_at k.owns r.me)
+SealsWithItsUndo k _ = Unit {0}
+
+-- so it is with the record of each turn
+abbrev pub SealsKeepUndo : Type 0
+SealsKeepUndo = (p : Place) (k : NodeState) (input : Input) → IsFit input → HasUndo p k → IfSome (turn_of p k input).wrote (SealsWithItsUndo k)
+
+-- a branch that is put in doubt by a record that fits has room beside the others
+abbrev pub SealsHaveRoom : Type 0
+SealsHaveRoom = (undo : ℕ) (s : Stored) (r : Sealed) → FitsDoubts undo s (records.Sealed r)
+    → extents (changes_length (undo_over s.rows r.changes)) ≤ extents_free (record { rows = s.rows; owns = []; doubts = s.doubts; extents = undo })
 
 -- whether a record fits does not hang on the rows of kept branches, where Acks are noted that no record has
 abbrev pub AcksDoNotMatter : Type 0

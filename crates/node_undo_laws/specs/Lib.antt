@@ -3,3 +3,4 @@ pub mod Keys
 pub mod Kept
 pub mod Fits
 pub mod Laws
+pub mod TriedUndo
