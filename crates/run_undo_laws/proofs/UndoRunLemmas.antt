@@ -1,6 +1,6 @@
 -- In a lawful run each node that is up keeps its undo, and the records of each disk fit beside the branches in doubt: by induction over the
 -- happenings.
-use Rattle.std.proofs.Common.{◌≡◌, ℕ, ◌+◌, ◌≤◌, List, [], ◌∷◌, ◌++◌, IfSome, Option, Some, None, refl, sym, ap, subst, ◌∙◌, arith, append-nil}
+use Rattle.std.proofs.Common.{◌≡◌, ℕ, ◌≤◌, List, [], ◌∷◌, ◌++◌, IfSome, Option, Some, None, refl, sym, ap, subst, ◌∙◌, arith, append-nil}
 use Rattle.std.specs.Option.{option_to_list}
 use Rattle.row_store.specs.Store.{doubt_extents}
 use Rattle.node_rules.specs.Data.{RedoRecord, Place}
@@ -33,7 +33,7 @@ use Rattle.node_undo_laws.proofs.StartLemmas.{left_by, none_left, fits_last, sta
 use Rattle.run_ready_laws.proofs.ComerLemmas.{comers_are_expected}
 use Rattle.run_ready_laws.proofs.CountRunLemmas.{counts_are_few}
 use Rattle.run_ready_laws.proofs.ReadyRunLemmas.{nodes_are_ready}
-use Rattle.run_undo_laws.specs.UndoRuns.{NodesKeepUndo, DisksFitDoubts, extents_used, extents_in_doubt, NeedsNoMoreSpace, StartsAlwaysFit}
+use Rattle.run_undo_laws.specs.UndoRuns.{NodesKeepUndo, DisksFitDoubts, extents_used, extents_in_doubt, seen_last, last_up_from, DisksNeedNoMore, StartFits, StartsAlwaysFit}
 
 -- ---- records
 
@@ -92,6 +92,10 @@ module _ (undo : ℕ) (rs : List RedoRecord) (k : NodeState) (stored : StoresOf 
   unfolding applied
   no_more None fits = let same = same_doubts None in omega (arith, same)
   no_more (Some r) fits = let same = same_doubts (Some r) in let less = fits.less in omega (arith, same, less)
+
+-- the branches in doubt by these records need no more than this node used, if there is one
+abbrev NeedsNoMoreThan : List RedoRecord → Option NodeState → Type 0
+NeedsNoMoreThan rs o = IfSome o (λ k. extents_in_doubt rs ≤ extents_used k)
 
 -- ---- a start
 
@@ -188,23 +192,31 @@ module _ (t : History) where
     }
 
     -- the space at a turn
-    space_turn : (u : Turn) (j k : NodeState) → MayTurn t.places f u j → node_at f u.node ≡ Some k → extents_in_doubt (records_at f u.node ++ option_to_list u.wrote) ≤ extents_used k
-    space_turn u j k may there =
-        subst (λ x. extents_in_doubt (records_at f u.node ++ option_to_list u.wrote) ≤ extents_used x) (let same : Some j ≡ Some k = sym may.up ∙ there in let it : j ≡ k = cc in it)
-        (no_more (place_at t.places u.node).undo (records_at f u.node) j (stored u j may) u.wrote (wrote_fits u j may))
+    space_turn : (u : Turn) (k : NodeState) → MayTurn t.places f u k → extents_in_doubt (records_at f u.node ++ option_to_list u.wrote) ≤ extents_used k
+    space_turn u k may = no_more (place_at t.places u.node).undo (records_at f u.node) k (stored u k may) u.wrote (wrote_fits u k may)
 
-    -- and where a node stops
-    space_stopped : (n : ℕ) (k : NodeState) → node_at f n ≡ Some k → extents_in_doubt (records_at f n) ≤ extents_used k
-    space_stopped n k there =
+    -- of a node that is up
+    space_up : (n : ℕ) (k : NodeState) → node_at f n ≡ Some k → extents_in_doubt (records_at f n) ≤ extents_used k
+    space_up n k there =
         let is : StoresOf (records_at f n) k = at_node (λ p rs. Unit {0}) (λ p rs k. StoresOf rs k) stores t.places f n (stand.nodes n) k there in
         let same = ap (λ s. doubt_extents s.doubts) is in
         omega (arith, same)
 
-    space_at : (h : Happening) → MayHappen t.places t.commands f h → NeedsNoMoreSpace t.places f h
-    space_at (happenings.Turn u) may = λ k there. space_turn u may.0 k may.1 there
-    space_at (happenings.Stopped n) may = λ k there. space_stopped n k there
-    space_at (happenings.Started n boot) may = (started_uses (records_at f n) boot, in_doubt_fit (place_at t.places n).undo (records_at f n) (now n).0)
-    space_at _ may = tt
+    -- and at a start
+    start_fits : (h : Happening) → MayHappen t.places t.commands f h → StartFits t.places f h
+    start_fits (happenings.Started n boot) may = (started_uses (records_at f n) boot, in_doubt_fit (place_at t.places n).undo (records_at f n) (now n).0)
+    start_fits _ may = tt
+
+    -- the disk of a node that is down needs no more than the node used when it was last up
+    down_on : (n : ℕ) (before : Option NodeState) {o : Option NodeState} {rs : List RedoRecord} → Goes t.places f n o rs → o ≡ None → NeedsNoMoreThan (records_at f n) (seen_last before (node_at f n))
+        → NeedsNoMoreThan rs (seen_last before (node_at f n))
+    down_on n before Stays none less = less
+    down_on n before (Turns u k may is) none less = absurd cc
+    down_on n before (Is_cut u k may is) none less =
+        subst (λ m. NeedsNoMoreThan (records_at f m ++ option_to_list u.wrote) (seen_last before (node_at f m))) is
+        (subst (λ x. NeedsNoMoreThan (records_at f u.node ++ option_to_list u.wrote) (seen_last before x)) (sym may.up) (space_turn u k may))
+    down_on n before Stops none less = less
+    down_on n before (Starts boot down next) none less = absurd cc
 
   -- all that is known of a run so far
   record AllOf (f : Facts) : Type 0 where
@@ -233,13 +245,43 @@ module _ (t : History) where
   at_end : IsLawfulRun t → AllOf (facts_at t)
   at_end lawful = lawful_keeps t.places t.commands (λ f tr. AllOf f) on (first_facts t.places) no_trail t.trace first lawful
 
+  -- ---- when a node was last up
+
+  module _ (n : ℕ) where
+    seen_on : (f g : Facts) (before : Option NodeState) → AllOf f → AllOf g → Goes t.places f n (node_at g n) (records_at g n) → NeedsNoMoreThan (records_at f n) (seen_last before (node_at f n))
+        → NeedsNoMoreThan (records_at g n) (seen_last (seen_last before (node_at f n)) (node_at g n))
+    seen_on f g before now then goes less = by (node_at g n) refl
+      where
+        by : (o : Option NodeState) → node_at g n ≡ o → NeedsNoMoreThan (records_at g n) (seen_last (seen_last before (node_at f n)) o)
+        by None is = down_on f now.reached now.stand now.kept n before goes is less
+        by (Some k) is = space_up g then.reached then.stand then.kept n k is
+
+    up_to : (f : Facts) (before : Option NodeState) (hs : List Happening) → AllOf f → NeedsNoMoreThan (records_at f n) (seen_last before (node_at f n)) → IsLawful t.places t.commands f hs
+        → NeedsNoMoreThan (records_at (facts_of t.places t.commands f hs) n) (last_up_from t.places t.commands n f before hs)
+    unfolding facts_of IsLawful last_up_from
+    up_to f before [] now less lawful = less
+    up_to f before (h ∷ hs) now less lawful =
+        let then : AllOf (facts_after t.places t.commands f h) = on f no_trail h now lawful.0 in
+        up_to (facts_after t.places t.commands f h) (seen_last before (node_at f n)) hs then
+        (seen_on f (facts_after t.places t.commands f h) before now then (goes_so t.places f t.commands now.stand.even h n lawful.0) less) lawful.1
+
+    first_up : NeedsNoMoreThan (records_at (first_facts t.places) n) (seen_last None (node_at (first_facts t.places) n))
+    first_up = by (node_at (first_facts t.places) n) refl
+      where
+        by : (o : Option NodeState) → node_at (first_facts t.places) n ≡ o → NeedsNoMoreThan (records_at (first_facts t.places) n) (seen_last None o)
+        by None is = tt
+        by (Some k) is = space_up (first_facts t.places) first.reached first.stand first.kept n k is
+
 pub nodes_keep_undo : NodesKeepUndo
 nodes_keep_undo t lawful n k up = subst (λ o. IfSome o (HasUndo (place_at t.places n))) up ((at_end t lawful).kept n).1
 
 pub disks_fit_doubts : DisksFitDoubts
 disks_fit_doubts t lawful n = ((at_end t lawful).kept n).0.fits
 
+pub disks_need_no_more : DisksNeedNoMore
+disks_need_no_more t lawful n = up_to t n (first_facts t.places) None t.trace (first t) (first_up t n) lawful
+
 pub starts_always_fit : StartsAlwaysFit
 starts_always_fit t lawful =
-    of_facts t.places t.commands (NeedsNoMoreSpace t.places) (first_facts t.places) no_trail t.trace
-    (lawful_each t.places t.commands (λ f tr. AllOf t f) (on t) (λ f tr h. NeedsNoMoreSpace t.places f h) (λ f tr h now may. space_at t f now.reached now.stand now.kept h may) (first_facts t.places) no_trail t.trace (first t) lawful)
+    of_facts t.places t.commands (StartFits t.places) (first_facts t.places) no_trail t.trace
+    (lawful_each t.places t.commands (λ f tr. AllOf t f) (on t) (λ f tr h. StartFits t.places f h) (λ f tr h now may. start_fits t f now.reached now.stand now.kept h may) (first_facts t.places) no_trail t.trace (first t) lawful)

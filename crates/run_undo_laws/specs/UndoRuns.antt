@@ -1,14 +1,14 @@
 -- In every lawful run each node keeps its undo, and a start has the space that it needs: the branches in doubt of a node take no more
--- undo extents after a start than all branches took there before the stop. (Database Administrator's Guide, "Managing Undo".)
-use Rattle.std.specs.Prelude.{◌≡◌, ℕ, ◌≤◌, List, ◌++◌, option_to_list, Some}
+-- undo extents after a start than all its branches took when it was last up. (Database Administrator's Guide, "Managing Undo".)
+use Rattle.std.specs.Prelude.{◌≡◌, ℕ, ◌≤◌, List, [], ◌∷◌, IfSome, Option, Some, None}
 use Rattle.row_store.specs.Store.{doubt_extents, used_extents}
 use Rattle.node_rules.specs.Data.{RedoRecord, Place}
 use Rattle.node_rules.specs.NodeState.{NodeState}
 use Rattle.node_rules.specs.Records.{nothing_stored, stored_by}
 use Rattle.node_rules.specs.Turn.{start_of}
-use Rattle.run_rules.specs.Data.{Happening}
+use Rattle.run_rules.specs.Data.{Happening, Command}
 use Rattle.run_rules.specs.Data.happenings
-use Rattle.run_rules.specs.Facts.{Facts, place_at, node_at, records_at, with_boot}
+use Rattle.run_rules.specs.Facts.{Facts, first_facts, place_at, node_at, records_at, with_boot, facts_after}
 use Rattle.run_rules.specs.Lawful.{History, IsLawfulRun, facts_at}
 use Rattle.run_base_laws.specs.NodeLaws.{AtEachFact, OfEachNode}
 use Rattle.node_undo_laws.specs.Kept.{HasUndo}
@@ -32,15 +32,29 @@ extents_used k = used_extents k.owns k.stored.doubts
 abbrev pub extents_in_doubt : List RedoRecord → ℕ
 extents_in_doubt rs = doubt_extents (stored_by nothing_stored rs).doubts
 
--- The branches in doubt by the records on a disk need no more than the node used: after each turn, whether it is cut or not, than
--- the node used before it, and where a node stops, than it used then. A start uses what they need, and that is within the node's extents.
-abbrev pub NeedsNoMoreSpace : List Place → Facts → Happening → Type 0
-NeedsNoMoreSpace places f (happenings.Turn u) = (k : NodeState) → node_at f u.node ≡ Some k → extents_in_doubt (records_at f u.node ++ option_to_list u.wrote) ≤ extents_used k
-NeedsNoMoreSpace places f (happenings.Stopped n) = (k : NodeState) → node_at f n ≡ Some k → extents_in_doubt (records_at f n) ≤ extents_used k
-NeedsNoMoreSpace places f (happenings.Started n boot) =
-    (extents_used (start_of (with_boot f n boot)) ≡ extents_in_doubt (records_at f n)) × (extents_in_doubt (records_at f n) ≤ (place_at places n).undo)
-NeedsNoMoreSpace places f _ = Unit {0}
+-- what was seen before, or what is there now
+abbrev pub seen_last : Option NodeState → Option NodeState → Option NodeState
+seen_last before None = before
+seen_last before (Some k) = Some k
 
--- So it is at each happening of every lawful run: no start lacks undo extents.
+-- what a node kept when it was last up: now, or before the happening that took it down
+unfoldable pub last_up_from : List Place → List Command → ℕ → Facts → Option NodeState → List Happening → Option NodeState
+last_up_from places asked n f before [] = seen_last before (node_at f n)
+last_up_from places asked n f before (h ∷ hs) = last_up_from places asked n (facts_after places asked f h) (seen_last before (node_at f n)) hs
+
+-- in a run
+abbrev pub last_up : History → ℕ → Option NodeState
+last_up t n = last_up_from t.places t.commands n (first_facts t.places) None t.trace
+
+-- In every lawful run the branches in doubt by the records on a disk need no more undo extents than the node used when it was last up.
+abbrev pub DisksNeedNoMore : Type 0
+DisksNeedNoMore = (t : History) → IsLawfulRun t → (n : ℕ) → IfSome (last_up t n) (λ k. extents_in_doubt (records_at (facts_at t) n) ≤ extents_used k)
+
+-- A start uses just what these branches need, and that is within the node's extents.
+abbrev pub StartFits : List Place → Facts → Happening → Type 0
+StartFits places f (happenings.Started n boot) = (extents_used (start_of (with_boot f n boot)) ≡ extents_in_doubt (records_at f n)) × (extents_in_doubt (records_at f n) ≤ (place_at places n).undo)
+StartFits places f _ = Unit {0}
+
+-- So it is at each start of every lawful run: none lacks undo extents.
 abbrev pub StartsAlwaysFit : Type 0
-StartsAlwaysFit = (t : History) → IsLawfulRun t → AtEachFact NeedsNoMoreSpace t
+StartsAlwaysFit = (t : History) → IsLawfulRun t → AtEachFact StartFits t

@@ -1,7 +1,7 @@
 //! In every lawful run nodes keep their undo, and a start has the undo extents that it needs.
 #![tactic(auto)]
 
-ghost use Rattle.run_undo_laws.specs.UndoRuns.{NodesKeepUndo, DisksFitDoubts, StartsAlwaysFit};
+ghost use Rattle.run_undo_laws.specs.UndoRuns.{NodesKeepUndo, DisksFitDoubts, DisksNeedNoMore, StartsAlwaysFit};
 
 /// In every lawful run each node that is up keeps its undo: that of each branch, live or in doubt, is the rows from before its changes,
 /// whose keys it holds, and all undo fits the node's extents. Each record on its disk fits beside the branches that were in doubt
@@ -11,8 +11,9 @@ pub fn nodes_keep_undo()
     ensures disks { DisksFitDoubts }
 {}
 
-/// No start lacks undo extents: the branches in doubt by the records on a disk take no more of them than the node used before the turn or
-/// the stop that left these records, and never more than the node has. A start uses just these. ("Managing Undo".)
+/// No start lacks undo extents: the branches in doubt by the records on a disk take no more of them than the node used when it was last
+/// up, and never more than the node has. A start uses just these. ("Managing Undo".)
 pub fn starts_always_fit()
-    ensures { StartsAlwaysFit }
+    ensures disks { DisksNeedNoMore }
+    ensures starts { StartsAlwaysFit }
 {}
