@@ -22,16 +22,16 @@ UndoIsOf rows sets = undo_of sets ≡ undo_over rows (changes_of sets)
 abbrev pub UndoIsHeld : List TableRows → Doubt → Type 0
 UndoIsHeld rows d = d.undo ≡ undo_over rows d.changes
 
--- Rows in the order of their keys, the undo of live branches and of branches in doubt, which is that of their changes over
--- these rows, and space for it.
+-- Rows in the order of their keys, the undo of live branches and of branches in doubt, which is that of their changes over these rows,
+-- and no more of it than there are extents for.
 pub record UndoStands (undo : ℕ) (rows : List TableRows) (owns : List Owned) (doubts : List Doubt) : Type 0 where
   pub ordered : AreInOrder rows
   pub own : (b : BranchId) → UndoIsOf rows (sets_at owns b)
   pub held_back : AllByRecursion (UndoIsHeld rows) doubts
   pub room : used_extents owns doubts ≤ undo
 
--- A node that keeps its undo: changes are of live branches and of branches in doubt, which hold the keys of them, and the undo of these
--- changes stands within the node's extents.
+-- A node that keeps its undo: changes are of live branches and of branches in doubt, each of which holds the keys that it changed, and
+-- the undo of these changes stands within the node's extents.
 pub record HasUndo (p : Place) (k : NodeState) : Type 0 where
   pub lives : ChangesAreOfLives k.lives k.owns
   pub keys : KeysHeld k.locks k.owns k.stored.doubts
