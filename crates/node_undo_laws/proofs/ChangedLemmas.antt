@@ -195,7 +195,6 @@ module _ (p : Place) (input : Input) where
   changes_on (steps.Rolls_back {k = k} n x call has live) now = drop_fits k.lives k.owns now x.live.me
   changes_on (steps.Gives_up {k = k} n x gives has pending live) now = put_fits k.lives k.owns now x.live (now.marked x.live.me x.live (live_so k x.live.me x live))
   changes_on (steps.Gives_up_commit {k = k} n b (Some l) gives has pending live) now = drop_fits k.lives k.owns now l.me
-  changes_on (steps.Gives_up_commit {k = k} n b None gives has pending gone) now = now
   changes_on _ now = now
 
 -- a node that starts has neither

@@ -43,7 +43,6 @@ module _ (p : Place) (input : Input) where
   step_free (steps.Acts {k = k} l site_below acts.Seal why) apart now = changes_free k.locks l.me (own_changes k l.me) (now.own l.me) k.stored.doubts now.doubts (not_doubted k l.me (acting_live why) apart)
   step_free (steps.Acts {k = k} l site_below (acts.SealAndPass i) why) apart now = changes_free k.locks l.me (own_changes k l.me) (now.own l.me) k.stored.doubts now.doubts (not_doubted k l.me (acting_live why) apart)
   step_free (steps.Acts {k = k} l site_below acts.Decide why) apart now = changes_free k.locks l.me (own_changes k l.me) (now.own l.me) k.stored.doubts now.doubts (not_doubted k l.me (acting_live why) apart)
-  step_free (steps.Acts l site_below acts.Rest why) apart now = tt
   step_free (steps.Does s from nexts.Rest kept why) apart now = tt
   step_free (steps.Makes_record {k = k} n s r d call makes) apart now = made_so (ChangesFreeKeys k.stored.doubts) (λ t. tt) (λ l. tt) (λ y. tt) (λ on. tt) makes
   step_free (steps.Gives_up_commit n b None gives has pending gone) apart now = tt

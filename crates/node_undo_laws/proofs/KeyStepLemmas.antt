@@ -99,7 +99,6 @@ module _ {input : Input} {n : ℕ} {s : Stmt} (is : IsCall input n s) (rows : Is
     rows_on (steps.Forces_rollback m id b call named) sees now = absurd (not_other (λ no. no) call)
     rows_on (steps.Rolls_back m x call has live) sees now = absurd (not_other (λ no. no) call)
     rows_on (steps.Gives_up_commit m b (Some l) gives has pending live) sees now = absurd (cc (is, gives))
-    rows_on (steps.Gives_up_commit m b None gives has pending gone) sees now = now
     rows_on _ sees now = now
 
 -- ---- any step
@@ -162,5 +161,4 @@ module _ (p : Place) (input : Input) where
       settled k.locks k.owns k.stored.doubts b (own.live b (forced_so p.names (λ c. live_at k c ≡ None) k.stored.durable.kept id b apart.rows named)) now
   keys_on (steps.Rolls_back {k = k} n x call has live) sees own apart now = dropped k.locks k.owns k.stored.doubts x.live.me (not_doubted k x.live.me (x.live, live_so k x.live.me x live) apart) now
   keys_on (steps.Gives_up_commit {k = k} n b (Some l) gives has pending live) sees own apart now = dropped k.locks k.owns k.stored.doubts l.me (not_doubted k l.me (l, subst (λ m. live_at k m ≡ Some l) (sym (item_is live_id k.lives b l live)) live) apart) now
-  keys_on (steps.Gives_up_commit {k = k} n b None gives has pending gone) sees own apart now = now
   keys_on _ sees own apart now = now

@@ -162,7 +162,6 @@ module _ (p : Place) (input : Input) where
       settles p k rows ids keys now b (own.live b (forced_so p.names (λ c. live_at k c ≡ None) k.stored.durable.kept id b (apart_of k ids).rows named)) decisions.Rollback
   undo_on (steps.Rolls_back {k = k} n x call has live) rows ids own keys now = gone k x.live.me now
   undo_on (steps.Gives_up_commit {k = k} n b (Some l) gives has pending live) rows ids own keys now = gone k l.me now
-  undo_on (steps.Gives_up_commit {k = k} n b None gives has pending none) rows ids own keys now = now
   undo_on _ rows ids own keys now = now
 
   -- ---- the space of branches in doubt
@@ -191,11 +190,9 @@ module _ (p : Place) (input : Input) where
   space_on (steps.Acts {k = k} l site_below acts.Seal why) now = seal_within k (sealed_of k.clock l (own_changes k l.me) None) refl now
   space_on (steps.Acts {k = k} l site_below (acts.SealAndPass i) why) now = seal_within k (sealed_of k.clock l (own_changes k l.me) (Some i)) refl now
   space_on (steps.Acts {k = k} l site_below acts.Decide why) now = doubts_within k
-  space_on (steps.Acts l site_below acts.Rest why) now = tt
   space_on (steps.Does {k = k} s from (nexts.End d) kept why) now = fewer_within k s.me
   space_on (steps.Does {k = k} s from (nexts.Meet d mixed) kept why) now = doubts_within k
   space_on (steps.Does {k = k} s from nexts.Forget kept why) now = doubts_within k
-  space_on (steps.Does s from nexts.Rest kept why) now = tt
   space_on (steps.Makes_record {k = k} n s r d call makes) now = made_within k makes
   space_on (steps.Forces_given {k = k} n id m b call named) now = fewer_within k b
   space_on (steps.Forces_commit {k = k} n id b call named) now = fewer_within k b
@@ -214,7 +211,6 @@ module _ (p : Place) (input : Input) where
   seal_on (steps.Counts_ack {k = k} s from kept came counts step) now = seal_on step now
   seal_on (steps.Acts {k = k} l site_below acts.Seal why) now = sym (now.own l.me)
   seal_on (steps.Acts {k = k} l site_below (acts.SealAndPass i) why) now = sym (now.own l.me)
-  seal_on (steps.Acts l site_below acts.Rest why) now = tt
   seal_on (steps.Does s from nexts.Rest kept why) now = tt
   seal_on (steps.Makes_record {k = k} n s r d call makes) now = made_so (SealsWithItsUndo k) (λ t. tt) (λ l. tt) (λ y. tt) (λ on. tt) makes
   seal_on (steps.Gives_up_commit n b None gives has pending none) now = tt
