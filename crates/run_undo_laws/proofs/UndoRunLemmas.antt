@@ -1,6 +1,6 @@
 -- In a lawful run each node that is up keeps its undo, and the records of each disk fit beside the branches in doubt: by induction over the
 -- happenings.
-use Rattle.std.proofs.Common.{◌≡◌, ℕ, ◌≤◌, List, [], ◌∷◌, ◌++◌, IfSome, Option, Some, None, refl, sym, ap, subst, ◌∙◌, arith, append-nil}
+use Rattle.std.proofs.Common.{◌≡◌, ℕ, ◌≤◌, List, [], ◌∷◌, ◌++◌, IfSome, Option, Some, None, refl, sym, ap, subst, ◌∙◌, arith, append-nil, zero, suc, take}
 use Rattle.std.specs.Option.{option_to_list}
 use Rattle.row_store.specs.Store.{doubt_extents}
 use Rattle.node_rules.specs.Data.{RedoRecord, Place}
@@ -8,7 +8,7 @@ use Rattle.node_rules.specs.Data.records
 use Rattle.node_rules.specs.NodeState.{NodeState, Stored}
 use Rattle.node_rules.specs.Records.{nothing_stored, applied, stored_by}
 use Rattle.node_rules.specs.Turn.{turn_of, start_of}
-use Rattle.run_rules.specs.Data.{Turn, Happening}
+use Rattle.run_rules.specs.Data.{Turn, Happening, Command}
 use Rattle.run_rules.specs.Data.happenings
 use Rattle.run_rules.specs.Branches.{Trail, no_trail}
 use Rattle.run_rules.specs.Facts.{Facts, first_facts, place_at, node_at, records_at, facts_after, facts_of}
@@ -33,7 +33,7 @@ use Rattle.node_undo_laws.proofs.StartLemmas.{left_by, none_left, fits_last, sta
 use Rattle.run_ready_laws.proofs.ComerLemmas.{comers_are_expected}
 use Rattle.run_ready_laws.proofs.CountRunLemmas.{counts_are_few}
 use Rattle.run_ready_laws.proofs.ReadyRunLemmas.{nodes_are_ready}
-use Rattle.run_undo_laws.specs.UndoRuns.{NodesKeepUndo, DisksFitDoubts, extents_used, extents_in_doubt, seen_last, last_up_from, DisksNeedNoMore, StartFits, StartsAlwaysFit}
+use Rattle.run_undo_laws.specs.UndoRuns.{NodesKeepUndo, DisksFitDoubts, extents_used, extents_in_doubt, seen_last, last_up_from, DisksNeedNoMore, StartFits, StartsAlwaysFit, run_upto, EveryRunKeepsUndo}
 
 -- ---- records
 
@@ -285,3 +285,18 @@ pub starts_always_fit : StartsAlwaysFit
 starts_always_fit t lawful =
     of_facts t.places t.commands (StartFits t.places) (first_facts t.places) no_trail t.trace
     (lawful_each t.places t.commands (λ f tr. AllOf t f) (on t) (λ f tr h. StartFits t.places f h) (λ f tr h now may. start_fits t f now.reached now.stand now.kept h may) (first_facts t.places) no_trail t.trace (first t) lawful)
+
+-- ---- up to a moment
+
+lawful_upto : (places : List Place) (asked : List Command) (i : ℕ) (f : Facts) (hs : List Happening) → IsLawful places asked f hs → IsLawful places asked f (take i hs)
+unfolding IsLawful
+lawful_upto places asked zero f hs lawful = tt
+lawful_upto places asked (suc i) f [] lawful = tt
+lawful_upto places asked (suc i) f (h ∷ hs) lawful = (lawful.0, lawful_upto places asked i (facts_after places asked f h) hs lawful.1)
+
+pub every_run_keeps_undo : EveryRunKeepsUndo
+every_run_keeps_undo t lawful = record {
+  nodes = λ i n k up. nodes_keep_undo (run_upto t i) (lawful_upto t.places t.commands i (first_facts t.places) t.trace lawful) n k up;
+  disks = λ i n. disks_need_no_more (run_upto t i) (lawful_upto t.places t.commands i (first_facts t.places) t.trace lawful) n;
+  starts = starts_always_fit t lawful;
+}

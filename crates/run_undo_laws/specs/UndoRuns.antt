@@ -1,6 +1,6 @@
 -- In every lawful run each node keeps its undo, and a start has the space that it needs: the branches in doubt of a node take no more
 -- undo extents after a start than all its branches took when it was last up. (Database Administrator's Guide, "Managing Undo".)
-use Rattle.std.specs.Prelude.{◌≡◌, ℕ, ◌≤◌, List, [], ◌∷◌, IfSome, Option, Some, None}
+use Rattle.std.specs.Prelude.{◌≡◌, ℕ, ◌≤◌, List, [], ◌∷◌, take, IfSome, Option, Some, None}
 use Rattle.row_store.specs.Store.{doubt_extents, used_extents}
 use Rattle.node_rules.specs.Data.{RedoRecord, Place}
 use Rattle.node_rules.specs.NodeState.{NodeState}
@@ -8,6 +8,7 @@ use Rattle.node_rules.specs.Records.{nothing_stored, stored_by}
 use Rattle.node_rules.specs.Turn.{start_of}
 use Rattle.run_rules.specs.Data.{Happening, Command}
 use Rattle.run_rules.specs.Data.happenings
+use Rattle.run_rules.specs.Each.{facts_upto}
 use Rattle.run_rules.specs.Facts.{Facts, first_facts, place_at, node_at, records_at, with_boot, facts_after}
 use Rattle.run_rules.specs.Lawful.{History, IsLawfulRun, facts_at}
 use Rattle.run_base_laws.specs.NodeLaws.{AtEachFact, OfEachNode}
@@ -58,3 +59,21 @@ StartFits places f _ = Unit {0}
 -- So it is at each start of every lawful run: none lacks undo extents.
 abbrev pub StartsAlwaysFit : Type 0
 StartsAlwaysFit = (t : History) → IsLawfulRun t → AtEachFact StartFits t
+
+-- ---- a run
+
+-- the run up to a moment
+abbrev pub run_upto : History → ℕ → History
+run_upto t i = record t { trace = take i t.trace }
+
+-- The undo of a run. At each moment each node that is up has of each of its branches, live or in doubt, the rows from before its changes,
+-- within its undo extents; the branches in doubt by the records on a disk need no more of them than the node used when it was last up;
+-- and each start uses just what they need.
+pub record UndoIsKept (t : History) : Type 0 where
+  pub nodes : (i n : ℕ) (k : NodeState) → node_at (facts_upto t i) n ≡ Some k → HasUndo (place_at t.places n) k
+  pub disks : (i n : ℕ) → IfSome (last_up (run_upto t i) n) (λ k. extents_in_doubt (records_at (facts_upto t i) n) ≤ extents_used k)
+  pub starts : AtEachFact StartFits t
+
+-- In every lawful run it is so.
+abbrev pub EveryRunKeepsUndo : Type 0
+EveryRunKeepsUndo = (t : History) → IsLawfulRun t → UndoIsKept t

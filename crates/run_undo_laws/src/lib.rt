@@ -1,7 +1,7 @@
 //! In every lawful run nodes keep their undo, and a start has the undo extents that it needs.
 #![tactic(auto)]
 
-ghost use Rattle.run_undo_laws.specs.UndoRuns.{NodesKeepUndo, DisksFitDoubts, DisksNeedNoMore, StartsAlwaysFit};
+ghost use Rattle.run_undo_laws.specs.UndoRuns.{NodesKeepUndo, DisksFitDoubts, DisksNeedNoMore, StartsAlwaysFit, EveryRunKeepsUndo};
 
 /// In every lawful run each node that is up keeps its undo: that of each branch, live or in doubt, is the rows from before its changes,
 /// whose keys it holds, and all undo fits the node's extents. Each record on its disk fits beside the branches that were in doubt
@@ -16,4 +16,10 @@ pub fn nodes_keep_undo()
 pub fn starts_always_fit()
     ensures disks { DisksNeedNoMore }
     ensures starts { StartsAlwaysFit }
+{}
+
+/// The undo of a run, at each of its moments: what each node that is up keeps of it, and the space that it takes, also over stops and
+/// starts. ("Managing Undo".)
+pub fn every_run_keeps_undo()
+    ensures { EveryRunKeepsUndo }
 {}
