@@ -1,17 +1,11 @@
 -- In every lawful run live branches hold the keys that they have changed, and branches in doubt those of their changes.
-use Rattle.std.proofs.Common.{◌≡◌, ◌≢◌, ℕ, true, List, [], ◌∷◌, ◌++◌, Option, Some, None, refl, sym, ap, subst}
+use Rattle.std.proofs.Common.{◌≡◌, ◌≢◌, ℕ, List, [], ◌∷◌, ◌++◌, Option, Some, None, refl, sym, ap, subst}
 use Rattle.std.specs.Prelude.{IfSome}
 use Rattle.std.specs.Option.{option_to_list}
 use Rattle.std.specs.List.{AllByRecursion, IsDistinct}
-use Rattle.std.specs.Str.{bytes_eq}
-use Rattle.std.specs.Cmp.Lexicographic.{bytes_decides}
-use Rattle.std.proofs.lemmas.Bool.{and_parts}
-use Rattle.dtx_values.specs.Order.{same_value}
-use Rattle.dtx_values.proofs.ValueOrder.{equal_from_same}
 use Rattle.tran_ids.proofs.ListedLemmas.{item_is}
 use Rattle.agreement.specs.Events.{Event, exit}
-use Rattle.row_locks.specs.Locks.{Lock}
-use Rattle.node_rules.specs.Data.{Change, BranchId, RedoRecord, Live, Place, Input, Doubt}
+use Rattle.node_rules.specs.Data.{BranchId, RedoRecord, Live, Place, Input, Doubt}
 use Rattle.node_rules.specs.Data.records
 use Rattle.node_rules.specs.Data.inputs
 use Rattle.node_rules.specs.Words.{numbered}
@@ -24,8 +18,7 @@ use Rattle.run_rules.specs.Lawful.{IsPlace, MayHappen, MayTurn, History, IsLawfu
 use Rattle.run_base_laws.specs.RunEvents.{events_after, events_of}
 use Rattle.run_base_laws.specs.EventRows.{RowIs, RowsAre}
 use Rattle.run_key_laws.specs.ChangedLaws.{ChangesAreOfLives}
-use Rattle.run_key_laws.specs.RiseLaws.{are_of_one_key}
-use Rattle.run_key_laws.specs.KeyLaws.{is_written_by, is_doubted_by, is_held, AreHeld, KeysAreHeld}
+use Rattle.run_key_laws.specs.KeyLaws.{KeysAreHeld}
 use Rattle.run_rules.proofs.ListLemmas.{all_weaker}
 use Rattle.run_base_laws.proofs.OwnLemmas.{all_found}
 use Rattle.run_base_laws.proofs.StoredLemmas.{StoresOf, step_stores_of, stored_with}
@@ -34,43 +27,20 @@ use Rattle.run_base_laws.proofs.LaterLemmas.{events_keep}
 use Rattle.run_base_laws.proofs.NodesStandLemmas.{acked_back}
 use Rattle.run_base_laws.proofs.NodeLemmas.{Goes, Stays, Turns, Is_cut, Stops, Starts, goes_so}
 use Rattle.run_base_laws.proofs.EventsStandLemmas.{BranchStatus, node_so, stand_on, stand_first, first_disk, first_node}
-use Rattle.run_key_laws.proofs.HoldLemmas.{held_weaker, held_by_one, doubt_is_written}
-use Rattle.run_key_laws.proofs.DistinctLemmas.{IsFreeFor, AreApart, DoubtsApart, start_holds, start_distinct}
-use Rattle.run_key_laws.proofs.TableStepLemmas.{Fits}
+use Rattle.node_undo_laws.proofs.DistinctLemmas.{DoubtsApart, start_holds, start_distinct}
+use Rattle.node_undo_laws.proofs.HolderLemmas.{doubts_apart, starts_free}
+use Rattle.run_key_laws.proofs.TableStepLemmas.{Fits, one_key, sees_rows}
 use Rattle.run_key_laws.proofs.TableRunLemmas.{TablesStand, tables_on, tables_first, fits_at}
 use Rattle.run_key_laws.proofs.DoubtLemmas.{IsOpen, DoubtsAre, stored_doubts, DoubtsStand, doubts_on}
-use Rattle.run_key_laws.proofs.KeyStepLemmas.{Keys, Apart, keys_on}
+use Rattle.node_undo_laws.proofs.KeyStepLemmas.{SeesRows, Keys, Apart, keys_on}
 
--- ---- branches in doubt have different keys
+-- ---- tables
 
-module _ (locks : List Lock) where
-  -- two branches that hold one key are one
-  pub one_holder : (b c : BranchId) (x y : Change) → is_held (is_doubted_by b) locks x.table x.key ≡ true → is_held (is_written_by c) locks y.table y.key ≡ true → are_of_one_key x y ≡ true → b ≡ c
-  one_holder b c x y held holds same =
-      let parts = and_parts (bytes_eq x.table y.table) (same_value x.key y.key) same in
-      let tables : x.table ≡ y.table = (bytes_decides x.table y.table).0 parts.0 in
-      let keys : x.key ≡ y.key = equal_from_same x.key y.key parts.1 in
-      let here : is_held (is_doubted_by b) locks y.table y.key ≡ true = subst (λ k. is_held (is_doubted_by b) locks y.table k ≡ true) keys (subst (λ t. is_held (is_doubted_by b) locks t x.key ≡ true) tables held) in
-      held_by_one b c locks y.table y.key (held_weaker (is_doubted_by b) (is_written_by b) y.table y.key (λ l is. doubt_is_written b l is) locks here) holds
-
-  apart_two : (d e : Doubt) → AreHeld (is_doubted_by d.branch) locks d.changes → AreHeld (is_doubted_by e.branch) locks e.changes → AreApart d e
-  apart_two d e one other =
-      all_weaker _ _ (λ x held. all_weaker _ _ (λ y holds same. one_holder d.branch e.branch x y held
-      (held_weaker (is_doubted_by e.branch) (is_written_by e.branch) y.table y.key (λ l is. doubt_is_written e.branch l is) locks holds) same) e.changes other) d.changes one
-
-  doubts_apart : (ds : List Doubt) → AllByRecursion (λ d. AreHeld (is_doubted_by d.branch) locks d.changes) ds → DoubtsApart ds
-  doubts_apart [] all = tt
-  doubts_apart (d ∷ ds) all = (all_weaker _ _ (λ e other. apart_two d e all.0 other) ds all.1, doubts_apart ds all.1)
+-- a branch sees rows of a table that there is
+sees_of : (k : NodeState) → Fits k → SeesRows k
+sees_of k fits b name t found = (one_key k b t name found fits, sees_rows k b t name found fits)
 
 -- ---- a start
-
-free_all : (P : Change → Type 0) → ((c : Change) → P c) → (cs : List Change) → AllByRecursion P cs
-free_all P each [] = tt
-free_all P each (c ∷ cs) = (each c, free_all P each cs)
-
-starts_free : (ds : List Doubt) → AllByRecursion (λ d. AllByRecursion (IsFreeFor [] d.branch) d.changes) ds
-starts_free [] = tt
-starts_free (d ∷ ds) = (free_all (IsFreeFor [] d.branch) (λ c. refl) d.changes, starts_free ds)
 
 start_keys : (rs : List RedoRecord) (boot : ℕ) → DoubtsApart (stored_by nothing_stored rs).doubts → Keys (start_of (rs ++ records.Boot boot ∷ []))
 unfolding start_of applied IsDistinct
@@ -169,7 +139,7 @@ module _ (places : List Place) (asked : List Command) (each : (n : ℕ) (p : Pla
           subst (λ m. NodeKeys (Some (draft_of (place_at places m) k u.input).after) (records_at f n ++ option_to_list (draft_of (place_at places m) k u.input).wrote)) here
           (up_keys (records_at f n ++ option_to_list (draft_of (place_at places u.node) k u.input).wrote) (draft_of (place_at places u.node) k u.input).after
           (step_stores_of (place_at places u.node) (records_at f n) u.input (heard k u.input) (draft_of (place_at places u.node) k u.input) step (heard_stored u.input))
-          (keys_on (place_at places u.node) u.input step (heard_fits u.input fits.0) (heard_own u.input fits.1) (heard_apart u.input apart_so) (heard_keys u.input keys_so)))
+          (keys_on (place_at places u.node) u.input step (sees_of (heard k u.input) (heard_fits u.input fits.0)) (heard_own u.input fits.1) (heard_apart u.input apart_so) (heard_keys u.input keys_so)))
 
       turned : NodeKeys (Some (turn_of (place_at places n) k u.input).after) (records_at f n ++ option_to_list (turn_of (place_at places n) k u.input).wrote)
       unfolding turn_of

@@ -3,10 +3,6 @@ pub mod ChangedLemmas
 pub mod RanLemmas
 pub mod TableLemmas
 pub mod TableStepLemmas
-pub mod HoldLemmas
-pub mod DistinctLemmas
-pub mod KeyLemmas
-pub mod KeyStepLemmas
 pub mod DoubtLemmas
 pub mod TableRunLemmas
 pub mod RiseLemmas

@@ -67,7 +67,7 @@ module _ (ts : List Table) (owns : List Owned) (own : LiveChangesFit ts owns) wh
 abbrev pub Fits : NodeState → Type 0
 Fits k = StoredFits k.stored × LiveChangesFit k.stored.durable.tables k.owns
 
-module _ (p : Place) (k : NodeState) (b : BranchId) (s : Stmt) (t : Table) (name : List ℕ) (found : table_of k.stored.durable name ≡ Some t) (now : Fits k) where
+module _ (k : NodeState) (b : BranchId) (t : Table) (name : List ℕ) (found : table_of k.stored.durable name ≡ Some t) (now : Fits k) where
   by_name : table_in k.stored.durable.tables t.name ≡ Some t
   by_name = subst (λ m. table_in k.stored.durable.tables m ≡ Some t) (sym (table_is k.stored.durable.tables name t found)) found
 
@@ -79,11 +79,11 @@ module _ (p : Place) (k : NodeState) (b : BranchId) (s : Stmt) (t : Table) (name
   sees_rows = apply_rows k.stored.durable.tables (changes_at k.owns b) (now.1 b) t (rows_of_table k.stored.rows t.name) by_name (now.0.rows_of t.name t by_name)
 
   -- so a run changes rows of the table
-  pub run_fits : RunFits k.stored.durable.tables (ran p k b s t)
+  pub run_fits : (p : Place) (s : Stmt) → RunFits k.stored.durable.tables (ran p k b s t)
   unfolding ran
-  run_fits =
+  run_fits p s =
       run_so (ground_of p k b t) s t (RunFits k.stored.durable.tables) (λ r. tt) (λ rows nobody. tt)
-      (λ d n cs none nobody meant. all_weaker (IsChangeOf t) (IsChangeIn k.stored.durable.tables) (λ c is. (t, subst (λ m. table_in k.stored.durable.tables m ≡ Some t) (sym is.0) by_name, is))
+      (λ d n cs none nobody meant space. all_weaker (IsChangeOf t) (IsChangeIn k.stored.durable.tables) (λ c is. (t, subst (λ m. table_in k.stored.durable.tables m ≡ Some t) (sym is.0) by_name, is))
       cs (recursion_from_All (IsChangeOf t) cs (changes_are_of_table s t (view k b t.name) d n cs one_key sees_rows none meant)))
 
 -- ---- whole tables
@@ -124,7 +124,7 @@ module _ (p : Place) (input : Input) where
   fits_on (steps.Runs {k = k} x s given t asked way) whole now = (
     now.0,
     run_leaves k.stored.durable.tables k.owns now.1 x.live.me (view k x.live.me t.name) (ran p k x.live.me s t)
-        (run_fits p k x.live.me s t (ref_of s).name (runs_at_table p k.stored.durable x.live given s t way) now),
+        (run_fits k x.live.me t (ref_of s).name (runs_at_table p k.stored.durable x.live given s t way) now p s),
   )
   fits_on (steps.Acts {k = k} l site_below acts.Rest why) whole now = now
   fits_on (steps.Acts {k = k} l site_below acts.AskDown why) whole now = now

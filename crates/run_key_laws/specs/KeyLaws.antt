@@ -1,42 +1,8 @@
--- Who holds the keys of a node: a live branch those that it has changed, a branch in doubt those of the changes that it
--- holds back; and no key is held twice. (Database Administrator's Guide, "Distributed Transactions Concepts": locks of
+-- Who holds the keys of each node of a lawful run. (Database Administrator's Guide, "Distributed Transactions Concepts": locks of
 -- in-doubt transactions.)
-use Rattle.std.specs.Prelude.{◌≡◌, ℕ, ◌&&◌, Bool, true, false, List, find, Option, Some, None}
-use Rattle.std.specs.List.{AllByRecursion}
-use Rattle.row_locks.specs.Locks.{Lock, is_lock_on, AreOnDistinctKeys}
-use Rattle.node_rules.specs.Data.{Value, Change, BranchId, Owned, Doubt}
-use Rattle.node_rules.specs.Words.{same}
-use Rattle.run_key_laws.specs.ChangedLaws.{changes_at}
+pub use Rattle.node_undo_laws.specs.Keys.{passes, is_written_by, is_doubted_by, is_held, AreHeld, KeysHeld}
 use Rattle.run_base_laws.specs.NodeLaws.{OfEachNode}
 
--- whether the lock of a key passes a test
-abbrev pub passes : (Lock → Bool) → Option Lock → Bool
-passes test None = false
-passes test (Some l) = test l
-
--- whether a branch has a lock for writing
-abbrev pub is_written_by : BranchId → Lock → Bool
-is_written_by b l = same l.branch b && l.writes
-
--- and is in doubt
-abbrev pub is_doubted_by : BranchId → Lock → Bool
-is_doubted_by b l = is_written_by b l && l.in_doubt
-
--- whether the lock of the key of a change passes a test
-abbrev pub is_held : (Lock → Bool) → List Lock → List ℕ → Value → Bool
-is_held test locks table key = passes test (find (is_lock_on table key) locks)
-
--- the keys of these changes are all held so
-abbrev pub AreHeld : (Lock → Bool) → List Lock → List Change → Type 0
-AreHeld test locks cs = AllByRecursion (λ c. is_held test locks c.table c.key ≡ true) cs
-
--- No key is held twice; each branch holds the keys that it has changed, for writing, and each branch in doubt those of the
--- changes that it holds back, in doubt.
-pub record KeysHeld (locks : List Lock) (owns : List Owned) (ds : List Doubt) : Type 0 where
-  pub apart : AreOnDistinctKeys locks
-  pub own : (b : BranchId) → AreHeld (is_written_by b) locks (changes_at owns b)
-  pub doubts : AllByRecursion (λ d. AreHeld (is_doubted_by d.branch) locks d.changes) ds
-
--- so it is at each node of every lawful run
+-- at each node live branches hold the keys that they have changed, and branches in doubt those of their changes
 abbrev pub KeysAreHeld : Type 0
 KeysAreHeld = OfEachNode (λ p rs k. KeysHeld k.locks k.owns k.stored.doubts)

@@ -207,10 +207,10 @@ module _ (book : List Entry) (n : ℕ) (k : NodeState) (of_it : IsOfBook book n 
   alike : in_doubt_refusal g t (examined s t g.view (keys_held k.locks t.name)) ≡ None → SeesAlike s t doubtful (keys_held k.locks t.name) g.view told_view
   unfolding view_by
   alike none = record {
-    one_key = one_key p k b s t name found of_it.fits;
+    one_key = one_key k b t name found of_it.fits;
     first = record {
       order = changes_keep_order t.name (own_changes k b) (rows_of_table k.stored.rows t.name) (of_it.order t.name);
-      fit = sees_rows p k b s t name found of_it.fits;
+      fit = sees_rows k b t name found of_it.fits;
     };
     second = second;
     agree = changes_keep_agreement t.name (own_changes k b) doubtful (rows_of_table k.stored.rows t.name) (rows_of book b.node t.name) agree;

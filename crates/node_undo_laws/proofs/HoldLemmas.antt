@@ -10,8 +10,8 @@ use Rattle.node_rules.specs.Words.{same}
 use Rattle.node_rules.specs.Records.{take_changed, with_doubt}
 use Rattle.tran_ids.proofs.BranchLemmas as ids
 use Rattle.stmt_run.specs.Run.{take_keys}
-use Rattle.run_key_laws.specs.KeyLaws.{passes, is_written_by, is_doubted_by, is_held, AreHeld}
-use Rattle.run_rules.proofs.ListLemmas.{all_weaker}
+use Rattle.node_undo_laws.specs.Keys.{passes, is_written_by, is_doubted_by, is_held, AreHeld}
+use Rattle.node_ready_laws.proofs.ListLemmas.{all_weaker}
 
 -- ---- a key stays held
 

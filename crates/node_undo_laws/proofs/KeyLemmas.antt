@@ -21,18 +21,18 @@ use Rattle.node_rules.specs.Rows.{TableRows, changes_of, set_over}
 use Rattle.node_rules.specs.NodeState.{own_id, doubt_id, sets_of, sets_at}
 use Rattle.node_rules.specs.Records.{doubt_over, with_doubt}
 use Rattle.node_rules.specs.Statement.{Reads, Writes, owns_after}
-use Rattle.run_key_laws.specs.ChangedLaws.{changes_at}
-use Rattle.run_key_laws.specs.KeyLaws.{is_written_by, is_doubted_by, is_held, AreHeld, KeysHeld}
-use Rattle.run_rules.proofs.ListLemmas.{all_weaker, all_append, all_filter}
-use Rattle.run_key_laws.proofs.ChangedLemmas.{one_more_set, append_none}
-use Rattle.run_key_laws.proofs.RanLemmas.{Meets_nobody}
+use Rattle.node_undo_laws.specs.Changed.{changes_at}
+use Rattle.node_undo_laws.specs.Keys.{is_written_by, is_doubted_by, is_held, AreHeld, KeysHeld}
+use Rattle.node_ready_laws.proofs.ListLemmas.{all_weaker, all_append, all_filtered}
+use Rattle.node_undo_laws.proofs.ChangedLemmas.{one_more_set, append_none}
+use Rattle.node_undo_laws.proofs.RanLemmas.{Meets_nobody}
 use Rattle.stmt_run.proofs.Free.{written_free}
-use Rattle.run_key_laws.proofs.HoldLemmas.{held_filtered, written_again, doubted_again, doubt_is_written, still_doubted, kept_by_other, kept_by_writer, keys_taken, keys_leave, doubt_holds, doubt_leaves}
-use Rattle.run_key_laws.proofs.DistinctLemmas.{distinct_keys, distinct_filter, distinct_doubt, let_go}
+use Rattle.node_undo_laws.proofs.HoldLemmas.{held_filtered, written_again, doubted_again, doubt_is_written, still_doubted, kept_by_other, kept_by_writer, keys_taken, keys_leave, doubt_holds, doubt_leaves}
+use Rattle.node_undo_laws.proofs.DistinctLemmas.{distinct_keys, distinct_filter, distinct_doubt, let_go}
 
 -- ---- branches
 
-other_way : (b c : BranchId) → same b c ≡ false → same c b ≡ false
+pub other_way : (b c : BranchId) → same b c ≡ false → same c b ≡ false
 other_way b c is = by (same c b) refl
   where
     by : (here : Bool) → same c b ≡ here → here ≡ false
@@ -94,7 +94,7 @@ module _ (locks : List Lock) (owns : List Owned) (ds : List Doubt) (now : KeysHe
 
   -- a branch is in doubt no more
   fewer_doubts : (b : BranchId) → KeysHeld locks owns (drop_item doubt_id ds b)
-  fewer_doubts b = record { apart = now.apart; own = now.own; doubts = all_filter _ _ _ (λ d passes all. all) ds now.doubts }
+  fewer_doubts b = record { apart = now.apart; own = now.own; doubts = all_filtered _ _ ds now.doubts }
 
 -- one that leaves
 pub dropped : (locks : List Lock) (owns : List Owned) (ds : List Doubt) (b : BranchId) → AllByRecursion (λ d. same d.branch b ≡ false) ds → KeysHeld locks owns ds → KeysHeld (without locks b) (drop_item own_id owns b) ds

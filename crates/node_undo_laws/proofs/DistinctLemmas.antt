@@ -13,10 +13,9 @@ use Rattle.node_rules.specs.Records.{take_changed, with_doubt}
 use Rattle.node_rules.specs.Turn.{with_doubt_of}
 use Rattle.stmt_run.specs.Run.{take_keys}
 use Rattle.tran_ids.proofs.BranchLemmas as ids
-use Rattle.run_key_laws.specs.RiseLaws.{are_of_one_key}
-use Rattle.run_key_laws.specs.KeyLaws.{passes, is_written_by, is_doubted_by, is_held, AreHeld}
-use Rattle.run_rules.proofs.ListLemmas.{all_weaker, all_filter, all_map}
-use Rattle.run_key_laws.proofs.HoldLemmas.{doubt_holds, doubt_leaves, doubted_again, still_doubted}
+use Rattle.node_undo_laws.specs.Keys.{passes, is_written_by, is_doubted_by, is_held, AreHeld, are_of_one_key}
+use Rattle.node_ready_laws.proofs.ListLemmas.{all_weaker, all_filtered}
+use Rattle.node_undo_laws.proofs.HoldLemmas.{doubt_holds, doubt_leaves, doubted_again, still_doubted}
 
 -- ---- no key is held twice
 
@@ -38,12 +37,16 @@ unfolding IsDistinct
 distinct_filter keep [] apart = tt
 distinct_filter keep (l ∷ ls) apart =
     cond_both (keep l) _ _ AreOnDistinctKeys
-    (λ kept. (all_filter (λ x. are_on_one_key l x ≡ false) (λ x. are_on_one_key l x ≡ false) keep (λ x passes off. off) ls apart.0, distinct_filter keep ls apart.1)) (λ gone. distinct_filter keep ls apart.1)
+    (λ kept. (all_filtered (λ x. are_on_one_key l x ≡ false) keep ls apart.0, distinct_filter keep ls apart.1)) (λ gone. distinct_filter keep ls apart.1)
+
+all_doubted : (P : Lock → Type 0) (b : BranchId) (ls : List Lock) → AllByRecursion (λ x. P (doubted b x)) ls → AllByRecursion P (map (doubted b) ls)
+all_doubted P b [] all = tt
+all_doubted P b (l ∷ ls) all = (all.0, all_doubted P b ls all.1)
 
 pub distinct_doubted : (b : BranchId) (ls : List Lock) → AreOnDistinctKeys ls → AreOnDistinctKeys (map (doubted b) ls)
 unfolding IsDistinct
 distinct_doubted b [] apart = tt
-distinct_doubted b (l ∷ ls) apart = (all_map (λ x. are_on_one_key (doubted b l) x ≡ false) (doubted b) ls apart.0, distinct_doubted b ls apart.1)
+distinct_doubted b (l ∷ ls) apart = (all_doubted (λ x. are_on_one_key (doubted b l) x ≡ false) b ls apart.0, distinct_doubted b ls apart.1)
 
 pub distinct_keys : (keys : List Value) (ls : List Lock) (b : BranchId) (t : List ℕ) (w : Bool) → AreOnDistinctKeys ls → AreOnDistinctKeys (take_keys ls b t w keys)
 distinct_keys [] ls b t w apart = apart
