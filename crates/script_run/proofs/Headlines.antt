@@ -29,6 +29,7 @@ use Rattle.commit_answer_laws.specs.CauseLaws.{CausesEndCommits}
 use Rattle.commit_answer_laws.specs.CommitLines.{CommitsAnswerTruly}
 use Rattle.commit_obey_laws.specs.ObeyLaws.{EveryDecisionIsObeyed}
 use Rattle.node_purge_laws.specs.LeftOutLaws.{EveryPurgeChangesNothing}
+use Rattle.run_undo_laws.specs.UndoRuns.{EveryRunKeepsUndo}
 use Rattle.start_laws.specs.StartLaws.{EveryStartRestores}
 use Rattle.view_laws.specs.ReportedViews.{ViewsAreReported}
 use Rattle.view_laws.specs.ViewLaws.{ViewsAreOfBranches}
@@ -52,7 +53,7 @@ empty_report : IsReported (history_of nothing_done no_script) [] All_run
 unfolding past due_of
 empty_report = (refl, tt)
 
-module _ (lawful : TheRunIsLawful) (once : EveryCommandIsAnsweredOnce) (views : ViewsAreOfBranches) (reported : ViewsAreReported) (starts : EveryStartRestores) (knows : EveryTurnKnows) (meant : EveryRunIsMeant) (comes : EveryAnswerHasItsPlace) (tells : DoneIsReported) (ended : PendingCallsEnd) (caused : CausesEndCommits) (commits : CommitsAnswerTruly) (completes : QuietCommitsAreComplete) (obeys : EveryDecisionIsObeyed) (purged : EveryPurgeChangesNothing) (sites : EverySiteDecides) (covers : EveryDecisionCovers) (agrees : EveryBookAgrees) (marked : EveryMixedIsMarked) (later : EveryScnIsLater) where
+module _ (lawful : TheRunIsLawful) (once : EveryCommandIsAnsweredOnce) (views : ViewsAreOfBranches) (reported : ViewsAreReported) (starts : EveryStartRestores) (undoes : EveryRunKeepsUndo) (knows : EveryTurnKnows) (meant : EveryRunIsMeant) (comes : EveryAnswerHasItsPlace) (tells : DoneIsReported) (ended : PendingCallsEnd) (caused : CausesEndCommits) (commits : CommitsAnswerTruly) (completes : QuietCommitsAreComplete) (obeys : EveryDecisionIsObeyed) (purged : EveryPurgeChangesNothing) (sites : EverySiteDecides) (covers : EveryDecisionCovers) (agrees : EveryBookAgrees) (marked : EveryMixedIsMarked) (later : EveryScnIsLater) where
   -- by the laws, of what is due and told
   by_laws : (run : Run) (ending : Ending) (script : AreOfAScript (places_of run.commands) run.commands)
       → IsTheRun (places_of run.commands) run.commands (start (places_of run.commands)) run.trace → run.book ≡ book_of run.trace
@@ -69,6 +70,7 @@ module _ (lawful : TheRunIsLawful) (once : EveryCommandIsAnsweredOnce) (views : 
         once = once t due;
         views = (views t due may, reported t run.answers ending told);
         starts = starts t may;
+        undo = undoes t may;
         knows = knows t may;
         meant = meant t may;
         come = comes t due;
@@ -115,6 +117,7 @@ stands_too run is = record {
   once = is.once;
   views = (is.views.0, λ i c shows begun view prints. (let it = is.views.1 i c shows begun view prints in record { stands = inr it.stands; text = it.text }));
   starts = is.starts;
+  undo = is.undo;
   knows = is.knows;
   meant = is.meant;
   come = is.come;

@@ -17,6 +17,7 @@ use Rattle.commit_answer_laws.specs.CauseLaws.{CauseEnds}
 use Rattle.commit_answer_laws.specs.CommitLines.{CommitAnswersAreTrue}
 use Rattle.commit_obey_laws.specs.ObeyLaws.{Obedience}
 use Rattle.node_purge_laws.specs.LeftOutLaws.{PurgesChangeNothing}
+use Rattle.run_undo_laws.specs.UndoRuns.{UndoIsKept}
 use Rattle.start_laws.specs.StartLaws.{StartsRestore}
 use Rattle.view_laws.specs.ReportedViews.{ViewsAreAmong}
 use Rattle.view_laws.specs.ViewLaws.{ViewsOf}
@@ -35,7 +36,8 @@ history_of run script = record { places = places_of run.commands; commands = run
 -- is a notice. SHOW PENDING and SHOW NEIGHBORS print just the rows of the branches that by the records are prepared, committed or forced
 -- there, and SHOW PENDING those that are collecting.
 -- After each start a node has, at each key that is not in doubt, the row that the book leaves there; the keys of its branches in
--- doubt are locked, and no others; its catalog and kept rows are those of its records; and nobody is live there.
+-- doubt are locked, and no others; its catalog and kept rows are those of its records; and nobody is live there. A node keeps the
+-- rows from before its branches' changes within its undo extents, and a start needs no more of them than the node used before.
 -- Each record of a turn, and each Exec, Abort, ReadOnly and Committed, has its cause in what came to its branch and what
 -- happened before. Where a node runs a query, it answers the query's meaning over the rows that the book leaves there, with the
 -- changes of the asking branch, and examines no key in doubt; a change counts the rows that it means; what a client is
@@ -63,6 +65,7 @@ pub record IsRun (run : Run) (ending : Ending) : Type 0 where
   pub once : EachIsAnsweredOnce (history_of run script) × AllAreAnsweredOnce (history_of run script) × LaterAnswersStandWhereCallsEnd (history_of run script)
   pub views : ViewsOf (history_of run script) × ViewsAreAmong (history_of run script) run.answers ending
   pub starts : StartsRestore (history_of run script)
+  pub undo : UndoIsKept (history_of run script)
   pub knows : Knowledge (history_of run script)
   pub meant : RunsAreMeant (history_of run script)
   pub come : AnswersHavePlaces (history_of run script)

@@ -13,6 +13,7 @@ ghost use Rattle.commit_obey_laws.specs.ObeyLaws.{EveryDecisionIsObeyed};
 ghost use Rattle.node_purge_laws.specs.LeftOutLaws.{EveryPurgeChangesNothing};
 ghost use Rattle.view_laws.specs.ReportedViews.{ViewsAreReported};
 ghost use Rattle.view_laws.specs.ViewLaws.{ViewsAreOfBranches};
+ghost use Rattle.run_undo_laws.specs.UndoRuns.{EveryRunKeepsUndo};
 ghost use Rattle.start_laws.specs.StartLaws.{EveryStartRestores};
 ghost use Rattle.answer_once_laws.specs.OnceLaws.{EveryCommandIsAnsweredOnce};
 ghost use Rattle.world.specs.Ran.{IsRan, as_ending};
@@ -32,6 +33,7 @@ use node_purge_laws::every_purge_changes_nothing;
 use run_cause_laws::every_turn_knows;
 use run_ready_laws::the_run_is_lawful;
 use run_trace::RunRecord;
+use run_undo_laws::every_run_keeps_undo;
 use script_read::Commands;
 use start_laws::every_start_restores;
 use std::alloc::Global;
@@ -97,6 +99,7 @@ fn laws_of_runs()
     ensures views { ViewsAreOfBranches }
     ensures reported { ViewsAreReported }
     ensures starts { EveryStartRestores }
+    ensures undoes { EveryRunKeepsUndo }
     ensures knows { EveryTurnKnows }
     ensures meant { EveryRunIsMeant }
     ensures comes { EveryAnswerHasItsPlace }
@@ -118,6 +121,7 @@ fn laws_of_runs()
     views_are_of_branches();
     views_are_reported();
     every_start_restores();
+    every_run_keeps_undo();
     every_turn_knows();
     every_run_is_meant();
     every_answer_has_its_place();
