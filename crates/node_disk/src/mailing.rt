@@ -1,5 +1,5 @@
 //! Messages with their bytes.
-ghost use Rattle.std.specs.Prelude.{◌≡◌, ◌<◌, ◌^◌, length, map, nat_le, nat_lt, IfOk, OnErr, OnOk, ⊥};
+ghost use Rattle.std.specs.Prelude.{◌≡◌, ◌<◌, ◌^◌, length, map, nat_le, nat_lt, IfOk, OnErr, OnOk};
 ghost use Rattle.std.specs.List.{All, AllByRecursion, list_all};
 ghost use Rattle.dtx_values.specs.declared.answer.Answer.TheVariants as answers;
 ghost use Rattle.field_codec.specs.Fits.{HasCount};

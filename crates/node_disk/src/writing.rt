@@ -1,5 +1,5 @@
 //! The record of a turn is written.
-ghost use Rattle.std.specs.Prelude.{◌≡◌, List, Option, IfErr, IfOk, IfSome, OnOk, OnErr, IsErrOf, ⊥};
+ghost use Rattle.std.specs.Prelude.{◌≡◌, List, Option, IfErr, IfOk, IfSome, OnOk, OnErr, IsErrOf};
 ghost use Rattle.block_disk.specs.Images.{AtEachMoment, IsOnly};
 ghost use Rattle.redo_log.specs.Runs.{IsUntouched};
 ghost use Rattle.redo_record.specs.declared.record.RedoRecord.{RedoRecord as RedoRecordBy};
