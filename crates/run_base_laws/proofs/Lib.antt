@@ -15,7 +15,10 @@ pub mod LaterLemmas
 pub mod RowEventLemmas
 pub mod GivenLemmas
 pub mod MayStandLemmas
+pub mod RowRecordLemmas
 pub mod OwnLemmas
+pub mod LiveStepLemmas
+pub mod KeptStepLemmas
 pub mod RowScnLemmas
 pub mod SayLemmas
 pub mod SaidLemmas
