@@ -29,7 +29,7 @@ use Rattle.run_branch_laws.proofs.PhaseLemmas.{slice_all, slice_set_all}
 -- ---- rows
 
 -- an Ack that was sent
-abbrev Sent : List Event → BranchId → BranchId → Type 0
+abbrev pub Sent : List Event → BranchId → BranchId → Type 0
 Sent t b me = Has (Send_ack b me) t
 
 -- one more Ack is held

@@ -32,7 +32,7 @@ use Rattle.run_base_laws.proofs.NodesStandLemmas.{lives_among}
 use Rattle.run_base_laws.proofs.TurnEventLemmas.{cases_nat, all_both}
 use Rattle.run_base_laws.proofs.EventsStandLemmas.{first_node, BranchStatus, stand_on, stand_first}
 use Rattle.run_base_laws.proofs.BirthsStandLemmas.{came_so}
-use Rattle.run_branch_laws.proofs.HeardLemmas.{later_answers, later_acks, risen_answers, HeardSo, answers_on, acks_on}
+use Rattle.run_branch_laws.proofs.HeardLemmas.{Sent, later_answers, later_acks, risen_answers, HeardSo, answers_on, acks_on}
 use Rattle.run_branch_laws.proofs.HeldAckLemmas.{acks_stored}
 use Rattle.run_branch_laws.proofs.QuietLemmas.{Quits, QuitsSo, quits_on, quiet_there, quiet_leaves}
 
@@ -195,7 +195,7 @@ module _ (places : List Place) (asked : List Command) (each : (n : ℕ) (p : Pla
 
       start_so : (zs : List RedoRecord) → NodeHeard t (start_of zs)
       unfolding start_of
-      start_so zs = (tt, acks_stored (λ b me. Has (Send_ack b me) t) nothing_stored zs tt)
+      start_so zs = (tt, acks_stored (Sent t) nothing_stored zs tt)
 
       start_node : (i : ℕ) → IfSome (node_at begun i) (NodeHeard t)
       start_node i = elim (cases_nat i m) [
@@ -229,7 +229,7 @@ module _ (places : List Place) (asked : List Command) (each : (n : ℕ) (p : Pla
 
   made_heard : NodeHeard [] made
   unfolding start_of
-  made_heard = (tt, acks_stored (λ b me. Has (Send_ack b me) []) nothing_stored (records.Boot 1 ∷ []) tt)
+  made_heard = (tt, acks_stored (Sent []) nothing_stored (records.Boot 1 ∷ []) tt)
 
   abbrev pub StandHeard : Facts → List Event → Type 0
   StandHeard f t = BranchStatus places asked each f t × HeardStand f t
