@@ -1,5 +1,6 @@
 pub mod PastLemmas
 pub mod LawfulLemmas
+pub mod OneTurn
 pub mod NodeLemmas
 pub mod ClockLemmas
 pub mod AckLemmas

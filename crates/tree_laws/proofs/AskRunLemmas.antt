@@ -10,12 +10,12 @@ use Rattle.node_rules.specs.Data.{BranchId, Kind, Live, Post, Place, RedoRecord}
 use Rattle.node_rules.specs.Data.kinds
 use Rattle.node_rules.specs.Words.{same, numbered}
 use Rattle.node_rules.specs.Inputs.{Came}
-use Rattle.node_rules.specs.NodeState.{NodeState, TurnDraft, live_id, live_at}
-use Rattle.node_rules.specs.Turn.{start_of, heard, draft_of}
+use Rattle.node_rules.specs.NodeState.{NodeState, live_id, live_at}
+use Rattle.node_rules.specs.Turn.{start_of, heard}
 use Rattle.agreement.specs.Events.{Event}
 use Rattle.run_rules.specs.Data.{Packet, Turn, Happening, Command}
 use Rattle.run_rules.specs.Data.happenings
-use Rattle.run_rules.specs.Facts.{Facts, first_facts, place_at, node_at, facts_after, facts_of}
+use Rattle.run_rules.specs.Facts.{Facts, first_facts, node_at, facts_after, facts_of}
 use Rattle.run_rules.specs.Lawful.{IsPlace, MayTurn, MayHappen, IsLawful, History, IsLawfulRun, facts_at}
 use Rattle.run_base_laws.specs.RunEvents.{events_after}
 use Rattle.run_rules.specs.Births.{Born, births_after, births_from, births_of, born_at}
@@ -37,6 +37,7 @@ use Rattle.run_base_laws.proofs.RestRunLemmas.{heard_rests, RootsStand, roots_st
 use Rattle.run_base_laws.proofs.SaidPostLemmas.{unborn_asks}
 use Rattle.run_base_laws.proofs.InTurnRunLemmas as calls
 use Rattle.run_base_laws.proofs.InTurnRunLemmas.{CallsStand, heard_calls, calls_stand_on, first_calls}
+use Rattle.run_base_laws.proofs.OneTurn.{one_turn}
 use Rattle.run_branch_laws.proofs.FreezeStepLemmas as frost
 use Rattle.run_branch_laws.proofs.FreezeRunLemmas as frozen
 use Rattle.run_branch_laws.proofs.FreezeRunLemmas.{FreezeStand, freeze_on, first_freeze}
@@ -88,20 +89,7 @@ start_told ms zs = none_live _
 module _ (places : List Place) (asked : List Command) (each : (n : ℕ) (p : Place) → numbered places n ≡ Some p → IsPlace places n p) where
   module _ (f : Facts) (t : List Event) (bs : List Born) (stand : StandBorn places asked each f t bs) (roots : RootsStand places asked each f) (turned : CallsStand f) (ice : FreezeStand f) (now : AskStand f bs) where
     module _ (u : Turn) (k : NodeState) (may : MayTurn places f u k) where
-      abbrev n : ℕ
-      n = u.node
-
-      abbrev p : Place
-      p = place_at places u.node
-
-      abbrev d : TurnDraft
-      d = draft_of p k u.input
-
-      abbrev g : Facts
-      g = facts_after places asked f (happenings.Turn u)
-
-      abbrev said : List Post
-      said = said_in f
+      open one_turn places asked f u k use {n, p, d, g, said}
 
       abbrev Here : BranchId → Type 0
       Here = calls.Here places asked each f t bs stand roots turned u k may
