@@ -11,11 +11,11 @@ use Rattle.node_rules.specs.Data.kinds
 use Rattle.node_rules.specs.Words.{same, numbered}
 use Rattle.node_rules.specs.Inputs.{Came}
 use Rattle.node_rules.specs.NodeState.{NodeState, live_id, live_at}
-use Rattle.node_rules.specs.Turn.{start_of, heard}
+use Rattle.node_rules.specs.Turn.{start_of, heard, draft_of}
 use Rattle.agreement.specs.Events.{Event}
 use Rattle.run_rules.specs.Data.{Packet, Turn, Happening, Command}
 use Rattle.run_rules.specs.Data.happenings
-use Rattle.run_rules.specs.Facts.{Facts, first_facts, node_at, facts_after, facts_of}
+use Rattle.run_rules.specs.Facts.{Facts, first_facts, place_at, node_at, facts_after, facts_of}
 use Rattle.run_rules.specs.Lawful.{IsPlace, MayTurn, MayHappen, IsLawful, History, IsLawfulRun, facts_at}
 use Rattle.run_base_laws.specs.RunEvents.{events_after}
 use Rattle.run_rules.specs.Births.{Born, births_after, births_from, births_of, born_at}
@@ -180,7 +180,7 @@ module _ (places : List Place) (asked : List Command) (each : (n : ℕ) (p : Pla
     -- ---- every happening
 
     goes_down : (kind : Kind → Bool) → GoesDown kind bs (said_in f)
-        → ((u : Turn) (k : NodeState) (may : MayTurn places f u k) → node_at (facts_after places asked f (happenings.Turn u)) u.node ≡ Some (d u k may).after → (q c : BranchId) → was_sent kind (d u k may).says q c ≡ true → HeardAbove kind (bs2 u k may) (more u k may) q)
+        → ((u : Turn) (k : NodeState) (may : MayTurn places f u k) → node_at (facts_after places asked f (happenings.Turn u)) u.node ≡ Some (draft_of (place_at places u.node) k u.input).after → (q c : BranchId) → was_sent kind (draft_of (place_at places u.node) k u.input).says q c ≡ true → HeardAbove kind (bs2 u k may) (more u k may) q)
         → (h : Happening) → MayHappen places asked f h → GoesDown kind (births_after places f h bs) (said_in (facts_after places asked f h))
     goes_down kind old new (happenings.Turn u) may =
         turn_says places asked f stand.0.0.even u may.0 may.1 (GoesDown kind (bs2 u may.0 may.1)) (λ down. down_same u may.0 may.1 kind old) (λ up. down_all u may.0 may.1 kind old (new u may.0 may.1 up))
