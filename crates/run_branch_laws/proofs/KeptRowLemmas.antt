@@ -149,14 +149,14 @@ later_unsealed b m e (Was_quiet c was gone) is = let at = only_at_is c b Quiet (
 later_unsealed b m e (Was_dropped c was gone) is = let at = only_at_is c b Dropped (Sealed m) is in absurd (cc (at.1))
 
 -- it is the seal of this branch
-abbrev IsSealOf : BranchId → Option RedoRecord → Type 0
+abbrev pub IsSealOf : BranchId → Option RedoRecord → Type 0
 IsSealOf b (Some (records.Sealed s)) = s.me ≡ b
 IsSealOf b _ = ⊥
 
 none_new : (t : List Event) (b : BranchId) (m : ℕ) (w : Option RedoRecord) → first (exit t b) None ≡ Some (Sealed m) → (exit t b ≡ Some (Sealed m)) ⊎ IsSealOf b w
 none_new t b m w is = elim (first_is (exit t b) None (Sealed m) is) [ inl old ↦ inl old | inr new ↦ (let no : None ≡ Some (Sealed m) = new.1 in absurd cc) ]
 
-wrote_seal : (n : ℕ) (t : List Event) (w : Option RedoRecord) (b : BranchId) (m : ℕ) → exit (with_event (wrote_event n w) t) b ≡ Some (Sealed m) → (exit t b ≡ Some (Sealed m)) ⊎ IsSealOf b w
+pub wrote_seal : (n : ℕ) (t : List Event) (w : Option RedoRecord) (b : BranchId) (m : ℕ) → exit (with_event (wrote_event n w) t) b ≡ Some (Sealed m) → (exit t b ≡ Some (Sealed m)) ⊎ IsSealOf b w
 wrote_seal n t None b m is = inl is
 wrote_seal n t (Some (records.Sealed s)) b m is =
     elim (first_is (exit t b) (only_at s.me b (Sealed s.scn)) (Sealed m) is) [ inl old ↦ inl old | inr new ↦ inr (only_at_is s.me b (Sealed s.scn) (Sealed m) new.1).0 ]

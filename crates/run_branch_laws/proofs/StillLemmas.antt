@@ -33,10 +33,10 @@ use Rattle.run_base_laws.proofs.InTurnStepLemmas as drafts
 use Rattle.run_branch_laws.proofs.FreezeStepLemmas as frost
 
 -- what a change of edges leaves of each, it leaves of all
-collected : {X : Type 0} (f : Edge → X) → ((e : Edge) → f (with_prepare_sent e) ≡ f e) → (es : List Edge) → map f (map with_prepare_sent es) ≡ map f es
+pub collected : {X : Type 0} (f : Edge → X) → ((e : Edge) → f (with_prepare_sent e) ≡ f e) → (es : List Edge) → map f (map with_prepare_sent es) ≡ map f es
 collected f each es = map_after f with_prepare_sent f each es
 
-heard_vote : {X : Type 0} (f : Edge → X) (from : BranchId) (v : Vote) → ((e : Edge) → f (record e { vote = v }) ≡ f e) → (es : List Edge) → map f (map (has_voted from v) es) ≡ map f es
+pub heard_vote : {X : Type 0} (f : Edge → X) (from : BranchId) (v : Vote) → ((e : Edge) → f (record e { vote = v }) ≡ f e) → (es : List Edge) → map f (map (has_voted from v) es) ≡ map f es
 heard_vote f from v each es = map_after f (has_voted from v) f (λ e. cond_both (answers_first from e) (record e { vote = v }) e (λ y. f y ≡ f e) (λ here. each e) (λ other. refl)) es
 
 module _ (k0 : NodeState) where

@@ -18,9 +18,9 @@ use Rattle.node_rules.specs.Prepare.{act_turn, ready, collecting, with_comment, 
 use Rattle.node_rules.specs.Turn.{draft_of}
 use Rattle.node_rules.proofs.Steps.{HasRoot}
 use Rattle.node_rules.proofs.StandLemmas.{RootSo, root_so}
-use Rattle.tree_laws.proofs.SealLemmas.{IsSealOf}
+use Rattle.run_branch_laws.proofs.KeptRowLemmas.{IsSealOf}
 use Rattle.tree_laws.proofs.SiteLemmas.{IsDecisionOf}
-use Rattle.tree_laws.proofs.RestLemmas.{collected}
+use Rattle.run_branch_laws.proofs.StillLemmas.{collected}
 
 -- an act concerns its branch alone
 act_other : (k : NodeState) (l : Live) (b : Bool) (a : Act) (c : BranchId) → same l.me c ≡ false → live_at (act_turn k l b a).after c ≡ live_at k c

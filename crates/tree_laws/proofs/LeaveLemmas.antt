@@ -44,7 +44,8 @@ use Rattle.run_base_laws.proofs.KidLemmas.{child_parent, above_of}
 use Rattle.tree_laws.proofs.AskLemmas.{voted_step}
 use Rattle.tree_laws.proofs.AskRunLemmas.{edges_asked}
 use Rattle.tree_laws.proofs.PrefixLemmas.{so_far, f_at, e_at, each_prefix}
-use Rattle.tree_laws.proofs.SealLemmas.{IsSealOf, wrote_seal, later_unsealed}
+use Rattle.run_branch_laws.proofs.KeptRowLemmas.{IsSealOf, wrote_seal}
+use Rattle.tree_laws.proofs.SealLemmas.{later_unsealed}
 use Rattle.tree_laws.proofs.SettleLemmas.{live_in, born_of}
 use Rattle.tree_laws.proofs.SiteLemmas.{IsDecisionOf, wrote_decision, later_undecided}
 use Rattle.tree_laws.proofs.WeightStepLemmas.{collected_weight, voted_weight}

@@ -1,10 +1,9 @@
 -- Each step of a node leaves the children, the weights and the changes of a live branch that rests.
 use Rattle.std.proofs.Common.{◌≡◌, ℕ, ◌+◌, ◌-◌, ◌<◌, ◌≤◌, List, [], ◌∷◌, ◌++◌, map, length, Option, Some, None, refl, sym, ap, subst, ◌∙◌, arith}
-use Rattle.std.proofs.lemmas.Bool.{cond_both}
 use Rattle.tran_ids.proofs.ListedLemmas.{item_is}
 use Rattle.commit_forget.specs.declared.next.Next.TheVariants as nexts
 use Rattle.session_tree.specs.Live.{children_of, new_edge, fresh_live}
-use Rattle.node_rules.specs.Data.{BranchId, Edge, Live, Act, Post, Vote, Place, Input}
+use Rattle.node_rules.specs.Data.{BranchId, Live, Act, Post, Vote, Place, Input}
 use Rattle.node_rules.specs.Data.acts
 use Rattle.node_rules.specs.declared.session.PendingCall.TheVariants as pending
 use Rattle.node_rules.specs.declared.work.Work.{Work}
@@ -15,7 +14,7 @@ use Rattle.node_rules.specs.Names.{passed_on}
 use Rattle.node_rules.specs.Statement.{ran, after_run, answer_of_run}
 use Rattle.node_rules.specs.Calls.{with_answer, called, next_child, strength_of, with_edge, waits_for_opened, hears_reply}
 use Rattle.node_rules.specs.Client.{new_root, fresh_root, gives_up}
-use Rattle.node_rules.specs.Prepare.{with_prepare_sent, has_voted, answers_first, ready, collecting, with_comment, voted, act_turn}
+use Rattle.node_rules.specs.Prepare.{ready, collecting, with_comment, voted, act_turn}
 use Rattle.node_rules.proofs.Steps as steps
 use Rattle.node_rules.proofs.Steps.{Step, Asked, Acting}
 use Rattle.node_rules.proofs.StandLemmas.{live_so}
@@ -24,22 +23,15 @@ use Rattle.node_rules.specs.LiveBranches.{EachLive, works_of}
 use Rattle.node_rules.proofs.LiveLemmas.{each_put, each_changed, each_left, each_begun, branch_parts, work_is}
 use Rattle.run_rules.specs.Births.{Born}
 use Rattle.run_base_laws.specs.InTurnLaws.{newest_exec}
-use Rattle.run_rules.proofs.ListLemmas.{map_after}
 use Rattle.run_base_laws.proofs.RootLemmas.{SessionsFit, root_alone, pends_so, begun_so}
 use Rattle.run_base_laws.proofs.RestStepLemmas.{going_of}
 use Rattle.run_base_laws.proofs.NeighborLemmas.{News}
 use Rattle.run_base_laws.proofs.NeighborStepLemmas.{begun_news, pends_news, lets_news, acked_news}
 use Rattle.run_base_laws.proofs.InTurnLemmas as turns
 use Rattle.run_base_laws.proofs.InTurnStepLemmas as drafts
+use Rattle.run_branch_laws.proofs.StillLemmas.{collected, heard_vote}
 use Rattle.link_session.proofs.OnceLemmas.{run_is_new}
 use Rattle.tree_laws.specs.RestLaws.{Rests}
-
--- what a change of edges leaves of each, it leaves of all
-pub collected : {X : Type 0} (f : Edge → X) → ((e : Edge) → f (with_prepare_sent e) ≡ f e) → (es : List Edge) → map f (map with_prepare_sent es) ≡ map f es
-collected f each es = map_after f with_prepare_sent f each es
-
-heard_vote : {X : Type 0} (f : Edge → X) (from : BranchId) (v : Vote) → ((e : Edge) → f (record e { vote = v }) ≡ f e) → (es : List Edge) → map f (map (has_voted from v) es) ≡ map f es
-heard_vote f from v each es = map_after f (has_voted from v) f (λ e. cond_both (answers_first from e) (record e { vote = v }) e (λ y. f y ≡ f e) (λ here. each e) (λ other. refl)) es
 
 -- A branch that rested as the turn began, and now.
 pub record Kept_still (z : Live) (v : Work) (l : Live) (w : Work) : Type 0 where

@@ -36,7 +36,7 @@ use Rattle.run_base_laws.proofs.KindSayLemmas.{OfDecisions, AllSay, one_says, ea
 use Rattle.run_rules.proofs.ListLemmas.{all_append}
 use Rattle.run_base_laws.proofs.NeighborLemmas.{News, reply_is}
 use Rattle.run_base_laws.proofs.NeighborStepLemmas.{begun_news, pends_news, lets_news, acked_news}
-use Rattle.tree_laws.proofs.RestLemmas.{collected}
+use Rattle.run_branch_laws.proofs.StillLemmas.{collected}
 
 -- ---- receivers of Execs
 
