@@ -88,12 +88,12 @@ module _ (b : BranchId) (c : Option BranchId) (p : Place) (input : Input) where
     advised = λ l advice so is. (let old : Served c l = so is in record { busy = old.busy; has = old.has });
     runs = λ k x s t so is. (let old : Served c x.live = so is in record { busy = old.busy; has = old.has });
     opens = λ k x from strength g link opened known so is.
-      (let old : Served c x.live = so is in record { busy = old.busy; has = all_append (Has c) x.live.edges (new_edge from link strength ∷ []) old.has (fresh_edge c from link strength, tt) });
+        (let old : Served c x.live = so is in record { busy = old.busy; has = all_append (Has c) x.live.edges (new_edge from link strength ∷ []) old.has (fresh_edge c from link strength, tt) });
     replies = λ k x weight count a i e answered so is.
-      (let old : Served c x.live = so is in record { busy = old.busy; has = known_edges c x.live.edges i e _ (reply_is x answered.from answered.call i e answered.waits) refl refl old.has });
+        (let old : Served c x.live = so is in record { busy = old.busy; has = known_edges c x.live.edges i e _ (reply_is x answered.from answered.call i e answered.waits) refl refl old.has });
     acts = λ k l below a why known q all.
-      left_by IfMe l a (λ says so is. (let old : Served c l = so is in record { busy = λ working. absurd cc; has = old.has }))
-      (acting_by IfMe (λ x comment b live begins so is. absurd (begins_not k x known.1 live begins so is)) (λ x from v b answers so. voted_so x from v answers so) all why);
+        left_by IfMe l a (λ says so is. (let old : Served c l = so is in record { busy = λ working. absurd cc; has = old.has }))
+        (acting_by IfMe (λ x comment b live begins so is. absurd (begins_not k x known.1 live begins so is)) (λ x from v b answers so. voted_so x from v answers so) all why);
   }
 
   pub served_on : {k : NodeState} {d : TurnDraft} → Step p input k d → News (λ y. y.me ≢ b) p input k → CallsOther k → AllServed k → AllServed d.after

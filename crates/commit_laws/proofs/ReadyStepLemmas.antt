@@ -50,8 +50,8 @@ module _ (all : List Post) where
       opens = λ k x from strength g link opened c so. so;
       replies = λ k x weight count a i e answered so. so;
       acts = λ k l below a why c adds all.
-        left_by Answered l a (λ says so is q above. subst (λ z. Adds (act_turn k l below z).says) says adds l.me q (one_sent is_answer l.me kinds.Ready l.parent q refl above))
-        (acting_by Answered (λ x comment b live begins so is. absurd cc) (λ x from v b answers so. so) all why);
+          left_by Answered l a (λ says so is q above. subst (λ z. Adds (act_turn k l below z).says) says adds l.me q (one_sent is_answer l.me kinds.Ready l.parent q refl above))
+          (acting_by Answered (λ x comment b live begins so is. absurd cc) (λ x from v b answers so. so) all why);
     }
 
     pub answered_on : {k : NodeState} {d : TurnDraft} → Step p input k d → Adds d.says → AllAnswered k → AllAnswered d.after

@@ -53,7 +53,7 @@ module _ (k0 : NodeState) (p : Place) (input : Input) where
     opens = λ k x from strength g link opened roots so. so;
     replies = λ k x weight count a i e answered so. so;
     acts = λ k l below a why roots q all.
-      left_by Got l a (λ says so busy. so (acting_phase why)) (acting_by Got (λ x comment b live begins so busy. begins_got x roots live begins) (λ x from v b answers so. so) all why);
+        left_by Got l a (λ says so busy. so (acting_phase why)) (acting_by Got (λ x comment b live begins so busy. begins_got x roots live begins) (λ x from v b answers so. so) all why);
   }
 
   pub got_on : {k : NodeState} {d : TurnDraft} → Step p input k d → OfRoots k → AllGot k → AllGot d.after

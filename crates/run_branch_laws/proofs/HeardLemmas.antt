@@ -105,8 +105,8 @@ module _ (t : List Event) (c : ℕ) (p : Place) (input : Input) (heard : (from t
       opens = λ k x from strength g link opened known so. all_append (EdgeIs t clock) x.live.edges (new_edge from link strength ∷ []) so (tt, tt);
       replies = λ k x weight count a i e answered so. known_edges clock x.live.edges i e _ (reply_is x answered.from answered.call i e answered.waits) refl refl so;
       acts = λ k l below a why known q all.
-        left_by (AnswersAre t clock) l a (λ says so. so)
-        (acting_by (AnswersAre t clock) (λ x comment b live begins so. asked_down x.edges) (λ x from v b answers so. voted_so x from v (answer_is answers) so) all why);
+          left_by (AnswersAre t clock) l a (λ says so. so)
+          (acting_by (AnswersAre t clock) (λ x comment b live begins so. asked_down x.edges) (λ x from v b answers so. voted_so x from v (answer_is answers) so) all why);
     }
 
   pub answers_on : {k : NodeState} {d : TurnDraft} → Step p input k d → c ≤ k.clock → AllByRecursion (AnswersAre t k.clock) k.lives → AllByRecursion (AnswersAre t d.after.clock) d.after.lives

@@ -92,11 +92,11 @@ module _ (said : List Post) (p : Place) (input : Input) (came_ready : (from to :
     advised = λ l advice so. so;
     runs = λ k x s t so. so;
     opens = λ k x from strength g link opened works so.
-      (let working : x.live.phase ≡ phases.Working = works from x.live.me opened.edge strength opened.came x g opened.live opened.going in
-      all_append (EdgeTold said x.live.me x.live.phase) x.live.edges (new_edge from link strength ∷ []) so (record { ready = λ is. absurd cc; asked = λ other. absurd (other working) }, tt));
+        (let working : x.live.phase ≡ phases.Working = works from x.live.me opened.edge strength opened.came x g opened.live opened.going in
+        all_append (EdgeTold said x.live.me x.live.phase) x.live.edges (new_edge from link strength ∷ []) so (record { ready = λ is. absurd cc; asked = λ other. absurd (other working) }, tt));
     replies = λ k x weight count a i e answered so. known_edges x.live.me x.live.phase x.live.edges i e _ (reply_is x answered.from answered.call i e answered.waits) refl refl so;
     acts = λ k l below a why works q all.
-      left_by Told l a (λ says so. all_weaker _ _ (λ e is. record { ready = is.ready; asked = λ other. is.asked (acting_phase why) }) l.edges so) (acting_told k all why);
+        left_by Told l a (λ says so. all_weaker _ _ (λ e is. record { ready = is.ready; asked = λ other. is.asked (acting_phase why) }) l.edges so) (acting_told k all why);
   }
 
   pub answers_on : {k : NodeState} {d : TurnDraft} → Step p input k d → OpensAtWork k → AllByRecursion Told k.lives → AllByRecursion Told d.after.lives

@@ -37,8 +37,8 @@ module _ (k0 : NodeState) (input : Input) where
       opens = λ k x from strength g link opened c so. so;
       replies = λ k x weight count a i e answered so. so;
       acts = λ k l below a why c q all.
-        left_by Works l a (λ says so working. elim (so working) [ inl still ↦ absurd (acting_phase why still) | inr begins ↦ inr begins ])
-        (acting_by Works (λ x comment b live begins so working. inr (begins_so x begins)) (λ x from v b answers so. so) all why);
+          left_by Works l a (λ says so working. elim (so working) [ inl still ↦ absurd (acting_phase why still) | inr begins ↦ inr begins ])
+          (acting_by Works (λ x comment b live begins so working. inr (begins_so x begins)) (λ x from v b answers so. so) all why);
     }
 
     pub works_on : {k : NodeState} {d : TurnDraft} → Step p input k d → All k → All d.after
