@@ -11,7 +11,7 @@ use Rattle.node_rules.specs.Words.{numbered, set_numbered}
 use Rattle.node_rules.specs.NodeState.{NodeState, TurnDraft, live_at}
 use Rattle.node_rules.specs.Prepare.{voted, has_voted, answers_first, is_awaited}
 use Rattle.node_rules.proofs.Steps as steps
-use Rattle.node_rules.proofs.Steps.{Step, Asked, Collects, vote_kind}
+use Rattle.node_rules.proofs.Steps.{Step, Collects, vote_kind}
 use Rattle.run_rules.proofs.ListLemmas.{all_weaker, all_append, all_map}
 use Rattle.run_base_laws.proofs.NeighborLemmas.{News, reply_is}
 use Rattle.run_base_laws.proofs.NeighborStepLemmas.{news_lasts}
