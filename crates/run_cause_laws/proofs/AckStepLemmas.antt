@@ -128,27 +128,9 @@ module _ (Q : BranchId → BranchId → Type 0) where
           acked_decided s from so r is =
               let old = so r is in
               (old.0, old.1, map_after (λ (c : Kid). c.branch) (acks_kid from) (λ (c : Kid). c.branch) (λ c. cond_both (same c.branch from) (record c { acked = true }) c (λ (x : Kid). x.branch ≡ c.branch) (λ here. refl) (λ other. refl)) s.children ∙ old.2)
-      forgets_on (steps.Acts l site_below acts.Seal why) heard all decided = tt
-      forgets_on (steps.Acts l site_below (acts.SealAndPass i) why) heard all decided = tt
-      forgets_on (steps.Acts l site_below acts.Decide why) heard all decided = tt
       forgets_on (steps.Acts l site_below acts.Rest why) heard all decided = tt
-      forgets_on (steps.Acts l site_below acts.AskDown why) heard all decided = tt
-      forgets_on (steps.Acts l site_below acts.SayReadOnly why) heard all decided = tt
-      forgets_on (steps.Acts l site_below acts.SayReady why) heard all decided = tt
-      forgets_on (steps.Acts l site_below acts.Finish why) heard all decided = tt
-      forgets_on (steps.Acts l site_below acts.Abandon why) heard all decided = tt
       forgets_on (steps.Does {k = k} s from nexts.Forget kept why) heard all decided =
           forgets s (all_found (RowHasAcks Q) kept_row_id k.stored.durable.kept s.me s all kept) (all_found RowDecided kept_row_id k.stored.durable.kept s.me s decided kept) why
-      forgets_on (steps.Does s from (nexts.End d) kept why) heard all decided = tt
-      forgets_on (steps.Does s from (nexts.Meet d mixed) kept why) heard all decided = tt
-      forgets_on (steps.Does s from nexts.Rest kept why) heard all decided = tt
-      forgets_on (steps.Does s from nexts.AckToward kept why) heard all decided = tt
-      forgets_on (steps.Does s from nexts.SayForgotten kept why) heard all decided = tt
-      forgets_on (steps.Does s from nexts.SayAck kept why) heard all decided = tt
-      forgets_on (steps.Makes_record n s r d call (steps.Makes_table x free)) heard all decided = tt
-      forgets_on (steps.Makes_record n s r d call (steps.Makes_link x free)) heard all decided = tt
-      forgets_on (steps.Makes_record n s r d call (steps.Makes_synonym x free)) heard all decided = tt
       forgets_on (steps.Makes_record n s r d call (steps.Sets_recovery on)) heard all decided = tt
-      forgets_on (steps.Gives_up_commit n b (Some l) gives has calls live) heard all decided = tt
       forgets_on (steps.Gives_up_commit n b None gives has calls live) heard all decided = tt
       forgets_on _ heard all decided = tt
