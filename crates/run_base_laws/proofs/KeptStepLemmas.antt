@@ -32,24 +32,13 @@ module _ {R : RedoRecord → Type 0} {P : KeptRow → Type 0} (each : RowCases R
   rows_on (steps.Acts {k = k} l below acts.Seal why) c is all = rows_applied each k.stored (sealed_record k l None) is all
   rows_on (steps.Acts {k = k} l below (acts.SealAndPass i) why) c is all = rows_applied each k.stored (sealed_record k l (Some i)) is all
   rows_on (steps.Acts {k = k} l below acts.Decide why) c is all = rows_applied each k.stored (decided_record k l) is all
-  rows_on (steps.Acts l below acts.Rest why) c is all = all
-  rows_on (steps.Acts l below acts.AskDown why) c is all = all
-  rows_on (steps.Acts l below acts.SayReadOnly why) c is all = all
-  rows_on (steps.Acts l below acts.SayReady why) c is all = all
-  rows_on (steps.Acts l below acts.Finish why) c is all = all
-  rows_on (steps.Acts l below acts.Abandon why) c is all = all
   rows_on (steps.Does {k = k} s from (nexts.End d) kept why) c is all = rows_applied each k.stored (records.Ended s.me d) is all
   rows_on (steps.Does {k = k} s from (nexts.Meet d mixed) kept why) c is all = rows_applied each k.stored (records.Met s.me d mixed) is all
   rows_on (steps.Does {k = k} s from nexts.Forget kept why) c is all = rows_applied each k.stored (records.Forgot s.me) is all
-  rows_on (steps.Does s from nexts.Rest kept why) c is all = all
-  rows_on (steps.Does s from nexts.AckToward kept why) c is all = all
-  rows_on (steps.Does s from nexts.SayForgotten kept why) c is all = all
-  rows_on (steps.Does s from nexts.SayAck kept why) c is all = all
   rows_on (steps.Makes_record {k = k} n s r d call makes) c is all = rows_applied each k.stored r is all
   rows_on (steps.Forces_given {k = k} n id m b call named) c is all = rows_applied each k.stored (records.Forced b (decisions.Commit m) true) is all
   rows_on (steps.Forces_commit {k = k} n id b call named) c is all = rows_applied each k.stored (records.Forced b (decisions.Commit (k.clock + 1)) false) is all
   rows_on (steps.Forces_rollback {k = k} n id b call named) c is all = rows_applied each k.stored (records.Forced b decisions.Rollback false) is all
   rows_on (steps.Hides {k = k} n mixed id s call found) c is all = rows_applied each k.stored (records.Hidden s.me) is all
-  rows_on (steps.Gives_up_commit n b (Some l) gives has calls live) c is all = all
   rows_on (steps.Gives_up_commit n b None gives has calls live) c is all = all
   rows_on _ c is all = all

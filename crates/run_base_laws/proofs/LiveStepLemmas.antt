@@ -83,12 +83,7 @@ pub left_by : (Q : Live → Type 0) (l : Live) (a : Act) → (a ≡ acts.SayRead
 left_by Q l acts.Rest says so = so
 left_by Q l acts.AskDown says so = so
 left_by Q l acts.SayReady says so = says refl so
-left_by Q l acts.SayReadOnly says so = tt
-left_by Q l acts.Seal says so = tt
-left_by Q l (acts.SealAndPass i) says so = tt
-left_by Q l acts.Decide says so = tt
-left_by Q l acts.Finish says so = tt
-left_by Q l acts.Abandon says so = tt
+left_by Q l _ says so = tt
 
 module _ {p : Place} {input : Input} {C : NodeState → Type 0} {D : TurnDraft → Type 0} {Q : Live → Type 0} (each : LiveCases p input C D Q) where
   abbrev All : NodeState → Type 0
@@ -109,12 +104,7 @@ module _ {p : Place} {input : Input} {C : NodeState → Type 0} {D : TurnDraft �
     acts_on l below acts.Rest so = all_with Q live_id k.lives l now so
     acts_on l below acts.AskDown so = all_with Q live_id k.lives l now so
     acts_on l below acts.SayReady so = all_with Q live_id k.lives (ready l) now so
-    acts_on l below acts.SayReadOnly so = all_without Q live_id k.lives l.me now
-    acts_on l below acts.Seal so = all_without Q live_id k.lives l.me now
-    acts_on l below (acts.SealAndPass i) so = all_without Q live_id k.lives l.me now
-    acts_on l below acts.Decide so = all_without Q live_id k.lives l.me now
-    acts_on l below acts.Finish so = all_without Q live_id k.lives l.me now
-    acts_on l below acts.Abandon so = all_without Q live_id k.lives l.me now
+    acts_on l below _ so = all_without Q live_id k.lives l.me now
 
   pub lives_on : {k : NodeState} {d : TurnDraft} → Step p input k d → C k → D d → AllByRecursion Q k.lives → AllByRecursion Q d.after.lives
   lives_on (steps.Begins {k = k} n s call rows range free step) c q now = lives_on step (each.lasts.begun k n s call rows free c) q (all_last Q live_id k.lives _ now (each.root k n s call rows free c))
@@ -133,15 +123,8 @@ module _ {p : Place} {input : Input} {C : NodeState → Type 0} {D : TurnDraft �
   lives_on (steps.Acts {k = k} l below a why) c q now = acts_on k now l below a (each.acts k l below a why c q (λ x live. live_is k now x.me x live))
   lives_on (steps.Drops_told {k = k} l live drops) c q now = all_without Q live_id k.lives l.me now
   lives_on (steps.Drops_asked {k = k} l from live came parent) c q now = all_without Q live_id k.lives l.me now
-  lives_on (steps.Does s from (nexts.End d) kept why) c q now = now
-  lives_on (steps.Does s from (nexts.Meet d mixed) kept why) c q now = now
-  lives_on (steps.Does s from nexts.AckToward kept why) c q now = now
-  lives_on (steps.Does s from nexts.Forget kept why) c q now = now
-  lives_on (steps.Does s from nexts.SayForgotten kept why) c q now = now
-  lives_on (steps.Does s from nexts.SayAck kept why) c q now = now
   lives_on (steps.Does s from nexts.Rest kept why) c q now = now
   lives_on (steps.Rolls_back {k = k} n x call has live) c q now = all_without Q live_id k.lives x.live.me now
   lives_on (steps.Gives_up {k = k} n x gives has calls live) c q now = all_with Q live_id k.lives x.live now (branch_is k now x live)
   lives_on (steps.Gives_up_commit {k = k} n b (Some l) gives has calls live) c q now = all_without Q live_id k.lives l.me now
-  lives_on (steps.Gives_up_commit n b None gives has calls live) c q now = now
   lives_on _ c q now = now

@@ -261,7 +261,6 @@ module _ (B : Born → Type 0) where
         ((names.0, recorded k names (records.Forgot s.me) tt, names.2), tt, each_goes B s.me kinds.Forgotten (map (λ b. b.branch) (beyond s)) (beyond_near B s (kept_is k names s kept)))
     names_on (steps.Does s from nexts.SayForgotten kept (steps.Has_forgotten came knows forgot)) names news = (names, tt, (turned B from s.me (heard from s.me kinds.Ack came), tt))
     names_on (steps.Does s from nexts.SayAck kept (steps.Acks_again n m came toward knows all)) names news = (names, tt, (turned B from s.me (heard from s.me (kinds.Committed m) came), tt))
-    names_on (steps.Does s from nexts.Rest kept why) names news = (names, tt, tt)
     names_on (steps.Makes_record {k = k} m s r d call makes) names news =
         made_so (λ x. NamesAre B (record k { stored = applied k.stored x }) × RecordNames B x × Unit {0}) (λ t. ((names.0, recorded k names (records.Table t) tt, names.2), tt, tt))
         (λ l. ((names.0, recorded k names (records.Link l) tt, names.2), tt, tt)) (λ y. ((names.0, recorded k names (records.Synonym y) tt, names.2), tt, tt))
@@ -274,5 +273,4 @@ module _ (B : Born → Type 0) where
         ((gone k names x.live.me, names.1, names.2), tt, each_goes B x.live.me kinds.Rollback (children_of x.live) (downs B x.live (branch_live k names x live)))
     names_on (steps.Gives_up {k = k} m x gives has calls live) names news = ((changed k names x.live (branch_live k names x live), names.1, names.2), tt, tt)
     names_on (steps.Gives_up_commit {k = k} m b (Some l) gives has calls live) names news = ((gone k names l.me, names.1, names.2), tt, each_goes B l.me kinds.Rollback (children_of l) (downs B l (live_is k names b l live)))
-    names_on (steps.Gives_up_commit m b None gives has calls live) names news = (names, tt, tt)
     names_on _ names news = (names, tt, tt)

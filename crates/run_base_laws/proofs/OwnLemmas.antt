@@ -171,7 +171,6 @@ module _ (n : ℕ) where
     own_on (steps.Rolls_back {k = k} m x call has live) own = ((gone k own x.live.me, own.1, own.2), tt)
     own_on (steps.Gives_up {k = k} m x gives has calls live) own = ((changed k own x.live (x.live, live_so k x.live.me x live), own.1, own.2), tt)
     own_on (steps.Gives_up_commit {k = k} m b (Some l) gives has calls live) own = ((gone k own l.me, own.1, own.2), tt)
-    own_on (steps.Gives_up_commit {k = k} m b None gives has calls live) own = (own, tt)
     own_on _ own = (own, tt)
 
 -- ---- nodes
