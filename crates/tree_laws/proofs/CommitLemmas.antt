@@ -27,12 +27,7 @@ act_other : (k : NodeState) (l : Live) (b : Bool) (a : Act) (c : BranchId) → s
 act_other k l b acts.Rest c other = put_leaves live_id k.lives l c other
 act_other k l b acts.AskDown c other = put_leaves live_id k.lives l c other
 act_other k l b acts.SayReady c other = put_leaves live_id k.lives (ready l) c other
-act_other k l b acts.SayReadOnly c other = drop_leaves live_id k.lives l.me c other
-act_other k l b acts.Seal c other = drop_leaves live_id k.lives l.me c other
-act_other k l b (acts.SealAndPass i) c other = drop_leaves live_id k.lives l.me c other
-act_other k l b acts.Decide c other = drop_leaves live_id k.lives l.me c other
-act_other k l b acts.Finish c other = drop_leaves live_id k.lives l.me c other
-act_other k l b acts.Abandon c other = drop_leaves live_id k.lives l.me c other
+act_other k l b _ c other = drop_leaves live_id k.lives l.me c other
 
 -- a record of this branch
 abbrev pub Ends_record : BranchId → Option RedoRecord → Type 0
@@ -45,12 +40,7 @@ act_record k l b acts.Decide c (inr is) = is
 act_record k l b acts.Seal c (inr is) = absurd is
 act_record k l b (acts.SealAndPass i) c (inr is) = absurd is
 act_record k l b acts.Decide c (inl is) = absurd is
-act_record k l b acts.Rest c is = elim is [ inl never ↦ absurd never | inr never ↦ absurd never ]
-act_record k l b acts.AskDown c is = elim is [ inl never ↦ absurd never | inr never ↦ absurd never ]
-act_record k l b acts.SayReady c is = elim is [ inl never ↦ absurd never | inr never ↦ absurd never ]
-act_record k l b acts.SayReadOnly c is = elim is [ inl never ↦ absurd never | inr never ↦ absurd never ]
-act_record k l b acts.Finish c is = elim is [ inl never ↦ absurd never | inr never ↦ absurd never ]
-act_record k l b acts.Abandon c is = elim is [ inl never ↦ absurd never | inr never ↦ absurd never ]
+act_record k l b _ c is = elim is [ inl never ↦ absurd never | inr never ↦ absurd never ]
 
 module _ (k : NodeState) (n : ℕ) (comment : List ℕ) where
   -- it is the root of the session, and its transaction needs no rollback

@@ -112,12 +112,7 @@ module _ (k0 : NodeState) (said : List Post) where
     acts_leave l site_below acts.Rest is = stays l is
     acts_leave l site_below acts.AskDown is = stays l is
     acts_leave l site_below acts.SayReady is = stays (ready l) (ready_calm l (works_of k.works l.me) is)
-    acts_leave l site_below acts.SayReadOnly is = left l.me
-    acts_leave l site_below acts.Seal is = left l.me
-    acts_leave l site_below (acts.SealAndPass i) is = left l.me
-    acts_leave l site_below acts.Decide is = left l.me
-    acts_leave l site_below acts.Finish is = left l.me
-    acts_leave l site_below acts.Abandon is = left l.me
+    acts_leave l site_below _ is = left l.me
 
   module _ (E : BranchId → Option ℕ) (A : BranchId → Option BranchId) (G Here : BranchId → Type 0) (input : Input) (received : turns.Received E A G Here input said) (p : Place) (place : (b : BranchId) → b.node ≡ p.number → Here b) where
     abbrev Nodes : NodeState → Type 0
@@ -191,12 +186,6 @@ module _ (k0 : NodeState) (said : List Post) where
     calms_on (steps.Drops_told {k = k} l live drops) ss news nodes now = left k now l.me
     calms_on (steps.Drops_asked {k = k} l from live came parent) ss news nodes now = left k now l.me
     calms_on (steps.Does s from nexts.Rest kept why) ss news nodes now = now
-    calms_on (steps.Does s from nexts.AckToward kept why) ss news nodes now = now
-    calms_on (steps.Does s from nexts.SayForgotten kept why) ss news nodes now = now
-    calms_on (steps.Does s from nexts.SayAck kept why) ss news nodes now = now
-    calms_on (steps.Does s from (nexts.End d) kept why) ss news nodes now = now
-    calms_on (steps.Does s from (nexts.Meet d mixed) kept why) ss news nodes now = now
-    calms_on (steps.Does s from nexts.Forget kept why) ss news nodes now = now
     calms_on (steps.Rolls_back {k = k} n x call has live) ss news nodes now = left k now x.live.me
     calms_on (steps.Gives_up {k = k} n x gives has calls live) ss news nodes now =
         put k now x.live x.live (gives_up x).work (work_is k x.live.me x live) (branch_parts k x.live.me x live).0 refl
@@ -204,5 +193,4 @@ module _ (k0 : NodeState) (said : List Post) where
         let above : x.live.parent ≡ Some rests.above = is.parent ∙ rests.is_parent in
         absurd (cc (none, above))))
     calms_on (steps.Gives_up_commit {k = k} n b (Some l) gives has calls live) ss news nodes now = left k now l.me
-    calms_on (steps.Gives_up_commit n b None gives has calls live) ss news nodes now = now
     calms_on _ ss news nodes now = now

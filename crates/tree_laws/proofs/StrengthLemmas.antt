@@ -4,7 +4,7 @@ use Rattle.std.specs.Prelude.{IfSome, option_to_list}
 use Rattle.std.specs.List.{AllByRecursion}
 use Rattle.commit_forget.specs.declared.next.Next.TheVariants as nexts
 use Rattle.redo_record.specs.declared.record.Param.TheVariants as params
-use Rattle.node_rules.specs.Data.{Live, Act, Place, Input, RedoRecord}
+use Rattle.node_rules.specs.Data.{Live, Place, Input, RedoRecord}
 use Rattle.node_rules.specs.Data.acts
 use Rattle.node_rules.specs.Data.records
 use Rattle.node_rules.specs.NodeState.{NodeState, TurnDraft, Stored, live_id}
@@ -12,7 +12,6 @@ use Rattle.node_rules.specs.Records.{nothing_stored, applied, stored_by}
 use Rattle.redo_record.specs.Durable.{durable_after}
 use Rattle.node_rules.specs.Turn.{start_of}
 use Rattle.node_rules.specs.Calls.{strength_of}
-use Rattle.node_rules.specs.Prepare.{act_turn}
 use Rattle.node_rules.proofs.Steps as steps
 use Rattle.node_rules.proofs.Steps.{Step}
 use Rattle.node_rules.proofs.StandLemmas.{live_so}
@@ -51,36 +50,15 @@ wrote_strength s None none = refl
 wrote_strength s (Some r) none = applied_strength s r none
 
 module _ (p : Place) (input : Input) where
-  acts_none : (k : NodeState) (l : Live) (b : _) (a : Act) → IfSome (act_turn k l b a).wrote SetsNone
-  acts_none k l b acts.Rest = tt
-  acts_none k l b acts.AskDown = tt
-  acts_none k l b acts.SayReady = tt
-  acts_none k l b acts.SayReadOnly = tt
-  acts_none k l b acts.Seal = tt
-  acts_none k l b (acts.SealAndPass i) = tt
-  acts_none k l b acts.Decide = tt
-  acts_none k l b acts.Finish = tt
-  acts_none k l b acts.Abandon = tt
-
   -- no step writes a strength
   writes_none : {k : NodeState} {d : TurnDraft} → Step p input k d → IfSome d.wrote SetsNone
   writes_none (steps.Begins n s call rows range none step) = writes_none step
   writes_none (steps.Pends n l given call has live code step) = writes_none step
   writes_none (steps.Lets_reads_go l comment b live begins step) = writes_none step
   writes_none (steps.Counts_ack s from kept came counts step) = writes_none step
-  writes_none (steps.Acts {k = k} l b a why) = acts_none k l b a
-  writes_none (steps.Does s from (nexts.End d) kept why) = tt
-  writes_none (steps.Does s from (nexts.Meet d mixed) kept why) = tt
-  writes_none (steps.Does s from nexts.AckToward kept why) = tt
-  writes_none (steps.Does s from nexts.Forget kept why) = tt
-  writes_none (steps.Does s from nexts.SayForgotten kept why) = tt
-  writes_none (steps.Does s from nexts.SayAck kept why) = tt
+  writes_none (steps.Acts l b acts.Rest why) = tt
   writes_none (steps.Does s from nexts.Rest kept why) = tt
-  writes_none (steps.Makes_record n s r d call (steps.Makes_table t free)) = tt
-  writes_none (steps.Makes_record n s r d call (steps.Makes_link l free)) = tt
-  writes_none (steps.Makes_record n s r d call (steps.Makes_synonym y free)) = tt
   writes_none (steps.Makes_record n s r d call (steps.Sets_recovery on)) = tt
-  writes_none (steps.Gives_up_commit n b (Some l) gives has calls live) = tt
   writes_none (steps.Gives_up_commit n b None gives has calls live) = tt
   writes_none _ = tt
 
