@@ -1,5 +1,5 @@
 -- In the run of a script the COMMIT before a CREATE leaves no line but a refusal: where it is complete, the CREATE comes.
-use Rattle.std.proofs.Common.{◌≡◌, ℕ, zero, suc, ◌+◌, ◌-◌, ◌<◌, ◌≤◌, Bool, true, false, if◌then◌else◌, List, [], ◌∷◌, find, length, slice_get, IfSome, Option, Some, None, inl, inr, refl, sym, ap, subst, ◌∙◌, arith}
+use Rattle.std.proofs.Common.{◌≡◌, ℕ, ◌+◌, ◌<◌, ◌≤◌, Bool, true, false, if◌then◌else◌, List, [], ◌∷◌, find, slice_get, IfSome, Option, Some, None, inl, inr, refl, sym, ap, subst, ◌∙◌, arith}
 use Rattle.node_rules.specs.Data.{Answer, Input, Phase, Stmt}
 use Rattle.node_rules.specs.declared.work.Going.{Going}
 use Rattle.node_rules.specs.Data.inputs
@@ -11,34 +11,31 @@ use Rattle.node_rules.specs.Sessions.{session_at}
 use Rattle.node_rules.specs.Turn.{turn_of, heard}
 use Rattle.run_base_laws.specs.CallLaws.{RootWaits}
 use Rattle.run_rules.specs.Calls.{is_call_at, call_at, is_complete, second_of, finished}
-use Rattle.run_rules.specs.Data.{Happening, Turn}
+use Rattle.run_rules.specs.Data.{Turn}
 use Rattle.run_rules.specs.Data.happenings
-use Rattle.run_rules.specs.Facts.{Facts, node_at, outcome_at, place_at, kept_after, served, facts_after}
+use Rattle.run_rules.specs.Facts.{node_at, outcome_at, place_at, served}
 use Rattle.run_rules.specs.Scripts.{IsTheRunOf}
 use Rattle.run_rules.specs.Lawful.{History, MayTurn}
 use Rattle.run_rules.specs.Past.{ends_calls, report_turned, next}
 use Rattle.run_claims.specs.Places.{past_upto}
 use Rattle.run_rules.specs.Runs.{is_accepted}
 use Rattle.run_rules.specs.RunReport.{Call, Past, RunReport}
-use Rattle.run_rules.proofs.AtNodeLemmas.{turn_elsewhere, stop_elsewhere, start_elsewhere, turn_here, stop_here}
-use Rattle.run_rules.proofs.FactLemmas.{facts_next}
 use Rattle.run_base_laws.proofs.LawfulLemmas.{serves}
 use Rattle.run_base_laws.proofs.RestLemmas.{Before, branch_root}
 use Rattle.run_base_laws.proofs.RestRunLemmas.{NodeRests, before_so}
-use Rattle.run_base_laws.proofs.TurnEventLemmas.{cases_nat}
-use Rattle.run_ready_laws.proofs.PendingLemmas.{called_at, there_called}
 use Rattle.answer_origin_laws.specs.CallTurns.{CameBefore}
 use Rattle.answer_origin_laws.proofs.CallAtLemmas.{AreShaped}
 use Rattle.answer_origin_laws.proofs.CallTurnLemmas.{all_so}
 use Rattle.answer_origin_laws.proofs.ComeLemmas.{CallsSo, below_or, input_same, before_end, before_so as page_before}
 use Rattle.answer_origin_laws.proofs.SameToldLemmas.{ToldBefore}
-use Rattle.answer_origin_laws.proofs.UptoLemmas.{StandsAt, one_more, none_more, facts_there, stand_at, may_at}
+use Rattle.answer_origin_laws.proofs.UptoLemmas.{StandsAt, one_more, facts_there, stand_at, may_at}
 use Rattle.answer_origin_laws.specs.ToldLaws.{EndedBy}
 use Rattle.answer_done_laws.specs.DoneLaws.{answers_to}
 use Rattle.answer_done_laws.proofs.AtOnceLemmas.{answer_among, one_answer}
 use Rattle.answer_done_laws.proofs.CallDoneLemmas.{after_answer, answered_call}
 use Rattle.answer_done_laws.proofs.CommitStepLemmas.{EndsCommit, CommitSo, Commits, commit_on, commit_comes}
 use Rattle.answer_done_laws.proofs.LineStayLemmas.{Has}
+use Rattle.answer_done_laws.proofs.WhilePendingLemmas.{WholeTurn, at_first, holds_while_pending}
 
 -- ---- a node
 
@@ -113,111 +110,34 @@ module _ (t : History) (run : IsTheRunOf t) where
           absurd (cc (none, is))
 
   module _ (bound n s : ℕ) (c : Call) (came : CameBefore t bound n s c) (given : Option (List ℕ)) (own : c.statement ≡ Some (stmts.Commit given)) where
-    abbrev Pends : ℕ → Type 0
-    Pends j = (k : NodeState) → node_at (past_upto t j).facts n ≡ Some k → (session_at k.sessions s).call ≡ pending.Commit
+    abbrev Pends_in : NodeState → Type 0
+    Pends_in k = (session_at k.sessions s).call ≡ pending.Commit
 
     -- what a turn does about it
-    turn_does : (j : ℕ) → came.moment ≤ j → j < bound → (u : Turn) → slice_get t.trace j ≡ Some (happenings.Turn u) → u.node ≡ n → (k : NodeState) → MayTurn t.places (past_upto t j).facts u k → (came.moment < j → Pends j)
+    turn_does : (j : ℕ) → came.moment ≤ j → j < bound → (u : Turn) → slice_get t.trace j ≡ Some (happenings.Turn u) → u.node ≡ n → (k : NodeState) → MayTurn t.places (past_upto t j).facts u k → (came.moment < j → Pends_in k)
         → CommitSo s (turn_of (place_at t.places u.node) k u.input).after.sessions (turn_of (place_at t.places u.node) k u.input).ended
     turn_does j from below u there here k may pends = elim (below_or came.moment j (omega (arith, from))) [
-      | inl later ↦ turn_so j u there k may s (λ st call. came.last j later below u there here st call) (pends later k (ap (node_at (past_upto t j).facts) (sym here) ∙ may.up))
+      | inl later ↦ turn_so j u there k may s (λ st call. came.last j later below u there here st call) (pends later)
       | inr now ↦ (let it : Some (happenings.Turn came.turn.turn) ≡ Some (happenings.Turn u) = sym came.turn.there ∙ (ap (slice_get t.trace) now ∙ there) in
           let same : came.turn.turn ≡ u = cc in
           comes_so j u there k s given (ap (λ (x : Turn). x.input) (sym same) ∙ (came.turn.came ∙ ap (inputs.Call s) own)))
     ]
 
-    module _ (j : ℕ) (from : came.moment ≤ j) (below : j + 1 < bound) (pends : came.moment < j → Pends j) where
-      abbrev p : Past
-      p = past_upto t j
+    -- a turn that answers it leaves no such call
+    still_pends : (j : ℕ) → came.moment ≤ j → j + 1 < bound → (u : Turn) (k : NodeState) → WholeTurn t n j u k → (came.moment < j → Pends_in k) → Pends_in (turn_of (place_at t.places u.node) k u.input).after
+    still_pends j from below u k turn pends = elim (turn_does j from (omega (arith, below)) u turn.there turn.here k turn.may pends) [
+      | inl still ↦ still.1
+      | inr answered ↦ (let o : TurnOutput = turn_of (place_at t.places u.node) k u.input in
+          let comes : outcome_at t.places (past_upto t j).facts u ≡ Some o = ap (served (place_at t.places u.node) u.input) turn.may.up in
+          let at : call_at (past_upto t j).run_report u.node s ≡ Some c = ap (λ m. call_at (past_upto t j).run_report m s) turn.here ∙ came.stays j from (omega (arith, below)) in
+          let left = answered_after j u turn.there turn.uncut o comes s c at answered.0 answered.1 in
+          absurd (changed c answered.0 c.follows refl (sym left ∙ (ap (λ m. call_at (past_upto t (j + 1)).run_report m s) turn.here ∙ came.stays (j + 1) (omega (arith, from)) below))))
+    ]
 
-      even : length p.facts.nodes ≡ length p.facts.records
-      even = (stand_at t run j).born.0.0.even
-
-      pending_here : call_at p.run_report n s ≡ Some c
-      pending_here = came.stays j from (omega (arith, below))
-
-      pending_next : call_at (past_upto t (j + 1)).run_report n s ≡ Some c
-      pending_next = came.stays (j + 1) (omega (arith, from)) below
-
-      -- only its own turn is that of the moment
-      later_than : (h : Happening) → slice_get t.trace j ≡ Some h → ((u : Turn) → h ≡ happenings.Turn u → u.node ≡ n → ⊥) → came.moment < j
-      later_than h there none = elim (below_or came.moment j (omega (arith, from))) [
-        | inl later ↦ later
-        | inr now ↦ absurd (none came.turn.turn (let it : Some h ≡ Some (happenings.Turn came.turn.turn) = sym there ∙ (ap (slice_get t.trace) (sym now) ∙ came.turn.there) in let same : h ≡ happenings.Turn came.turn.turn = cc in same) came.turn.here)
-      ]
-
-      turn_pends : (u : Turn) → slice_get t.trace j ≡ Some (happenings.Turn u) → (k : NodeState) → node_at (facts_after t.places t.commands p.facts (happenings.Turn u)) n ≡ Some k → (session_at k.sessions s).call ≡ pending.Commit
-      turn_pends u there k up = elim (cases_nat u.node n) [
-        | inr other ↦ (let same = (turn_elsewhere t.places t.commands p.facts even u n other).0 in
-            pends (later_than (happenings.Turn u) there (λ v is here. (let it : u ≡ v = cc in absurd (other (ap (λ (x : Turn). x.node) it ∙ here))))) k (sym same ∙ up))
-        | inl here ↦ by_cut here u.cut refl
-      ]
-        where
-          may : (k : NodeState) × MayTurn t.places p.facts u k
-          may = may_at t run j (happenings.Turn u) there
-
-          after : (here : u.node ≡ n) → kept_after u.cut (Some (turn_of (place_at t.places u.node) may.0 u.input)) ≡ Some k
-          after here = sym (turn_here t.places t.commands p.facts even u may.0 may.1.up).0 ∙ (ap (node_at (facts_after t.places t.commands p.facts (happenings.Turn u))) here ∙ up)
-
-          by_cut : u.node ≡ n → (q : Bool) → u.cut ≡ q → (session_at k.sessions s).call ≡ pending.Commit
-          by_cut here true cut = absurd (let it : None ≡ Some k = sym (ap (λ q. kept_after q (Some (turn_of (place_at t.places u.node) may.0 u.input))) cut) ∙ after here in cc)
-          by_cut here false uncut =
-              let o : TurnOutput = turn_of (place_at t.places u.node) may.0 u.input in
-              let it : Some o.after ≡ Some k = sym (ap (λ q. kept_after q (Some o)) uncut) ∙ after here in
-              let kept : o.after ≡ k = cc in
-              elim (turn_does j from (omega (arith, below)) u there here may.0 may.1 pends) [
-                | inl still ↦ ap (λ (x : NodeState). (session_at x.sessions s).call) (sym kept) ∙ still.1
-                | inr answered ↦ (let comes : outcome_at t.places p.facts u ≡ Some o = ap (served (place_at t.places u.node) u.input) may.1.up in
-                    let left = answered_after j u there uncut o comes s c (ap (λ m. call_at p.run_report m s) here ∙ pending_here) answered.0 answered.1 in
-                    absurd (changed c answered.0 c.follows refl (sym left ∙ (ap (λ m. call_at (past_upto t (j + 1)).run_report m s) here ∙ pending_next))))
-              ]
-
-      other_pends : (h : Happening) → slice_get t.trace j ≡ Some h → ((u : Turn) → h ≡ happenings.Turn u → ⊥) → (k : NodeState) → node_at p.facts n ≡ Some k → (session_at k.sessions s).call ≡ pending.Commit
-      other_pends h there none k up = pends (later_than h there (λ u is here. none u is)) k up
-
-      happens : (h : Happening) → slice_get t.trace j ≡ Some h → (k : NodeState) → node_at (facts_after t.places t.commands p.facts h) n ≡ Some k → (session_at k.sessions s).call ≡ pending.Commit
-      unfolding facts_after
-      happens (happenings.Turn u) there k up = turn_pends u there k up
-      happens (happenings.Stopped m) there k up = elim (cases_nat m n) [
-        | inr other ↦ other_pends (happenings.Stopped m) there (λ u is. absurd cc) k (sym (stop_elsewhere t.places t.commands p.facts even m n other).0 ∙ up)
-        | inl here ↦ (let may = may_at t run j (happenings.Stopped m) there in
-            let many = (stand_at t run j).so.many in
-            let gone : node_at (facts_after t.places t.commands p.facts (happenings.Stopped m)) m ≡ None = (stop_here t.places t.commands p.facts even m may.0.0 (omega (arith, may.0.1, many))).0 in
-            let none : node_at (facts_after t.places t.commands p.facts (happenings.Stopped m)) n ≡ None = subst (λ i. node_at (facts_after t.places t.commands p.facts (happenings.Stopped m)) i ≡ None) here gone in
-            absurd (cc (none, up)))
-      ]
-      happens (happenings.Started m boot) there k up = elim (cases_nat m n) [
-        | inr other ↦ other_pends (happenings.Started m boot) there (λ u is. absurd cc) k (sym (start_elsewhere t.places t.commands p.facts even m boot n other).0 ∙ up)
-        | inl here ↦ (let may = may_at t run j (happenings.Started m boot) there in
-            let down : node_at p.facts n ≡ None = subst (λ i. node_at p.facts i ≡ None) here may.down in
-            let none : called_at p.run_report.calls n s ≡ false = (stand_at t run j).so.calls.down n down (λ stop. (let upright = may.settled.upright in absurd (cc (stop, upright)))) s in
-            let some : called_at p.run_report.calls n s ≡ true = there_called n s p.run_report.calls c pending_here in
-            absurd (cc (none, some)))
-      ]
-      happens (happenings.Begun m) there k up = other_pends (happenings.Begun m) there (λ u is. absurd cc) k up
-      happens (happenings.Cut a b) there k up = other_pends (happenings.Cut a b) there (λ u is. absurd cc) k up
-      happens (happenings.Join a b) there k up = other_pends (happenings.Join a b) there (λ u is. absurd cc) k up
-      happens (happenings.Lost x) there k up = other_pends (happenings.Lost x) there (λ u is. absurd cc) k up
-
-      pends_next : Pends (j + 1)
-      pends_next k up = by (slice_get t.trace j) refl
-        where
-          by : (o : Option Happening) → slice_get t.trace j ≡ o → (session_at k.sessions s).call ≡ pending.Commit
-          by None none =
-              let later : came.moment < j = elim (below_or came.moment j (omega (arith, from))) [ inl low ↦ low | inr now ↦ (let there = ap (slice_get t.trace) (sym now) ∙ came.turn.there in absurd (cc (none, there))) ] in
-              pends later k (ap (λ (q : Past). node_at q.facts n) (sym (none_more t j none)) ∙ up)
-          by (Some h) there = happens h there k (ap (λ (f : Facts). node_at f n) (sym (ap (λ (q : Past). q.facts) (one_more t j h there) ∙ facts_next t.places t.commands (past_upto t j) h)) ∙ up)
-
-    pends_all : (d : ℕ) → came.moment + d < bound → came.moment < came.moment + d → Pends (came.moment + d)
-    pends_all zero below later = absurd (omega (arith, later))
-    pends_all (suc d) below later =
-        let one : (came.moment + d) + 1 ≡ came.moment + suc d = omega arith in
-        subst Pends one (pends_next (came.moment + d) (omega arith) (omega (arith, below)) (λ more. pends_all d (omega (arith, below)) more))
-
-    pub pends_at : (j : ℕ) → came.moment < j → j < bound → Pends j
-    pends_at j later below =
-        let sum : came.moment + (j - came.moment) ≡ j = omega (arith, later) in
-        subst Pends sum (pends_all (j - came.moment) (subst (λ x. x < bound) (sym sum) below) (subst (λ x. came.moment < x) (sym sum) later))
+    pub pends_at : (j : ℕ) → came.moment < j → j < bound → (k : NodeState) → node_at (past_upto t j).facts n ≡ Some k → (session_at k.sessions s).call ≡ pending.Commit
+    pends_at = holds_while_pending t run bound n s c came Pends_in
+        (λ below turn. still_pends came.moment (omega arith) below came.turn.turn (at_first t run bound n s c came).0 turn (λ low. absurd (omega (arith, low))))
+        (λ j low below u k turn pends. still_pends j (omega (arith, low)) below u k turn (λ later. pends))
 
   -- ---- the line of a CREATE is no answer to its COMMIT
 
@@ -225,7 +145,7 @@ module _ (t : History) (run : IsTheRunOf t) where
       → is_accepted (Some a) ≡ true → ⊥
   commit_refused command a e came st own follows accepted =
       elim (turn_does (e.ended + 1) e.turn.node e.session e.call came None own e.ended (omega (arith, came.before)) (omega arith) e.turn e.there refl may.0 may.1
-      (λ later. pends_at (e.ended + 1) e.turn.node e.session e.call came None own e.ended later (omega arith))) [
+      (λ later. pends_at (e.ended + 1) e.turn.node e.session e.call came None own e.ended later (omega arith) may.0 may.1.up)) [
         | inl still ↦ none_there (subst (λ xs. Has xs a) still.0 among)
         | inr answered ↦ (let same : answered.0 ≡ a = one_answer _ answered.0 a answered.1 among in
             let left = answered_after e.ended e.turn e.there e.uncut (turn_of (place_at t.places e.turn.node) may.0 e.turn.input) comes e.session e.call e.pending answered.0 answered.1 in

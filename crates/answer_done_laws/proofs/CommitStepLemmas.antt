@@ -135,15 +135,10 @@ module _ (m : ℕ) (ss : List Session) (commits : (session_at ss m).call ≡ pen
 
 -- an act of the prepare phase
 act_so : (m : ℕ) (k : NodeState) (l : Live) (site_below : Bool) (a : Act) → (session_at k.sessions m).call ≡ pending.Commit → CommitSo m (act_turn k l site_below a).after.sessions (act_turn k l site_below a).ended
-act_so m k l site_below acts.Rest commits = same_so m k.sessions commits
-act_so m k l site_below acts.AskDown commits = same_so m k.sessions commits
-act_so m k l site_below acts.SayReadOnly commits = same_so m k.sessions commits
-act_so m k l site_below acts.SayReady commits = same_so m k.sessions commits
-act_so m k l site_below acts.Seal commits = same_so m k.sessions commits
-act_so m k l site_below (acts.SealAndPass i) commits = same_so m k.sessions commits
 act_so m k l site_below acts.Decide commits = alone_so m k.sessions commits (is_alone l) l.me _ (inl refl)
 act_so m k l site_below acts.Finish commits = commit_so m k.sessions commits l.me _ (inl refl)
 act_so m k l site_below acts.Abandon commits = abandoned_so m k.sessions commits l l.parent
+act_so m k l site_below _ commits = same_so m k.sessions commits
 
 -- ---- steps
 
@@ -200,8 +195,6 @@ module _ (m : ℕ) (p : Place) (input : Input) (other : (s : Option Stmt) → in
       })
   commit_on (steps.Lets_reads_go l comment site_below live begins step) now = commit_on step (record { commits = now.commits; roots = now.roots; below = now.below; rests = now.rests })
   commit_on (steps.Counts_ack s from kept came counts step) now = commit_on step (record { commits = now.commits; roots = now.roots; below = now.below; rests = now.rests })
-  commit_on (steps.Rests {k = k}) now = same_so m k.sessions now.commits
-  commit_on (steps.Sends {k = k} says why) now = same_so m k.sessions now.commits
   commit_on (steps.Runs {k = k} x s given t asked way) now = let l : Live = after_run x.live (ran p k x.live.me s t) in answered_so m k.sessions now.commits l _ x.live.parent (asked_other now asked)
   commit_on (steps.Goes_nowhere {k = k} x s given r asked way) now = answered_so m k.sessions now.commits x.live _ x.live.parent (asked_other now asked)
   commit_on (steps.Calls {k = k} x s given i table asked way) now = going_so m k.sessions now.commits x.live (asked_other now asked)
@@ -214,17 +207,10 @@ module _ (m : ℕ) (p : Place) (input : Input) (other : (s : Option Stmt) → in
       let g = going_of x answered.from answered.call i e answered.waits in
       answered_so m (heard_sessions k.sessions y.live a) (heard_so m k.sessions now.commits y.live a) y.live (heard_answer y.live e.link a) x.live.parent
       (waits_other x g.0 now (came_no_call answered.from x.live.me (kinds.Reply answered.call weight count a) answered.came) answered.live g.1)
-  commit_on (steps.Opens_branch {k = k} to parent edge root depth came new) now = same_so m k.sessions now.commits
   commit_on (steps.Acts {k = k} l site_below a why) now = act_so m k l site_below a now.commits
-  commit_on (steps.Drops_told {k = k} l live drops) now = same_so m k.sessions now.commits
-  commit_on (steps.Drops_asked {k = k} l from live came parent) now = same_so m k.sessions now.commits
   commit_on (steps.Does {k = k} s from (nexts.End d) kept why) now = decision_so m k.sessions now.commits s.me d
   commit_on (steps.Does {k = k} s from (nexts.Meet d mixed) kept why) now = decision_so m k.sessions now.commits s.me d
   commit_on (steps.Does {k = k} s from nexts.Forget kept why) now = commit_so m k.sessions now.commits s.me _ (inl refl)
-  commit_on (steps.Does {k = k} s from nexts.Rest kept why) now = same_so m k.sessions now.commits
-  commit_on (steps.Does {k = k} s from nexts.AckToward kept why) now = same_so m k.sessions now.commits
-  commit_on (steps.Does {k = k} s from nexts.SayForgotten kept why) now = same_so m k.sessions now.commits
-  commit_on (steps.Does {k = k} s from nexts.SayAck kept why) now = same_so m k.sessions now.commits
   commit_on (steps.Refuses {k = k} n s r call) now = ended_so m k.sessions now.commits k.sessions n _ now.commits (not_mine n s call)
   commit_on (steps.Completes_at_once {k = k} n s d call completes none) now = ended_so m k.sessions now.commits k.sessions n _ now.commits (not_mine n (Some s) call)
   commit_on (steps.Makes_record {k = k} n s r d call makes) now = ended_so m k.sessions now.commits k.sessions n _ now.commits (not_mine n (Some s) call)
@@ -245,6 +231,7 @@ module _ (m : ℕ) (p : Place) (input : Input) (other : (s : Option Stmt) → in
       ended_so m k.sessions now.commits (needs_rollback zs n (dtx 3 []).code) n _ (kept_call m zs free n (record (session_at zs n) { code = Some (dtx 3 []).code }) refl) mine
   commit_on (steps.Gives_up_commit {k = k} n b (Some l) gives has calls live) now = commit_so m k.sessions now.commits l.me _ (inr (_, refl))
   commit_on (steps.Gives_up_commit {k = k} n b None gives has calls live) now = commit_so m k.sessions now.commits b _ (inr (_, refl))
+  commit_on {k = k} _ now = same_so m k.sessions now.commits
 
 -- ---- COMMIT comes
 

@@ -137,25 +137,14 @@ module _ (p : Place) (input : Input) where
   called (steps.Acts l site_below acts.Seal why) = λ one. absurd (true≢false (sym one))
   called (steps.Acts l site_below (acts.SealAndPass i) why) = λ one. absurd (true≢false (sym one))
   called (steps.Acts l site_below acts.Decide why) = λ one. absurd (true≢false (sym one))
-  called (steps.Acts l site_below acts.Rest why) = tt
-  called (steps.Acts l site_below acts.AskDown why) = tt
-  called (steps.Acts l site_below acts.SayReadOnly why) = tt
-  called (steps.Acts l site_below acts.SayReady why) = tt
-  called (steps.Acts l site_below acts.Finish why) = tt
-  called (steps.Acts l site_below acts.Abandon why) = tt
   called (steps.Does s from (nexts.End d) kept why) = λ one. absurd (true≢false (sym one))
   called (steps.Does s from (nexts.Meet d mixed) kept why) = λ one. absurd (true≢false (sym one))
   called (steps.Does s from nexts.Forget kept why) = λ one. absurd (true≢false (sym one))
-  called (steps.Does s from nexts.Rest kept why) = tt
-  called (steps.Does s from nexts.AckToward kept why) = tt
-  called (steps.Does s from nexts.SayForgotten kept why) = tt
-  called (steps.Does s from nexts.SayAck kept why) = tt
   called (steps.Makes_record n s r d call makes) = made_called n call makes
   called (steps.Forces_given n id m b call named) = λ one. (n, stmts.CommitForce id (Some m), call, refl)
   called (steps.Forces_commit n id b call named) = λ one. (n, stmts.CommitForce id None, call, refl)
   called (steps.Forces_rollback n id b call named) = λ one. (n, stmts.RollbackForce id, call, refl)
   called (steps.Hides n mixed id s call found) = λ one. purge_called n mixed id call
-  called (steps.Gives_up_commit n b (Some l) gives has calls live) = tt
   called (steps.Gives_up_commit n b None gives has calls live) = tt
   called _ = tt
 

@@ -5,6 +5,7 @@ pub mod CallDoneLemmas
 pub mod LineRunLemmas
 pub mod AtOnceLemmas
 pub mod CommitStepLemmas
+pub mod WhilePendingLemmas
 pub mod CommitEndLemmas
 pub mod ReportedDoneLemmas
 mod TriedDoneLemmas

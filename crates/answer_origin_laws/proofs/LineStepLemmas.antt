@@ -161,20 +161,10 @@ module _ (E : BranchId → Option ℕ) (A : BranchId → Option BranchId) (G Her
       lines_on (steps.Does {k = k} s from nexts.Forget kept why) granted ss news cat now lines = calm k now lines _ (each_says IsCalm s.me kinds.Forgotten (map (λ b. b.branch) (beyond s)) refl)
       lines_on (steps.Does {k = k} s from nexts.SayForgotten kept why) granted ss news cat now lines = calm k now lines _ (refl, tt)
       lines_on (steps.Does {k = k} s from nexts.SayAck kept why) granted ss news cat now lines = calm k now lines _ (refl, tt)
-      lines_on (steps.Does {k = k} s from nexts.Rest kept why) granted ss news cat now lines = calm k now lines [] tt
       lines_on (steps.Rolls_back {k = k} n x call has live) granted ss news cat now lines = left k now lines _ (rolls x.live) x.live.me
       lines_on (steps.Gives_up {k = k} n x gives has calls live) granted ss news cat now lines =
           let refused : G x.live.me → ⊥ = λ goes. given_code k.sessions n _ x.live.me has (subst (λ m. (session_at (needs_rollback (with_call k.sessions n pending.NoCall) n (dtx 3 []).code) m).code ≡ None) (ss.roots.each n x.live.me has) (granted.sees x.live.me goes)) in
           let none : x.live.parent ≡ None = root_alone k ss n x.live.me has x.live (live_so k x.live.me x live) in
           (base.put E A G Here input said received p D Given Called known k now lines [] x.live (gives_up x).work (work_is k x.live.me x live) (λ b other. tt) (record { leads = (base.branch_line E A G Here input said received p D Given Called known k now lines x live).leads; opens = λ goes. absurd (refused (goes none)); waits = λ g some. absurd cc }), tt)
       lines_on (steps.Gives_up_commit {k = k} n b (Some l) gives has calls live) granted ss news cat now lines = left k now lines _ (rolls l) l.me
-      lines_on (steps.Gives_up_commit {k = k} n b None gives has calls live) granted ss news cat now lines = calm k now lines [] tt
-      lines_on (steps.Rests {k = k}) granted ss news cat now lines = calm k now lines [] tt
-      lines_on (steps.Refuses {k = k} n s r is) granted ss news cat now lines = calm k now lines [] tt
-      lines_on (steps.Completes_at_once {k = k} n s d call completes none) granted ss news cat now lines = calm k now lines [] tt
-      lines_on (steps.Makes_record {k = k} n s r d call makes) granted ss news cat now lines = calm k now lines [] tt
-      lines_on (steps.Forces_given {k = k} n id m b call named) granted ss news cat now lines = calm k now lines [] tt
-      lines_on (steps.Forces_commit {k = k} n id b call named) granted ss news cat now lines = calm k now lines [] tt
-      lines_on (steps.Forces_rollback {k = k} n id b call named) granted ss news cat now lines = calm k now lines [] tt
-      lines_on (steps.Hides {k = k} n mixed id s call found) granted ss news cat now lines = calm k now lines [] tt
-      lines_on (steps.Advises {k = k} n a call) granted ss news cat now lines = calm k now lines [] tt
+      lines_on {k = k} _ granted ss news cat now lines = calm k now lines [] tt

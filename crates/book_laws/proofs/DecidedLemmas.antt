@@ -1,5 +1,5 @@
 -- A transaction is decided: its site's changes are told at once, and its open branches wait with theirs from now on.
-use Rattle.std.proofs.Common.{◌≡◌, ℕ, ◌==◌, ◌||◌, ◌&&◌, Bool, true, false, true≢false, if◌then◌else◌, List, [], ◌∷◌, ◌++◌, Some, inl, inr, refl, sym, ap, subst, ◌∙◌, append-nil, append_assoc}
+use Rattle.std.proofs.Common.{◌≡◌, ℕ, ◌==◌, ◌||◌, ◌&&◌, Bool, true, false, true≢false, if◌then◌else◌, List, [], ◌++◌, Some, inl, inr, refl, sym, ap, subst, ◌∙◌, append-nil, append_assoc}
 use Rattle.std.specs.Prelude.{◌⊎◌}
 use Rattle.std.proofs.lemmas.Bool.{and_parts, eqb-true, eq-eqb}
 use Rattle.tran_ids.proofs.BranchLemmas.{equal_from_same, same_from_equal}
@@ -13,10 +13,10 @@ use Rattle.run_rules.specs.Book.{is_decided_of, is_end_of, stands, is_decision_o
 use Rattle.run_base_laws.proofs.RowEventLemmas.{same_turned}
 use Rattle.book_laws.proofs.PlaceLemmas.{IsOne, finds}
 use Rattle.book_laws.proofs.FlatLemmas.{same_flat, none_flat, filter_flat, none_if, any_same, any_now, none_passes, one_of_more, flat_last}
-use Rattle.book_laws.proofs.CountLemmas.{picked, picked_if, part, total, committed_by, StaysBefore, picked_same, commits_more}
+use Rattle.book_laws.proofs.CountLemmas.{picked_if, part, total, StaysBefore, picked_same, commits_more}
 use Rattle.book_laws.proofs.OpenLemmas.{is_open, counted, counted_or, counted_is, open_parts, not_forced, same_open, same_counted, none_later, SealsFit}
 use Rattle.book_laws.proofs.ApartLemmas.{IsFree, free_branch}
-use Rattle.book_laws.proofs.TellLemmas.{either_order, waiting, Tells, told_next, same_commits}
+use Rattle.book_laws.proofs.TellLemmas.{at_entry, either_order, waiting, Tells, told_next, same_commits}
 
 and_true : (q r : Bool) → r ≡ true → (q && r) ≡ q
 and_true true r is = is
@@ -28,17 +28,7 @@ or_last false q some none = absurd (true≢false (sym some ∙ none))
 
 module _ (n : ℕ) (table : List ℕ) (key : Value) (book : List Entry) (c g : BranchId) (ds : List Change) (s : ℕ) (fits : SealsFit book) (follows : Follows book (entries.Decided c g ds s))
     (free : IsFree n table key book (entries.Decided c g ds s)) (now : Tells n table key book) where
-  abbrev e : Entry
-  e = entries.Decided c g ds s
-
-  abbrev more : List Entry
-  more = book ++ e ∷ []
-
-  abbrev at_key : List Change → List Change
-  at_key cs = picked n table key cs
-
-  abbrev commits : (BranchId → Bool) → List Entry → List Change
-  commits counts bk = committed_by n table key counts bk
+  open at_entry n table key book (entries.Decided c g ds s) use {e, more, at_key, commits}
 
   -- ---- what the entry commits
 

@@ -1,5 +1,5 @@
 -- A branch ends: with a commit its changes are told behind all others, as it waited to; with a rollback it waited for nothing.
-use Rattle.std.proofs.Common.{◌≡◌, ℕ, ◌==◌, ◌||◌, Bool, true, false, true≢false, if◌then◌else◌, List, [], ◌∷◌, ◌++◌, inl, inr, refl, sym, ap, subst, ◌∙◌, append-nil}
+use Rattle.std.proofs.Common.{◌≡◌, ℕ, ◌==◌, ◌||◌, Bool, true, false, true≢false, if◌then◌else◌, List, [], ◌++◌, inl, inr, refl, sym, ap, subst, ◌∙◌, append-nil}
 use Rattle.std.specs.Prelude.{◌⊎◌}
 use Rattle.std.proofs.lemmas.Bool.{or_right, eqb-true, eq-eqb}
 use Rattle.tran_ids.proofs.BranchLemmas.{equal_from_same}
@@ -12,24 +12,14 @@ use Rattle.run_rules.specs.Data.entries
 use Rattle.run_rules.specs.Book.{is_sealed_of, is_forced_of, is_end_of, stands, is_decision_on, global_in, AsDecided, Follows, changes_of, commits_now}
 use Rattle.book_laws.proofs.PlaceLemmas.{IsOne}
 use Rattle.book_laws.proofs.FlatLemmas.{none_if, or_none, any_same, any_now, any_before}
-use Rattle.book_laws.proofs.CountLemmas.{picked, committed_by, alike_commits}
+use Rattle.book_laws.proofs.CountLemmas.{alike_commits}
 use Rattle.book_laws.proofs.OpenLemmas.{is_open, counted, counted_or, counted_is, open_parts, is_open_from, not_forced, IsSealedIn, sealed_in_book, commit_decided, rollback_undecided, same_counted, open_was, SealsFit}
 use Rattle.book_laws.proofs.ApartLemmas.{AreApart, one_free}
-use Rattle.book_laws.proofs.TellLemmas.{waiting, Tells, IsQuiet, quiet_commits, quiet_waiting, quiet_old, told_next, same_commits}
+use Rattle.book_laws.proofs.TellLemmas.{at_entry, waiting, Tells, IsQuiet, quiet_commits, quiet_waiting, quiet_old, told_next, same_commits}
 
 module _ (n : ℕ) (table : List ℕ) (key : Value) (book : List Entry) (c : BranchId) (d : Decision) (fits : SealsFit book) (apart : AreApart n table key book) (follows : Follows book (entries.Ended c d))
     (now : Tells n table key book) where
-  abbrev e : Entry
-  e = entries.Ended c d
-
-  abbrev more : List Entry
-  more = book ++ e ∷ []
-
-  abbrev at_key : List Change → List Change
-  at_key cs = picked n table key cs
-
-  abbrev commits : (BranchId → Bool) → List Entry → List Change
-  commits counts bk = committed_by n table key counts bk
+  open at_entry n table key book (entries.Ended c d) use {e, more, at_key, commits}
 
   quiet : IsQuiet n table key e
   quiet = record { none = λ b. refl; parts = λ counts g. refl; undecided = λ g. refl; unsealed = λ b g cs scn is. absurd cc }

@@ -1,5 +1,5 @@
 -- An outcome is forced on a branch: a commit commits its changes at its place, at the node as by the book.
-use Rattle.std.proofs.Common.{◌≡◌, ℕ, ◌==◌, ◌||◌, Bool, true, false, true≢false, if◌then◌else◌, List, [], ◌∷◌, ◌++◌, inl, inr, refl, sym, ap, subst, ◌∙◌}
+use Rattle.std.proofs.Common.{◌≡◌, ℕ, ◌==◌, ◌||◌, Bool, true, false, true≢false, if◌then◌else◌, List, [], ◌++◌, inl, inr, refl, sym, ap, subst, ◌∙◌}
 use Rattle.std.specs.Prelude.{◌⊎◌}
 use Rattle.std.proofs.lemmas.Bool.{eqb-true}
 use Rattle.tran_ids.proofs.BranchLemmas.{equal_from_same}
@@ -12,23 +12,13 @@ use Rattle.run_rules.specs.Data.entries
 use Rattle.run_rules.specs.Book.{is_sealed_of, is_forced_of, is_end_of, stands, is_decision_on, Follows, changes_of, commits_now}
 use Rattle.book_laws.proofs.PlaceLemmas.{IsOne}
 use Rattle.book_laws.proofs.FlatLemmas.{none_if, any_now}
-use Rattle.book_laws.proofs.CountLemmas.{picked, picked_if, gives, committed_by, picked_same}
+use Rattle.book_laws.proofs.CountLemmas.{picked_if, gives, picked_same}
 use Rattle.book_laws.proofs.OpenLemmas.{is_open, counted, counted_or, counted_is, open_parts, is_open_from, not_forced, same_counted, open_was}
 use Rattle.book_laws.proofs.ApartLemmas.{AreApart, one_free}
-use Rattle.book_laws.proofs.TellLemmas.{either_order, waiting, Tells, IsQuiet, quiet_commits, quiet_waiting, quiet_old, told_next, same_commits}
+use Rattle.book_laws.proofs.TellLemmas.{at_entry, either_order, waiting, Tells, IsQuiet, quiet_commits, quiet_waiting, quiet_old, told_next, same_commits}
 
 module _ (n : ℕ) (table : List ℕ) (key : Value) (book : List Entry) (c : BranchId) (o : Decision) (apart : AreApart n table key book) (follows : Follows book (entries.Forced c o)) (now : Tells n table key book) where
-  abbrev e : Entry
-  e = entries.Forced c o
-
-  abbrev more : List Entry
-  more = book ++ e ∷ []
-
-  abbrev at_key : List Change → List Change
-  at_key cs = picked n table key cs
-
-  abbrev commits : (BranchId → Bool) → List Entry → List Change
-  commits counts bk = committed_by n table key counts bk
+  open at_entry n table key book (entries.Forced c o) use {e, more, at_key, commits}
 
   quiet : IsQuiet n table key e
   quiet = record { none = λ b. refl; parts = λ counts g. refl; undecided = λ g. refl; unsealed = λ b g cs scn is. absurd cc }

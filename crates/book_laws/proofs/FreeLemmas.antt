@@ -1,37 +1,33 @@
 -- In the book of a lawful run a seal and a decision change no key of a branch of their node that is sealed without an end.
 use Rattle.std.proofs.Common.{◌≡◌, ℕ, zero, suc, ◌<◌, Bool, true, false, true≢false, if◌then◌else◌, List, [], ◌∷◌, ◌++◌, filter, flat_map, take, inl, inr, refl, sym, subst, ◌∙◌, append-nil, append_assoc}
 use Rattle.std.specs.Prelude.{◌⊎◌}
-use Rattle.std.specs.List.{AllByRecursion, list_any}
+use Rattle.std.specs.List.{list_any}
 use Rattle.std.specs.Cmp.Lexicographic.{bytes_decides}
 use Rattle.std.proofs.lemmas.Bool.{and_parts, and_from}
 use Rattle.dtx_values.proofs.ValueOrder.{equal_from_same as one_value, same_from_equal as same_of_one}
 use Rattle.node_rules.specs.Data.{Value, Change, BranchId, RedoRecord}
-use Rattle.node_rules.specs.Data.records
 use Rattle.node_rules.specs.Rows.{same_value, is_change_of}
 use Rattle.node_rules.specs.Words.{same_text}
 use Rattle.run_rules.specs.Data.{Entry}
 use Rattle.run_rules.specs.Data.entries
-use Rattle.run_rules.specs.Book.{is_end_of, stands, Follows, EachAgainst, At}
+use Rattle.run_rules.specs.Book.{Follows, EachAgainst, At}
 use Rattle.run_rules.specs.Entries.{entry_of}
 use Rattle.run_rules.specs.Entries.{book_of as trace_book}
 use Rattle.run_rules.specs.Facts.{records_at}
 use Rattle.run_rules.specs.Lawful.{History, IsLawfulRun, facts_at}
 use Rattle.run_key_laws.specs.RiseLaws.{are_of_one_key}
-use Rattle.run_key_laws.specs.OrderLaws.{ends, have_a_key_in_common, IsDoneBefore, ComesInOrder, InOrderFrom}
-use Rattle.run_key_laws.specs.CommitOrderLaws.{SealsOrDecides, changes_by}
-use Rattle.run_key_laws.proofs.CommitOrderLemmas.{at_split}
+use Rattle.run_key_laws.specs.OrderLaws.{have_a_key_in_common, InOrderFrom}
 use Rattle.run_key_laws.proofs.OrderLemmas.{keys_come_in_order}
 use Rattle.tree_laws.proofs.AgreeLemmas.{runs_agree}
 use Rattle.book_laws.specs.DiskLaws.{node_of, is_of_node}
 use Rattle.book_laws.specs.SealLaws.{ComesFirst}
-use Rattle.book_laws.proofs.PlaceLemmas.{IsOne, finds, place_before, any_unfiltered, at_place}
+use Rattle.book_laws.proofs.PlaceLemmas.{IsOne, finds, place_before, at_place}
 use Rattle.book_laws.proofs.DiskLemmas.{books_are_of_disks}
 use Rattle.book_laws.proofs.SealLemmas.{seals_come_first}
-use Rattle.book_laws.proofs.OnDiskLemmas.{IsOf, leaves_by, disk_ends, EntryOnDisk, on_disk, older_on_disk}
+use Rattle.book_laws.proofs.OnDiskLemmas.{ended_before, IsOf}
 use Rattle.book_laws.proofs.CountLemmas.{picked}
 use Rattle.book_laws.proofs.ApartLemmas.{FreeOf, IsFree}
 use Rattle.book_laws.proofs.StandLemmas.{Comes}
-use Rattle.book_laws.proofs.ScnLemmas.{done_in as of_one}
 
 -- what holds of each place holds of each entry
 each_from : (P : List Entry → Entry → Type 0) (older es : List Entry) → ((k : ℕ) (e : Entry) → At es k e → P (older ++ take k es) e) → EachAgainst P older es
@@ -76,33 +72,7 @@ module _ (table : List ℕ) (key : Value) where
 
 -- ---- on the disk
 
--- a branch that was sealed before, and changed one of these keys, has ended
-done_by : (n : ℕ) (older : List RedoRecord) (cs : List Change) (r : RedoRecord) (b g : BranchId) (ds : List Change) (scn : ℕ) → entry_of n r ≡ entries.Sealed b g ds scn ∷ [] → IsDoneBefore older cs r
-    → have_a_key_in_common ds cs ≡ true → list_any (ends b) older ≡ true
-done_by n older cs (records.Sealed q) b g ds scn is done common =
-    let me : q.me ≡ b = cc is in
-    let changes : q.changes ≡ ds = cc is in
-    subst (λ z. list_any (ends z) older ≡ true) me (done (subst (λ xs. have_a_key_in_common xs cs ≡ true) (sym changes) common))
-done_by n older cs _ b g ds scn is done common = absurd cc
-
-all_done : (older : List RedoRecord) (c : BranchId) (r : RedoRecord) → SealsOrDecides c r → ComesInOrder older r → AllByRecursion (IsDoneBefore older (changes_by r)) older
-all_done older c (records.Sealed q) leaves order = order.0
-all_done older c (records.Decided q) leaves order = order.0
-all_done older c _ leaves order = absurd leaves
-
 module _ (book : List Entry) (n : ℕ) (rs : List RedoRecord) (disk : filter (is_of_node n) book ≡ flat_map (entry_of n) rs) (order : InOrderFrom [] rs) where
-  -- before an entry that changes one of its keys the branch of a seal has ended
-  ended_before : (b g c h : BranchId) (cs ds : List Change) (scn k m : ℕ) (e : Entry) → At book k (entries.Sealed b g cs scn) → At book m e → k < m → b.node ≡ n → node_of e ≡ n → IsOf c h ds e
-      → have_a_key_in_common cs ds ≡ true → stands (is_end_of b) (take m book) ≡ true
-  ended_before b g c h cs ds scn k m e at later less here there of common =
-      let s : EntryOnDisk n rs (filter (is_of_node n) (take m book)) e = on_disk n book rs disk m e later there in
-      let r = older_on_disk n book rs disk k m (entries.Sealed b g cs scn) e at less here s in
-      let left = leaves_by n c h ds e s.one s.is of in
-      let comes : ComesInOrder s.older s.one = at_split [] s.older s.one s.newer (subst (InOrderFrom []) s.split order) in
-      let done : IsDoneBefore s.older (changes_by s.one) r.0 = of_one (IsDoneBefore s.older (changes_by s.one)) r.0 s.older (all_done s.older c s.one left.0 comes) r.1 in
-      let over : list_any (ends b) s.older ≡ true = done_by n s.older (changes_by s.one) r.0 b g cs scn r.2 done (subst (λ xs. have_a_key_in_common cs xs ≡ true) (sym left.1) common) in
-      any_unfiltered (is_end_of b) (is_of_node n) (take m book) (subst (λ xs. stands (is_end_of b) xs ≡ true) s.first (sym (disk_ends n b s.older) ∙ over))
-
   module _ (table : List ℕ) (key : Value) where
     -- so its changes are free
     free_of : (c h : BranchId) (ds : List Change) (m : ℕ) (e : Entry) → At book m e → node_of e ≡ n → IsOf c h ds e → FreeOf n table key (take m book) ds
@@ -112,7 +82,7 @@ module _ (book : List Entry) (n : ℕ) (rs : List RedoRecord) (disk : filter (is
       where
         by : (k : ℕ) → k < m → At book k (entries.Sealed b g cs scn) → (q : Bool) → have_a_key_in_common cs ds ≡ q → (picked n table key cs ≡ []) ⊎ (picked n table key ds ≡ [])
         by k less seal false none = none_common table key n cs ds none
-        by k less seal true common = absurd (true≢false (sym (ended_before b g c h cs ds scn k m e seal at less here there of common) ∙ endless))
+        by k less seal true common = absurd (true≢false (sym (ended_before book n rs disk order b g c h cs ds scn k m e seal at less here there of common) ∙ endless))
 
     is_free : (m : ℕ) (e : Entry) → At book m e → IsFree n table key (take m book) e
     is_free m (entries.Sealed c h ds scn) at = λ here. free_of c h ds m (entries.Sealed c h ds scn) at here (refl, refl, refl)

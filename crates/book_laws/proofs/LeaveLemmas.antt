@@ -138,24 +138,8 @@ module _ (p : Place) (input : Input) where
   leaves_on (steps.Acts l site_below acts.Seal why) above = seals_so above why
   leaves_on (steps.Acts l site_below (acts.SealAndPass i) why) above = passes_so above why
   leaves_on (steps.Acts l site_below acts.Decide why) above = decides_so above why
-  leaves_on (steps.Acts l site_below acts.Rest why) above = tt
-  leaves_on (steps.Acts l site_below acts.AskDown why) above = tt
-  leaves_on (steps.Acts l site_below acts.SayReadOnly why) above = tt
-  leaves_on (steps.Acts l site_below acts.SayReady why) above = tt
-  leaves_on (steps.Acts l site_below acts.Finish why) above = tt
-  leaves_on (steps.Acts l site_below acts.Abandon why) above = tt
-  leaves_on (steps.Does s from (nexts.End e) kept why) above = tt
-  leaves_on (steps.Does s from (nexts.Meet e mixed) kept why) above = tt
-  leaves_on (steps.Does s from nexts.Forget kept why) above = tt
   leaves_on (steps.Does s from nexts.Rest kept why) above = tt
-  leaves_on (steps.Does s from nexts.AckToward kept why) above = tt
-  leaves_on (steps.Does s from nexts.SayForgotten kept why) above = tt
-  leaves_on (steps.Does s from nexts.SayAck kept why) above = tt
-  leaves_on (steps.Makes_record n s r d call (steps.Makes_table x free)) above = tt
-  leaves_on (steps.Makes_record n s r d call (steps.Makes_link x free)) above = tt
-  leaves_on (steps.Makes_record n s r d call (steps.Makes_synonym x free)) above = tt
   leaves_on (steps.Makes_record n s r d call (steps.Sets_recovery on)) above = tt
-  leaves_on (steps.Gives_up_commit n b (Some l) gives has calls live) above = tt
   leaves_on (steps.Gives_up_commit n b None gives has calls live) above = tt
   leaves_on _ above = tt
 

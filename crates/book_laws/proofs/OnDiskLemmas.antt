@@ -16,10 +16,11 @@ use Rattle.run_rules.specs.Data.entries
 use Rattle.run_rules.specs.Book.{is_end_of, stands, At}
 use Rattle.run_rules.specs.Entries.{entry_of}
 use Rattle.run_key_laws.specs.RiseLaws.{are_of_one_key}
-use Rattle.run_key_laws.specs.OrderLaws.{ends, have_a_key_in_common}
+use Rattle.run_key_laws.specs.OrderLaws.{ends, have_a_key_in_common, IsDoneBefore, ComesInOrder, InOrderFrom}
 use Rattle.run_key_laws.specs.CommitOrderLaws.{IsIn, SealsOrDecides, changes_by, LeavesAfter}
+use Rattle.run_key_laws.proofs.CommitOrderLemmas.{at_split}
 use Rattle.book_laws.specs.DiskLaws.{node_of, is_of_node}
-use Rattle.book_laws.proofs.PlaceLemmas.{IsOne, found, finds, one_kept, one_of_flat, one_before, parted}
+use Rattle.book_laws.proofs.PlaceLemmas.{IsOne, found, finds, one_kept, one_of_flat, one_before, parted, any_unfiltered}
 
 -- ---- keys in common
 
@@ -168,3 +169,37 @@ module _ (n : ℕ) where
         is_in r [] there = absurd there
         is_in r (s ∷ rs) (inl here) = inl here
         is_in r (s ∷ rs) (inr there) = inr (is_in r rs there)
+
+-- ---- a branch that ended
+
+pub done_in : (P : RedoRecord → Type 0) (r : RedoRecord) (rs : List RedoRecord) → AllByRecursion P rs → IsOne r rs → P r
+done_in P r [] all there = absurd there
+done_in P r (s ∷ rs) all (inl here) = subst P here all.0
+done_in P r (s ∷ rs) all (inr there) = done_in P r rs all.1 there
+
+-- a branch that was sealed before, and changed one of these keys, has ended
+done_by : (n : ℕ) (older : List RedoRecord) (cs : List Change) (r : RedoRecord) (b g : BranchId) (ds : List Change) (scn : ℕ) → entry_of n r ≡ entries.Sealed b g ds scn ∷ [] → IsDoneBefore older cs r
+    → have_a_key_in_common ds cs ≡ true → list_any (ends b) older ≡ true
+done_by n older cs (records.Sealed q) b g ds scn is done common =
+    let me : q.me ≡ b = cc is in
+    let changes : q.changes ≡ ds = cc is in
+    subst (λ z. list_any (ends z) older ≡ true) me (done (subst (λ xs. have_a_key_in_common xs cs ≡ true) (sym changes) common))
+done_by n older cs _ b g ds scn is done common = absurd cc
+
+all_done : (older : List RedoRecord) (c : BranchId) (r : RedoRecord) → SealsOrDecides c r → ComesInOrder older r → AllByRecursion (IsDoneBefore older (changes_by r)) older
+all_done older c (records.Sealed q) leaves order = order.0
+all_done older c (records.Decided q) leaves order = order.0
+all_done older c _ leaves order = absurd leaves
+
+module _ (book : List Entry) (n : ℕ) (rs : List RedoRecord) (disk : filter (is_of_node n) book ≡ flat_map (entry_of n) rs) (order : InOrderFrom [] rs) where
+  -- before an entry that changes one of its keys the branch of a seal has ended
+  pub ended_before : (b g c h : BranchId) (cs ds : List Change) (scn k m : ℕ) (e : Entry) → At book k (entries.Sealed b g cs scn) → At book m e → k < m → b.node ≡ n → node_of e ≡ n → IsOf c h ds e
+      → have_a_key_in_common cs ds ≡ true → stands (is_end_of b) (take m book) ≡ true
+  ended_before b g c h cs ds scn k m e at later less here there of common =
+      let s : EntryOnDisk n rs (filter (is_of_node n) (take m book)) e = on_disk n book rs disk m e later there in
+      let r = older_on_disk n book rs disk k m (entries.Sealed b g cs scn) e at less here s in
+      let left = leaves_by n c h ds e s.one s.is of in
+      let comes : ComesInOrder s.older s.one = at_split [] s.older s.one s.newer (subst (InOrderFrom []) s.split order) in
+      let done : IsDoneBefore s.older (changes_by s.one) r.0 = done_in (IsDoneBefore s.older (changes_by s.one)) r.0 s.older (all_done s.older c s.one left.0 comes) r.1 in
+      let over : list_any (ends b) s.older ≡ true = done_by n s.older (changes_by s.one) r.0 b g cs scn r.2 done (subst (λ xs. have_a_key_in_common cs xs ≡ true) (sym left.1) common) in
+      any_unfiltered (is_end_of b) (is_of_node n) (take m book) (subst (λ xs. stands (is_end_of b) xs ≡ true) s.first (sym (disk_ends n b s.older) ∙ over))

@@ -75,7 +75,6 @@ step_changes p input (steps.Counts_ack s from kept came counts step) own = step_
 step_changes p input (steps.Acts {k = k} l site_below acts.Seal why) own = own l.me
 step_changes p input (steps.Acts {k = k} l site_below (acts.SealAndPass i) why) own = own l.me
 step_changes p input (steps.Acts {k = k} l site_below acts.Decide why) own = own l.me
-step_changes p input (steps.Acts l site_below acts.Rest why) own = tt
 step_changes p input (steps.Does s from nexts.Rest kept why) own = tt
 step_changes p input (steps.Makes_record {k = k} n s r d call makes) own = made_so (HasChangesIn k.stored.durable.tables) (λ t. tt) (λ l. tt) (λ y. tt) (λ on. tt) makes
 step_changes p input (steps.Gives_up_commit n b None gives has calls gone) own = tt

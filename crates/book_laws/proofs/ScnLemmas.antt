@@ -1,7 +1,7 @@
 -- Of two decisions that changed one key at a node the later in the book has the greater SCN. Its branch there either left after the
 -- other's, so its SCN is greater; or it left before and had ended by then, so its decision would be the older.
-use Rattle.std.proofs.Common.{◌≡◌, ℕ, ◌<◌, ◌≤◌, ◌==◌, ◌&&◌, not, Bool, true, false, true≢false, if◌then◌else◌, List, [], ◌∷◌, filter, flat_map, take, Option, Some, None, inl, inr, refl, sym, ap, subst, ◌∙◌, arith}
-use Rattle.std.specs.List.{AllByRecursion, list_any}
+use Rattle.std.proofs.Common.{◌≡◌, ℕ, ◌<◌, ◌≤◌, ◌==◌, ◌&&◌, not, Bool, true, false, true≢false, if◌then◌else◌, List, [], filter, flat_map, take, Option, Some, None, inl, inr, refl, sym, ap, subst, ◌∙◌, arith}
+use Rattle.std.specs.List.{list_any}
 use Rattle.std.proofs.lemmas.Bool.{and_parts, cases_lt, eqb-true}
 use Rattle.tran_ids.proofs.BranchLemmas.{equal_from_same, same_from_equal}
 use Rattle.agreement.specs.Events.{Forest, IsForest, Decided, Event, exit, learned, forced, Lawful, site_of}
@@ -9,7 +9,6 @@ use Rattle.agreement.specs.BookOf.{book_of}
 use Rattle.agreement.proofs.AgreementLaws.{undecided_from_rollback}
 use Rattle.node_rules.specs.Data.{Change, BranchId, RedoRecord}
 use Rattle.node_rules.specs.Data.decisions
-use Rattle.node_rules.specs.Data.records
 use Rattle.node_rules.specs.Words.{same}
 use Rattle.run_rules.specs.Data.{Entry}
 use Rattle.run_rules.specs.Data.entries
@@ -20,21 +19,21 @@ use Rattle.run_rules.specs.Lawful.{facts_at}
 use Rattle.run_base_laws.specs.RunEvents.{events_of}
 use Rattle.run_claims.specs.Headline.{EveryScnIsLater}
 use Rattle.run_key_laws.specs.RiseLaws.{are_of_one_key}
-use Rattle.run_key_laws.specs.OrderLaws.{ends, have_a_key_in_common, IsDoneBefore, ComesInOrder, InOrderFrom}
-use Rattle.run_key_laws.specs.CommitOrderLaws.{SealsOrDecides, changes_by, LeavesAfter}
+use Rattle.run_key_laws.specs.OrderLaws.{have_a_key_in_common, InOrderFrom}
+use Rattle.run_key_laws.specs.CommitOrderLaws.{LeavesAfter}
 use Rattle.run_branch_laws.proofs.EventBookLemmas.{book_of_events}
 use Rattle.run_key_laws.proofs.OrderLemmas.{keys_come_in_order}
-use Rattle.run_key_laws.proofs.CommitOrderLemmas.{has_learned, at_split}
+use Rattle.run_key_laws.proofs.CommitOrderLemmas.{has_learned}
 use Rattle.tree_laws.specs.Forests.{forest_of}
 use Rattle.tree_laws.proofs.ForestRunLemmas.{runs_have_forests}
 use Rattle.tree_laws.proofs.AgreeLemmas.{runs_agree}
 use Rattle.book_laws.proofs.OrderedLemmas.{every_commit_comes_in_order}
 use Rattle.book_laws.specs.DiskLaws.{node_of, is_of_node}
 use Rattle.book_laws.specs.SealLaws.{ComesFirst}
-use Rattle.book_laws.proofs.PlaceLemmas.{IsOne, found, finds, both_ways, one_of_flat, place_of, one_at, place_before, one_before, any_unfiltered, at_place}
+use Rattle.book_laws.proofs.PlaceLemmas.{IsOne, found, finds, both_ways, one_of_flat, place_of, one_at, place_before, one_before, at_place}
 use Rattle.book_laws.proofs.DiskLemmas.{books_are_of_disks}
 use Rattle.book_laws.proofs.SealLemmas.{seals_come_first, lawful_events}
-use Rattle.book_laws.proofs.OnDiskLemmas.{common_too, IsOf, leaves_by, disk_ends, EntryOnDisk, on_disk, older_on_disk, leaves_later}
+use Rattle.book_laws.proofs.OnDiskLemmas.{ended_before, common_too, IsOf, leaves_later}
 use Rattle.book_laws.proofs.DecisionLemmas.{has_end, unforced_events, DecidedAt, one_decision, by_decision, site_decided, root_of, root_before}
 
 -- ---- the branch that changed a key
@@ -115,25 +114,6 @@ decision_on g n (entries.Met b d mixed) is = absurd (true≢false (sym is))
 
 -- ---- a branch that ended
 
--- on a disk a branch that was sealed, and changed one of these keys, has ended
-done_by : (n : ℕ) (older : List RedoRecord) (cs : List Change) (one : RedoRecord) (y h : BranchId) (ds : List Change) (scn : ℕ) → entry_of n one ≡ entries.Sealed y h ds scn ∷ [] → IsDoneBefore older cs one
-    → have_a_key_in_common ds cs ≡ true → list_any (ends y) older ≡ true
-done_by n older cs (records.Sealed q) y h ds scn is done common =
-    let me : q.me ≡ y = cc is in
-    let changes : q.changes ≡ ds = cc is in
-    subst (λ z. list_any (ends z) older ≡ true) me (done (subst (λ xs. have_a_key_in_common xs cs ≡ true) (sym changes) common))
-done_by n older cs _ y h ds scn is done common = absurd cc
-
-all_done : (older : List RedoRecord) (x : BranchId) (other : RedoRecord) → SealsOrDecides x other → ComesInOrder older other → AllByRecursion (IsDoneBefore older (changes_by other)) older
-all_done older x (records.Sealed r) leaves order = order.0
-all_done older x (records.Decided r) leaves order = order.0
-all_done older x _ leaves order = absurd leaves
-
-pub done_in : (P : RedoRecord → Type 0) (r : RedoRecord) (rs : List RedoRecord) → AllByRecursion P rs → IsOne r rs → P r
-done_in P r [] all there = absurd there
-done_in P r (s ∷ rs) all (inl here) = subst P here all.0
-done_in P r (s ∷ rs) all (inr there) = done_in P r rs all.1 there
-
 module _ (p : Forest) (w : IsForest p) (t : List Event) (l : Lawful p t) (agrees : EachAgainst Follows [] (book_of t)) (firsts : EachAgainst ComesFirst [] (book_of t)) where
   -- the decision of a transaction stands in the book
   module _ (h c : BranchId) (cs : List Change) (m : ℕ) (decision : IsOne (entries.Decided c h cs m) (book_of t)) where
@@ -171,25 +151,12 @@ module _ (p : Forest) (w : IsForest p) (t : List Event) (l : Lawful p t) (agrees
     ended_after y root unforced k (entries.Met b d mixed) at is = absurd (true≢false (sym is))
 
     module _ (n : ℕ) (rs : List RedoRecord) (disk : filter (is_of_node n) (book_of t) ≡ flat_map (entry_of n) rs) (order : InOrderFrom [] rs) where
-      -- before an entry on one of its keys a branch that was sealed has ended
-      end_before : (y f x g : BranchId) (ds es : List Change) (scn k m : ℕ) (e : Entry) → At (book_of t) k (entries.Sealed y f ds scn) → At (book_of t) m e → k < m → y.node ≡ n → node_of e ≡ n → IsOf x g es e
-          → have_a_key_in_common ds es ≡ true → stands (is_end_of y) (take m (book_of t)) ≡ true
-      end_before y f x g ds es scn k m e at later less here there of common =
-          let s : EntryOnDisk n rs (filter (is_of_node n) (take m (book_of t))) e = on_disk n (book_of t) rs disk m e later there in
-          let r = older_on_disk n (book_of t) rs disk k m (entries.Sealed y f ds scn) e at less here s in
-          let other = leaves_by n x g es e s.one s.is of in
-          let comes : ComesInOrder s.older s.one = at_split [] s.older s.one s.newer (subst (InOrderFrom []) s.split order) in
-          let done : IsDoneBefore s.older (changes_by s.one) r.0 = done_in (IsDoneBefore s.older (changes_by s.one)) r.0 s.older (all_done s.older x s.one other.0 comes) r.1 in
-          let over : list_any (ends y) s.older ≡ true = done_by n s.older (changes_by s.one) r.0 y f ds scn r.2 done (subst (λ xs. have_a_key_in_common ds xs ≡ true) (sym other.1) common) in
-          let told : stands (is_end_of y) (filter (is_of_node n) (take m (book_of t))) ≡ true = subst (λ xs. stands (is_end_of y) xs ≡ true) s.first (sym (disk_ends n y s.older) ∙ over) in
-          any_unfiltered (is_end_of y) (is_of_node n) (take m (book_of t)) told
-
       -- so its decision comes before that entry
       decided_first : (y x g : BranchId) (ds es : List Change) (k m : ℕ) (d e : Entry) → At (book_of t) k d → At (book_of t) m e → k < m → IsOf y h ds d → IsOf x g es e → node_of d ≡ n → node_of e ≡ n
           → have_a_key_in_common ds es ≡ true → stands (is_forced_of y) (book_of t) ≡ false → (j : ℕ) × (j < m) × DecidedAt (book_of t) h j
       decided_first y x g ds es k m (entries.Sealed b f bs scn) e at later less of of_later here there common unforced =
           let root : p.root b ≡ h = root_of p t l agrees b h bs (entries.Sealed b f bs scn) (one_at (entries.Sealed b f bs scn) (book_of t) k at) (refl, of.1, refl) in
-          let over : stands (is_end_of b) (take m (book_of t)) ≡ true = end_before b f x g bs es scn k m e at later less here there of_later (subst (λ xs. have_a_key_in_common xs es ≡ true) (sym of.2) common) in
+          let over : stands (is_end_of b) (take m (book_of t)) ≡ true = ended_before (book_of t) n rs disk order b f x g bs es scn k m e at later less here there of_later (subst (λ xs. have_a_key_in_common xs es ≡ true) (sym of.2) common) in
           let end = found (is_end_of b) (take m (book_of t)) over in
           let z = place_before end.0 (book_of t) m end.1 in
           let j = ended_after b root (subst (λ i. stands (is_forced_of i) (book_of t) ≡ false) (sym of.0) unforced) z.0 end.0 z.2 end.2 in

@@ -1,5 +1,5 @@
 -- A branch seals: nothing is told, and it waits for nothing, since its transaction was not decided.
-use Rattle.std.proofs.Common.{◌≡◌, ℕ, ◌==◌, ◌||◌, ◌&&◌, Bool, true, false, true≢false, if◌then◌else◌, List, [], ◌∷◌, ◌++◌, inl, inr, refl, sym, ap, subst, ◌∙◌, append-nil}
+use Rattle.std.proofs.Common.{◌≡◌, ℕ, ◌==◌, ◌||◌, ◌&&◌, Bool, true, false, true≢false, if◌then◌else◌, List, [], ◌++◌, inl, inr, refl, sym, ap, subst, ◌∙◌, append-nil}
 use Rattle.std.specs.Prelude.{◌⊎◌}
 use Rattle.tran_ids.proofs.BranchLemmas.{equal_from_same}
 use Rattle.agreement.proofs.BookTests.{not_true}
@@ -13,23 +13,13 @@ use Rattle.run_base_laws.proofs.RowEventLemmas.{same_turned}
 use Rattle.book_laws.specs.SealLaws.{ComesFirst}
 use Rattle.book_laws.proofs.PlaceLemmas.{IsOne}
 use Rattle.book_laws.proofs.FlatLemmas.{or_none, any_same, none_passes, one_of_more}
-use Rattle.book_laws.proofs.CountLemmas.{picked, committed_by, alike_commits, StaysBefore, picked_same, commits_more}
+use Rattle.book_laws.proofs.CountLemmas.{alike_commits, StaysBefore, picked_same, commits_more}
 use Rattle.book_laws.proofs.OpenLemmas.{is_open, counted, counted_or, seal_found, no_changes, same_open, same_counted}
-use Rattle.book_laws.proofs.TellLemmas.{waiting, Tells, told_on}
+use Rattle.book_laws.proofs.TellLemmas.{at_entry, waiting, Tells, told_on}
 
 module _ (n : ℕ) (table : List ℕ) (key : Value) (book : List Entry) (c h : BranchId) (ds : List Change) (s : ℕ) (follows : Follows book (entries.Sealed c h ds s)) (first : ComesFirst book (entries.Sealed c h ds s))
     (now : Tells n table key book) where
-  abbrev e : Entry
-  e = entries.Sealed c h ds s
-
-  abbrev more : List Entry
-  more = book ++ e ∷ []
-
-  abbrev at_key : List Change → List Change
-  at_key cs = picked n table key cs
-
-  abbrev commits : (BranchId → Bool) → List Entry → List Change
-  commits counts bk = committed_by n table key counts bk
+  open at_entry n table key book (entries.Sealed c h ds s) use {e, more, at_key, commits}
 
   -- what the book commits stays: its transaction was not decided, and nothing was forced on it
   stays : (counts : BranchId → Bool) (x : Entry) → IsOne x book → StaysBefore n table key counts book e x

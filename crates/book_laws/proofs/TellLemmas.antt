@@ -26,6 +26,16 @@ pub either_order : (xs ys zs : List Change) → (ys ≡ []) ⊎ (zs ≡ []) → 
 either_order xs ys zs (inl none) = ap (λ w. (xs ++ w) ++ zs) none ∙ (ap (λ w. w ++ zs) (append-nil xs) ∙ (sym (append-nil (xs ++ zs)) ∙ ap (λ w. (xs ++ zs) ++ w) (sym none)))
 either_order xs ys zs (inr none) = ap (λ w. (xs ++ ys) ++ w) none ∙ (append-nil (xs ++ ys) ∙ (ap (λ w. w ++ ys) (sym (append-nil xs)) ∙ ap (λ w. (xs ++ w) ++ ys) (sym none)))
 
+-- One more entry of a book, with what is at a key of a node. A proof opens the parts that it speaks of.
+pub record AtEntry : Type 0 where
+  pub e : Entry
+  pub more : List Entry
+  pub at_key : List Change → List Change
+  pub commits : (BranchId → Bool) → List Entry → List Change
+
+abbrev pub at_entry : ℕ → List ℕ → Value → List Entry → Entry → AtEntry
+at_entry n table key book e = record { e = e; more = book ++ e ∷ []; at_key = λ cs. picked n table key cs; commits = λ counts bk. committed_by n table key counts bk }
+
 module _ (n : ℕ) (table : List ℕ) (key : Value) where
   abbrev at_key : List Change → List Change
   at_key cs = picked n table key cs

@@ -144,29 +144,16 @@ module _ (p : Place) (f : Facts) (held : NodeState) (n : ℕ) (input : Input) wh
   step_due (steps.Pends m l comment call has live code step) now forced = step_due step now forced
   step_due (steps.Lets_reads_go l comment site_below live begins step) now forced = step_due step now forced
   step_due (steps.Counts_ack {k = k} s from kept came counts step) now forced = step_due step (all_with RowDue kept_row_id k.stored.durable.kept (acked_by s from) now (row_found k s now kept)) (λ m x call. absurd (came_apart m x came call))
-  step_due (steps.Acts l site_below acts.Seal why) now forced = tt
-  step_due (steps.Acts l site_below (acts.SealAndPass i) why) now forced = tt
-  step_due (steps.Acts l site_below acts.Decide why) now forced = tt
   step_due (steps.Acts l site_below acts.Rest why) now forced = tt
-  step_due (steps.Acts l site_below acts.AskDown why) now forced = tt
-  step_due (steps.Acts l site_below acts.SayReadOnly why) now forced = tt
-  step_due (steps.Acts l site_below acts.SayReady why) now forced = tt
-  step_due (steps.Acts l site_below acts.Finish why) now forced = tt
-  step_due (steps.Acts l site_below acts.Abandon why) now forced = tt
   step_due (steps.Does {k = k} s from (nexts.End d) kept why) now forced = λ before after. ends_so s (row_found k s now kept).0 why
   step_due (steps.Does {k = k} s from (nexts.Meet d mixed) kept why) now forced = λ before after. meets_so s (row_found k s now kept).0 why
   step_due (steps.Does {k = k} s from nexts.Forget kept why) now forced = forgets_so s (row_found k s now kept).0 why
-  step_due (steps.Does s from nexts.Rest kept why) now forced = tt
-  step_due (steps.Does s from nexts.AckToward kept why) now forced = tt
-  step_due (steps.Does s from nexts.SayForgotten kept why) now forced = tt
-  step_due (steps.Does s from nexts.SayAck kept why) now forced = tt
   step_due (steps.Makes_record m s r d call makes) now forced = made_so m call makes
   step_due (steps.Forces_given m id c b call named) now forced = λ before after. (id, (forced m (stmts.CommitForce id (Some c)) call).1 id b named, (m, call))
   step_due (steps.Forces_commit {k = k} m id b call named) now forced =
       (let of = forced m (stmts.CommitForce id None) call in λ before after. (id, of.1 id b named, ((m, call), ap (λ c. c + 1) of.0)))
   step_due (steps.Forces_rollback m id b call named) now forced = λ before after. (id, (forced m (stmts.RollbackForce id) call).1 id b named, ((m, call), refl))
   step_due (steps.Hides {k = k} m mixed id s call found) now forced = (let shown = find_so RowDue (may_purge mixed id) k.stored.durable.kept s now found in λ before after. hides_so s shown.0.1 m mixed id call shown.1)
-  step_due (steps.Gives_up_commit m b (Some l) gives has calls live) now forced = tt
   step_due (steps.Gives_up_commit m b None gives has calls live) now forced = tt
   step_due _ now forced = tt
 

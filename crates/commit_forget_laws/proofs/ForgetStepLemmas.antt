@@ -43,27 +43,9 @@ module _ (p : Place) (input : Input) where
   forgot_says (steps.Pends n l given call has live code step) = forgot_says step
   forgot_says (steps.Lets_reads_go l comment below live begins step) = forgot_says step
   forgot_says (steps.Counts_ack {k = k} {d = d} s from kept came counts step) = acked_says k.stored.durable.kept s from d.says kept d.wrote (forgot_says step)
-  forgot_says (steps.Acts l below acts.Seal why) = tt
-  forgot_says (steps.Acts l below (acts.SealAndPass i) why) = tt
-  forgot_says (steps.Acts l below acts.Decide why) = tt
   forgot_says (steps.Acts l below acts.Rest why) = tt
-  forgot_says (steps.Acts l below acts.AskDown why) = tt
-  forgot_says (steps.Acts l below acts.SayReadOnly why) = tt
-  forgot_says (steps.Acts l below acts.SayReady why) = tt
-  forgot_says (steps.Acts l below acts.Finish why) = tt
-  forgot_says (steps.Acts l below acts.Abandon why) = tt
-  forgot_says (steps.Does s from (nexts.End d) kept why) = tt
-  forgot_says (steps.Does s from (nexts.Meet d mixed) kept why) = tt
   forgot_says (steps.Does {k = k} s from nexts.Forget kept why) = (s, itself k.stored.durable.kept s kept, refl)
-  forgot_says (steps.Does s from nexts.Rest kept why) = tt
-  forgot_says (steps.Does s from nexts.AckToward kept why) = tt
-  forgot_says (steps.Does s from nexts.SayForgotten kept why) = tt
-  forgot_says (steps.Does s from nexts.SayAck kept why) = tt
-  forgot_says (steps.Makes_record n s r d call (steps.Makes_table x free)) = tt
-  forgot_says (steps.Makes_record n s r d call (steps.Makes_link x free)) = tt
-  forgot_says (steps.Makes_record n s r d call (steps.Makes_synonym x free)) = tt
   forgot_says (steps.Makes_record n s r d call (steps.Sets_recovery on)) = tt
-  forgot_says (steps.Gives_up_commit n b (Some l) gives has calls live) = tt
   forgot_says (steps.Gives_up_commit n b None gives has calls live) = tt
   forgot_says _ = tt
 

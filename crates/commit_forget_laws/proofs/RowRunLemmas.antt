@@ -54,6 +54,19 @@ pub ack_is : (kind : Kind) → is_ack kind ≡ true → kind ≡ kinds.Ack
 ack_is kinds.Ack is = refl
 ack_is _ is = absurd cc
 
+-- an Ack came, or none did
+pub ack_or_none : {P : Type 0} (i : Input) → (((from to : BranchId) → Came i from to kinds.Ack → ⊥) → P) → ((m : Msg) → i ≡ inputs.Message m → m.kind ≡ kinds.Ack → P) → P
+ack_or_none {P = P} (inputs.Message m) never acks = by (is_ack m.kind) refl
+  where
+    by : (q : Bool) → is_ack m.kind ≡ q → P
+    by true ack = acks m refl (ack_is m.kind ack)
+    by false other = never (λ from to came. (let both : inputs.Message m ≡ inputs.Message (record { from = from; to = to; scn = came.scn; kind = kinds.Ack }) = came.is in
+        let one : m ≡ record { from = from; to = to; scn = came.scn; kind = kinds.Ack } = cc in
+        let yes : is_ack m.kind ≡ true = ap (λ (x : Msg). is_ack x.kind) one in absurd (cc (yes, other))))
+ack_or_none (inputs.Call n c) never acks = never (λ from to came. (let no = came.is in absurd (cc no)))
+ack_or_none (inputs.GiveUp n) never acks = never (λ from to came. (let no = came.is in absurd (cc no)))
+ack_or_none inputs.Reco never acks = never (λ from to came. (let no = came.is in absurd (cc no)))
+
 -- with more events alone
 pub tells_later : (said : List Post) (t r : List Event) (bound : ℕ) (s : KeptRow) → Stays t r s.me → Tells said t bound s → Tells said r bound s
 tells_later said t r bound s stays (inl is) = inl (plain_stays t r s stays is.0, is.1)
@@ -136,20 +149,8 @@ module _ (t : History) (whole : IsLawfulRun t) where
             let same_turn : Left (kind_turn p k0 m.from m.to m.kind (status_of k0 m.to)) = subst (λ x. Left (kind_turn p k0 m.from m.to x (status_of k0 m.to))) (sym kind) left in
             subst (λ i. Left (draft_of p k i)) (sym it) same_turn
 
-        by_input : (i : Input) → u.input ≡ i → Left d
-        by_input (inputs.Message m) it = by_kind (is_ack m.kind) refl
-          where
-            by_kind : (q : Bool) → is_ack m.kind ≡ q → Left d
-            by_kind true ack = by_ack m it (ack_is m.kind ack)
-            by_kind false other = by_step (λ from to came. (let both : inputs.Message m ≡ inputs.Message (record { from = from; to = to; scn = came.scn; kind = kinds.Ack }) = sym it ∙ came.is in
-                let one : m ≡ record { from = from; to = to; scn = came.scn; kind = kinds.Ack } = cc in
-                let yes : is_ack m.kind ≡ true = ap (λ (x : Msg). is_ack x.kind) one in absurd (cc (yes, other))))
-        by_input (inputs.Call n c) it = by_step (λ from to came. (let no = came.is in absurd (cc (no, it))))
-        by_input (inputs.GiveUp n) it = by_step (λ from to came. (let no = came.is in absurd (cc (no, it))))
-        by_input inputs.Reco it = by_step (λ from to came. (let no = came.is in absurd (cc (no, it))))
-
         left : Left d
-        left = by_input u.input refl
+        left = ack_or_none u.input by_step by_ack
 
       here : (node_at g u.node ≡ kept_after u.cut (Some (turn_of p k u.input))) × (records_at g u.node ≡ records_at f u.node ++ option_to_list u.wrote)
       here = turn_here t.places t.commands f (run_stands s lawful).0.even u k may.up

@@ -183,19 +183,9 @@ module _ (said : List Post) (t : List Event) (bound node : ℕ) (known : (b : Br
     rows_on (steps.Acts {k = k} l below acts.Seal why) may voted found all = seal_rows k.stored _ (sealed_of k.clock l (own_changes k l.me) None) may voted all
     rows_on (steps.Acts {k = k} l below (acts.SealAndPass i) why) may voted found all = seal_rows k.stored _ (sealed_of k.clock l (own_changes k l.me) (Some i)) may voted all
     rows_on (steps.Acts {k = k} l below acts.Decide why) may voted found all = decide_rows k.stored _ (decided_of (k.clock + 1) l (own_changes k l.me)) may voted all
-    rows_on (steps.Acts l below acts.Rest why) may voted found all = more _ _ all
-    rows_on (steps.Acts l below acts.AskDown why) may voted found all = more _ _ all
-    rows_on (steps.Acts l below acts.SayReadOnly why) may voted found all = more _ _ all
-    rows_on (steps.Acts l below acts.SayReady why) may voted found all = more _ _ all
-    rows_on (steps.Acts l below acts.Finish why) may voted found all = more _ _ all
-    rows_on (steps.Acts l below acts.Abandon why) may voted found all = more _ _ all
     rows_on (steps.Does {k = k} s from (nexts.End d) kept why) may voted found all = ended_rows k.stored s kept found all d from (ends_why why)
     rows_on (steps.Does {k = k} s from (nexts.Meet d mixed) kept why) may voted found all = met_rows k.stored s kept found all d mixed from (meets_why why)
     rows_on (steps.Does {k = k} s from nexts.Forget kept why) may voted found all = forgot_rows k.stored (to_beyond s kinds.Forgotten) s.me (but s.me k.stored.durable.kept all)
-    rows_on (steps.Does s from nexts.Rest kept why) may voted found all = more _ _ all
-    rows_on (steps.Does s from nexts.AckToward kept why) may voted found all = more _ _ all
-    rows_on (steps.Does s from nexts.SayForgotten kept why) may voted found all = more _ _ all
-    rows_on (steps.Does s from nexts.SayAck kept why) may voted found all = more _ _ all
     rows_on (steps.Makes_record {k = k} n s r d call (steps.Makes_table x free)) may voted found all = table_rows k.stored _ x all
     rows_on (steps.Makes_record {k = k} n s r d call (steps.Makes_link x free)) may voted found all = link_rows k.stored _ x all
     rows_on (steps.Makes_record {k = k} n s r d call (steps.Makes_synonym x free)) may voted found all = synonym_rows k.stored _ x all
@@ -204,6 +194,5 @@ module _ (said : List Post) (t : List Event) (bound node : ℕ) (known : (b : Br
     rows_on (steps.Forces_commit {k = k} n id b call named) may voted found all = forced_rows k.stored [] b (decisions.Commit (k.clock + 1)) false all
     rows_on (steps.Forces_rollback {k = k} n id b call named) may voted found all = forced_rows k.stored [] b decisions.Rollback false all
     rows_on (steps.Hides {k = k} n mixed id s call is) may voted found all = hidden_rows k.stored [] s.me all
-    rows_on (steps.Gives_up_commit n b (Some l) gives has calls live) may voted found all = more _ _ all
     rows_on (steps.Gives_up_commit n b None gives has calls live) may voted found all = more _ _ all
     rows_on _ may voted found all = more _ _ all

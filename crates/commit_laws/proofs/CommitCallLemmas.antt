@@ -10,6 +10,7 @@ use Rattle.node_rules.specs.Sessions.{session_at, with_call}
 use Rattle.node_rules.specs.Client.{begun_by}
 use Rattle.node_rules.proofs.Steps.{HasRoot, IsOfRows}
 use Rattle.node_rules.proofs.StandLemmas.{call_set}
+use Rattle.run_base_laws.proofs.LiveStepLemmas.{LastsInTurn}
 
 module _ (Q : Live → Type 0) (p : Place) (input : Input) where
   -- it is so of the live root of the session to which a COMMIT comes
@@ -30,3 +31,7 @@ module _ (Q : Live → Type 0) (p : Place) (input : Input) where
       let same_root : (session_at (with_call k.sessions n pending.Commit) n).root ≡ (session_at k.sessions n).root = ap (λ s. s.root) (call_set k.sessions n l.me pending.Commit root) in
       let at : (session_at (with_call k.sessions n pending.Commit) n).root ≡ Some x.me = subst (λ i. (session_at (with_call k.sessions n pending.Commit) i).root ≡ Some x.me) (sym it) has in
       so n given x call (sym same_root ∙ at) live
+
+  -- so it is known through a turn
+  pub commit_lasts : LastsInTurn p input OfCommit
+  commit_lasts = record { begun = λ k n s call rows free so. begun_commit k n s call rows; pends = λ k n l given call has so. pends_commit k n l given call has so; lets = λ k b so. so; acked = λ k s from kept came so. so }

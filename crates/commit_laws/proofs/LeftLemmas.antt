@@ -32,7 +32,8 @@ use Rattle.run_base_laws.proofs.SaidPostLemmas.{posts_back, posts_of, said_after
 use Rattle.tree_laws.proofs.AnswerRunLemmas.{lives_heard}
 use Rattle.tree_laws.proofs.AskLemmas.{sent_more, sent_new}
 use Rattle.tree_laws.proofs.PrefixLemmas.{so_far, f_at, e_at, one_on, more_on}
-use Rattle.tree_laws.proofs.SealLemmas.{IsSealOf, wrote_seal, later_unsealed}
+use Rattle.run_branch_laws.proofs.KeptRowLemmas.{IsSealOf, wrote_seal}
+use Rattle.tree_laws.proofs.SealLemmas.{later_unsealed}
 use Rattle.tree_laws.proofs.SiteLemmas.{IsDecisionOf, wrote_decision, later_undecided}
 use Rattle.tree_laws.proofs.WhyLemmas.{WroteWhy, why_on}
 use Rattle.tree_laws.specs.LeaveLaws.{LeftSo}

@@ -1,5 +1,5 @@
 -- Which steps of a node say Prepare: those in which the collect of a working branch with children begins.
-use Rattle.std.proofs.Common.{◌≡◌, ℕ, ◌+◌, ◌-◌, Bool, List, map, length, Option, Some, None, inl, inr, refl, subst}
+use Rattle.std.proofs.Common.{◌≡◌, ℕ, ◌+◌, ◌-◌, Bool, List, map, length, Option, Some, inl, inr, refl, subst}
 use Rattle.std.specs.Prelude.{◌⊎◌}
 use Rattle.commit_forget.specs.declared.next.Next.TheVariants as nexts
 use Rattle.session_tree.specs.Live.{children_of, peer_of, new_edge}
@@ -106,8 +106,6 @@ module _ (k0 : NodeState) (p : Place) (input : Input) where
   asks_on (steps.Does s from nexts.Forget kept why) near work = inl (each_says IsPlain s.me kinds.Forgotten _ refl)
   asks_on (steps.Does s from nexts.SayForgotten kept why) near work = inl (refl, tt)
   asks_on (steps.Does s from nexts.SayAck kept why) near work = inl (refl, tt)
-  asks_on (steps.Does s from nexts.Rest kept why) near work = inl tt
   asks_on (steps.Rolls_back n x call has live) near work = inl (rolled_plain x.live)
   asks_on (steps.Gives_up_commit n b (Some l) gives has calls live) near work = inl (rolled_plain l)
-  asks_on (steps.Gives_up_commit n b None gives has calls live) near work = inl tt
   asks_on _ near work = inl tt

@@ -1,23 +1,17 @@
 -- Each step of a node leaves its live branches so that those that are Ready have said so to their parents.
-use Rattle.std.proofs.Common.{◌≡◌, ℕ, ◌&&◌, ◌||◌, Bool, true, false, List, Option, Some, None, refl}
+use Rattle.std.proofs.Common.{◌≡◌, ◌&&◌, ◌||◌, Bool, true, false, List, Option, Some, None, refl, subst}
 use Rattle.std.specs.List.{AllByRecursion}
 use Rattle.tran_ids.proofs.BranchLemmas.{same_from_equal}
-use Rattle.commit_forget.specs.declared.next.Next.TheVariants as nexts
-use Rattle.session_tree.specs.Live.{new_edge}
-use Rattle.node_rules.specs.Data.{Live, Act, BranchId, Kind, Place, Post, Input, Stmt}
+use Rattle.node_rules.specs.Data.{Live, BranchId, Kind, Place, Post, Input}
 use Rattle.node_rules.specs.Data.acts
 use Rattle.node_rules.specs.Data.kinds
 use Rattle.node_rules.specs.Data.phases
 use Rattle.node_rules.specs.Words.{same}
-use Rattle.node_rules.specs.NodeState.{NodeState, Branch, TurnDraft, live_id, branch_at, to_one}
-use Rattle.node_rules.specs.Statement.{ran, after_run}
-use Rattle.node_rules.specs.Calls.{with_edge, hears_reply}
-use Rattle.node_rules.specs.Prepare.{ready, act_turn}
-use Rattle.node_rules.proofs.Steps as steps
-use Rattle.node_rules.proofs.Steps.{Step, Asked, Acting}
-use Rattle.node_rules.proofs.StandLemmas.{live_so}
+use Rattle.node_rules.specs.NodeState.{NodeState, TurnDraft, to_one}
+use Rattle.node_rules.specs.Prepare.{act_turn}
+use Rattle.node_rules.proofs.Steps.{Step}
 use Rattle.run_branch_laws.specs.WalkLaws.{was_sent}
-use Rattle.run_base_laws.proofs.OwnLemmas.{all_found, all_with, all_without, all_last}
+use Rattle.run_base_laws.proofs.LiveStepLemmas.{LiveCases, nothing_lasts, acting_by, left_by, lives_on}
 use Rattle.commit_laws.specs.DeliveryLaws.{is_answer}
 
 all_three : (p q r s : Bool) → p ≡ true → q ≡ true → r ≡ true → (((p && q) && r) || s) ≡ true
@@ -46,57 +40,19 @@ module _ (all : List Post) where
   Adds says = (b q : BranchId) → was_sent is_answer says b q ≡ true → was_sent is_answer all b q ≡ true
 
   module _ (p : Place) (input : Input) where
-    module _ (k : NodeState) (now : AllAnswered k) where
-      found : (x : Branch) → branch_at k x.live.me ≡ Some x → Answered x.live
-      found x at = all_found Answered live_id k.lives x.live.me x.live now (live_so k x.live.me x at)
-
-      asked_so : {x : Branch} {s : Stmt} {given : ℕ} → Asked k input x s given → Answered x.live
-      asked_so (steps.By_call n x s call rows has code live) = found x live
-      asked_so (steps.By_exec x from call given advice s came live runs) = found x live
-
-      acting_so : {l : Live} {below : Bool} {a : Act} → Acting k input l below a → Answered l
-      acting_so (steps.Asks_down l comment below e es live begins some) = λ is. absurd cc
-      acting_so (steps.Has_no_children l comment below a live begins none collected) = λ is. absurd cc
-      acting_so (steps.Hears_abort l from below live answers) = all_found Answered live_id k.lives l.me l now live
-      acting_so (steps.Waits_on l from v below live answers not some) = all_found Answered live_id k.lives l.me l now live
-      acting_so (steps.Hears_last l from v below a live answers not every collected) = all_found Answered live_id k.lives l.me l now live
-      acting_so (steps.At_point l from a live came is pointed) = all_found Answered live_id k.lives l.me l now live
-
-      acts_so : (l : Live) (below : Bool) (a : Act) → Adds (act_turn k l below a).says → Answered l → AllAnswered (act_turn k l below a).after
-      acts_so l below acts.Rest adds so = all_with Answered live_id k.lives l now so
-      acts_so l below acts.AskDown adds so = all_with Answered live_id k.lives l now so
-      acts_so l below acts.SayReady adds so = all_with Answered live_id k.lives (ready l) now (λ is q above. adds l.me q (one_sent is_answer l.me kinds.Ready l.parent q refl above))
-      acts_so l below acts.SayReadOnly adds so = all_without Answered live_id k.lives l.me now
-      acts_so l below acts.Seal adds so = all_without Answered live_id k.lives l.me now
-      acts_so l below (acts.SealAndPass i) adds so = all_without Answered live_id k.lives l.me now
-      acts_so l below acts.Decide adds so = all_without Answered live_id k.lives l.me now
-      acts_so l below acts.Finish adds so = all_without Answered live_id k.lives l.me now
-      acts_so l below acts.Abandon adds so = all_without Answered live_id k.lives l.me now
+    each : LiveCases p input (λ k. Unit {0}) (λ d. Adds d.says) Answered
+    each = record {
+      lasts = nothing_lasts p input;
+      root = λ k n s call rows free c is. absurd cc;
+      child = λ k to parent edge root depth came new c is. absurd cc;
+      advised = λ l advice so. so;
+      runs = λ k x s t so. so;
+      opens = λ k x from strength g link opened c so. so;
+      replies = λ k x weight count a i e answered so. so;
+      acts = λ k l below a why c adds all.
+          left_by Answered l a (λ says so is q above. subst (λ z. Adds (act_turn k l below z).says) says adds l.me q (one_sent is_answer l.me kinds.Ready l.parent q refl above))
+          (acting_by Answered (λ x comment b live begins so is. absurd cc) (λ x from v b answers so. so) all why);
+    }
 
     pub answered_on : {k : NodeState} {d : TurnDraft} → Step p input k d → Adds d.says → AllAnswered k → AllAnswered d.after
-    answered_on (steps.Begins {k = k} n s call rows range free step) adds now = answered_on step adds (all_last Answered live_id k.lives _ now (λ is. absurd cc))
-    answered_on (steps.Pends n l given call has live code step) adds now = answered_on step adds now
-    answered_on (steps.Lets_reads_go l comment below live begins step) adds now = answered_on step adds now
-    answered_on (steps.Counts_ack s from kept came counts step) adds now = answered_on step adds now
-    answered_on (steps.Runs {k = k} x s given t asked way) adds now = all_with Answered live_id k.lives (after_run x.live (ran p k x.live.me s t)) now (asked_so k now asked)
-    answered_on (steps.Goes_nowhere {k = k} x s given r asked way) adds now = all_with Answered live_id k.lives x.live now (asked_so k now asked)
-    answered_on (steps.Calls {k = k} x s given i table asked way) adds now = all_with Answered live_id k.lives x.live now (asked_so k now asked)
-    answered_on (steps.Opens {k = k} x s given node link table asked way) adds now = all_with Answered live_id k.lives x.live now (asked_so k now asked)
-    answered_on (steps.Goes_on {k = k} x from strength g link opened) adds now = all_with Answered live_id k.lives (with_edge x (new_edge from link strength)).live now (found k now x opened.live)
-    answered_on (steps.Hears_reply {k = k} x weight count a i e answered) adds now = all_with Answered live_id k.lives (hears_reply x i weight count e).live now (found k now x answered.live)
-    answered_on (steps.Opens_branch {k = k} to parent edge root depth came new) adds now = all_last Answered live_id k.lives _ now (λ is. absurd cc)
-    answered_on (steps.Acts {k = k} l below a why) adds now = acts_so k now l below a adds (acting_so k now why)
-    answered_on (steps.Drops_told {k = k} l live drops) adds now = all_without Answered live_id k.lives l.me now
-    answered_on (steps.Drops_asked {k = k} l from live came parent) adds now = all_without Answered live_id k.lives l.me now
-    answered_on (steps.Does s from (nexts.End d) kept why) adds now = now
-    answered_on (steps.Does s from (nexts.Meet d mixed) kept why) adds now = now
-    answered_on (steps.Does s from nexts.AckToward kept why) adds now = now
-    answered_on (steps.Does s from nexts.Forget kept why) adds now = now
-    answered_on (steps.Does s from nexts.SayForgotten kept why) adds now = now
-    answered_on (steps.Does s from nexts.SayAck kept why) adds now = now
-    answered_on (steps.Does s from nexts.Rest kept why) adds now = now
-    answered_on (steps.Rolls_back {k = k} n x call has live) adds now = all_without Answered live_id k.lives x.live.me now
-    answered_on (steps.Gives_up {k = k} n x gives has calls live) adds now = all_with Answered live_id k.lives x.live now (found k now x live)
-    answered_on (steps.Gives_up_commit {k = k} n b0 (Some l) gives has calls live) adds now = all_without Answered live_id k.lives l.me now
-    answered_on (steps.Gives_up_commit n b0 None gives has calls live) adds now = now
-    answered_on _ adds now = now
+    answered_on step adds now = lives_on each step tt adds now

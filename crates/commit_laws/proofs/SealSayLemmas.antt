@@ -31,25 +31,8 @@ module _ (p : Place) (input : Input) where
   seal_says (steps.Counts_ack s from kept came counts step) = seal_says step
   seal_says (steps.Acts l below acts.Seal why) = λ toward. refl
   seal_says (steps.Acts l below (acts.SealAndPass i) why) = λ toward. absurd cc
-  seal_says (steps.Acts l below acts.Decide why) = tt
-  seal_says (steps.Acts l below acts.Rest why) = tt
-  seal_says (steps.Acts l below acts.AskDown why) = tt
-  seal_says (steps.Acts l below acts.SayReadOnly why) = tt
-  seal_says (steps.Acts l below acts.SayReady why) = tt
-  seal_says (steps.Acts l below acts.Finish why) = tt
-  seal_says (steps.Acts l below acts.Abandon why) = tt
-  seal_says (steps.Does s from (nexts.End d) kept why) = tt
-  seal_says (steps.Does s from (nexts.Meet d mixed) kept why) = tt
-  seal_says (steps.Does s from nexts.Forget kept why) = tt
   seal_says (steps.Does s from nexts.Rest kept why) = tt
-  seal_says (steps.Does s from nexts.AckToward kept why) = tt
-  seal_says (steps.Does s from nexts.SayForgotten kept why) = tt
-  seal_says (steps.Does s from nexts.SayAck kept why) = tt
-  seal_says (steps.Makes_record n s r d call (steps.Makes_table x free)) = tt
-  seal_says (steps.Makes_record n s r d call (steps.Makes_link x free)) = tt
-  seal_says (steps.Makes_record n s r d call (steps.Makes_synonym x free)) = tt
   seal_says (steps.Makes_record n s r d call (steps.Sets_recovery on)) = tt
-  seal_says (steps.Gives_up_commit n b (Some l) gives has calls live) = tt
   seal_says (steps.Gives_up_commit n b None gives has calls live) = tt
   seal_says _ = tt
 

@@ -47,12 +47,7 @@ module _ (c : Option BranchId) (k : NodeState) (l : Live) (below : Bool) (so : S
   acted acts.Rest y live = kept_so y live
   acted acts.AskDown y live = kept_so y live
   acted acts.SayReady y live = ready_so y live
-  acted acts.SayReadOnly y live = left y live
-  acted acts.Seal y live = left y live
-  acted (acts.SealAndPass i) y live = left y live
-  acted acts.Decide y live = left y live
-  acted acts.Finish y live = left y live
-  acted acts.Abandon y live = left y live
+  acted _ y live = left y live
 
 -- ---- Prepare
 

@@ -139,14 +139,12 @@ module _ (Q : BranchId → ℕ → Type 0) (p : Place) (input : Input) where
       inl (exec_opens k.sessions (with_edge x (new_edge from link strength)) (length x.live.edges + 1) g.statement (g.room - 1) (peer_of (with_edge x (new_edge from link strength)).live (length x.live.edges + 1)))
   opens_on (steps.Hears_reply x weight count a i e answered) finds begins = inl (answer_opens (hears_reply x i weight count e) _ x.live.parent)
   opens_on (steps.Opens_branch to parent edge root depth came new) finds begins = inl (tt, tt)
-  opens_on (steps.Acts l b acts.Rest why) finds begins = inl tt
   opens_on (steps.Acts l b acts.AskDown why) finds begins = inl (prepares_say IsNoOpen (λ q c. tt) l.me l.comment (path_of b (step_from l)) 1 l.edges)
   opens_on (steps.Acts l b acts.SayReadOnly why) finds begins = inl (one_says IsNoOpen l.me kinds.ReadOnly l.parent tt)
   opens_on (steps.Acts l b acts.SayReady why) finds begins = inl (one_says IsNoOpen l.me kinds.Ready l.parent tt)
   opens_on (steps.Acts l b acts.Seal why) finds begins = inl (one_says IsNoOpen l.me kinds.Prepared l.parent tt)
   opens_on (steps.Acts l b (acts.SealAndPass i) why) finds begins = inl (one_says IsNoOpen l.me kinds.CommitPoint (peer_of l i) tt)
   opens_on (steps.Acts {k = k} l b acts.Decide why) finds begins = inl (each_says IsNoOpen l.me (kinds.Committed (k.clock + 1)) (site_neighbors l) tt)
-  opens_on (steps.Acts l b acts.Finish why) finds begins = inl tt
   opens_on (steps.Acts l b acts.Abandon why) finds begins = inl (all_append (λ x. IsNoOpen x.kind) (to_one l.me kinds.Abort l.parent) _ (one_says IsNoOpen l.me kinds.Abort l.parent tt) (rolled l))
   opens_on (steps.Drops_told l live drops) finds begins = inl (rolled l)
   opens_on (steps.Drops_asked l from live came parent) finds begins = inl (tt, rolled l)
@@ -156,8 +154,6 @@ module _ (Q : BranchId → ℕ → Type 0) (p : Place) (input : Input) where
   opens_on (steps.Does s from nexts.Forget kept why) finds begins = inl (each_says IsNoOpen s.me kinds.Forgotten (map (λ b. b.branch) (beyond s)) tt)
   opens_on (steps.Does s from nexts.SayForgotten kept why) finds begins = inl (tt, tt)
   opens_on (steps.Does s from nexts.SayAck kept why) finds begins = inl (tt, tt)
-  opens_on (steps.Does s from nexts.Rest kept why) finds begins = inl tt
   opens_on (steps.Rolls_back n x call has live) finds begins = inl (rolled x.live)
   opens_on (steps.Gives_up_commit n b (Some l) gives has calls live) finds begins = inl (rolled l)
-  opens_on (steps.Gives_up_commit n b None gives has calls live) finds begins = inl tt
   opens_on _ finds begins = inl tt

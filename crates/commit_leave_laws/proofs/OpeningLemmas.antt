@@ -52,22 +52,7 @@ opens_grow p input (steps.Lets_reads_go l comment site_below live begins step) =
 opens_grow p input (steps.Counts_ack s from kept came counts step) = opens_grow p input step
 opens_grow p input (steps.Opens_branch {k = k} to parent edge root depth came new) = λ b i o is. find_kept (is_opening b i) k.opens (new_opening p k parent edge ∷ []) o is
 opens_grow p input (steps.Acts l b acts.Rest why) = λ c i o is. is
-opens_grow p input (steps.Acts l b acts.AskDown why) = λ c i o is. is
-opens_grow p input (steps.Acts l b acts.SayReadOnly why) = λ c i o is. is
-opens_grow p input (steps.Acts l b acts.SayReady why) = λ c i o is. is
-opens_grow p input (steps.Acts l b acts.Seal why) = λ c i o is. is
-opens_grow p input (steps.Acts l b (acts.SealAndPass j) why) = λ c i o is. is
-opens_grow p input (steps.Acts l b acts.Decide why) = λ c i o is. is
-opens_grow p input (steps.Acts l b acts.Finish why) = λ c i o is. is
-opens_grow p input (steps.Acts l b acts.Abandon why) = λ c i o is. is
-opens_grow p input (steps.Does s from (nexts.End e) kept why) = λ c i o is. is
-opens_grow p input (steps.Does s from (nexts.Meet e mixed) kept why) = λ c i o is. is
 opens_grow p input (steps.Does s from nexts.Rest kept why) = λ c i o is. is
-opens_grow p input (steps.Does s from nexts.AckToward kept why) = λ c i o is. is
-opens_grow p input (steps.Does s from nexts.Forget kept why) = λ c i o is. is
-opens_grow p input (steps.Does s from nexts.SayForgotten kept why) = λ c i o is. is
-opens_grow p input (steps.Does s from nexts.SayAck kept why) = λ c i o is. is
-opens_grow p input (steps.Gives_up_commit n b (Some l) gives has calls live) = λ c i o is. is
 opens_grow p input (steps.Gives_up_commit n b None gives has calls live) = λ c i o is. is
 opens_grow p input _ = λ c i o is. is
 

@@ -114,10 +114,8 @@ module _ (p : Place) (input : Input) where
   lows_on (steps.Does s from nexts.Forget kept why) = each_says IsLow s.me kinds.Forgotten _ tt
   lows_on (steps.Does s from nexts.SayForgotten kept why) = (tt, tt)
   lows_on (steps.Does s from nexts.SayAck kept why) = (tt, tt)
-  lows_on (steps.Does s from nexts.Rest kept why) = tt
   lows_on (steps.Rolls_back n x call has live) = rolled_low x.live
   lows_on (steps.Gives_up_commit n b (Some l) gives has calls live) = rolled_low l
-  lows_on (steps.Gives_up_commit n b None gives has calls live) = tt
   lows_on _ = tt
 
 stamped_low : (clock : ℕ) (ms : List Post) → AllSay IsLow ms → AllByRecursion (λ m. IsLow m.kind) (map (stamped clock) ms)

@@ -101,12 +101,7 @@ module _ (k : NodeState) (l : Live) (busy : l.phase ≢ phases.Working) where
   act_works b acts.Rest c y at works = put_works l busy c y _ at works (put_or_before live_id k.lives l c)
   act_works b acts.AskDown c y at works = put_works l busy c y _ at works (put_or_before live_id k.lives l c)
   act_works b acts.SayReady c y at works = put_works (ready l) (λ is. absurd cc) c y _ at works (put_or_before live_id k.lives (ready l) c)
-  act_works b acts.SayReadOnly c y at works = drop_works c y at
-  act_works b acts.Seal c y at works = drop_works c y at
-  act_works b (acts.SealAndPass i) c y at works = drop_works c y at
-  act_works b acts.Decide c y at works = drop_works c y at
-  act_works b acts.Finish c y at works = drop_works c y at
-  act_works b acts.Abandon c y at works = drop_works c y at
+  act_works b _ c y at works = drop_works c y at
 
 -- ---- kept branches
 

@@ -104,12 +104,7 @@ module _ (k0 : NodeState) (input : Input) where
     point_why (steps.Does s from nexts.Forget kept why) near = each_says IsOther s.me kinds.Forgotten _ refl
     point_why (steps.Does s from nexts.SayForgotten kept why) near = (refl, tt)
     point_why (steps.Does s from nexts.SayAck kept why) near = (refl, tt)
-    point_why (steps.Does s from nexts.Rest kept why) near = tt
-    point_why (steps.Makes_record n s r d call (steps.Makes_table t free)) near = tt
-    point_why (steps.Makes_record n s r d call (steps.Makes_link l free)) near = tt
-    point_why (steps.Makes_record n s r d call (steps.Makes_synonym y free)) near = tt
     point_why (steps.Makes_record n s r d call (steps.Sets_recovery on)) near = tt
     point_why (steps.Rolls_back n x call has live) near = rolled x.live
     point_why (steps.Gives_up_commit n b (Some l) gives has calls live) near = rolled l
-    point_why (steps.Gives_up_commit n b None gives has calls live) near = tt
     point_why _ near = tt

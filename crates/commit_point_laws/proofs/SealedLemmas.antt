@@ -22,7 +22,8 @@ use Rattle.run_base_laws.proofs.OwnLemmas.{all_found}
 use Rattle.run_base_laws.proofs.SaidPostLemmas.{posts_back, posts_of, said_after}
 use Rattle.tree_laws.proofs.AskLemmas.{sent_new}
 use Rattle.tree_laws.proofs.PrefixLemmas.{f_at, e_at, one_on, more_on}
-use Rattle.tree_laws.proofs.SealLemmas.{IsSealOf, wrote_seal, later_unsealed}
+use Rattle.run_branch_laws.proofs.KeptRowLemmas.{IsSealOf, wrote_seal}
+use Rattle.tree_laws.proofs.SealLemmas.{later_unsealed}
 use Rattle.node_rules.specs.NodeState.{live_id}
 use Rattle.tree_laws.specs.LeaveLaws.{LeftSo}
 use Rattle.tree_laws.proofs.FateLemmas.{drops_alone}

@@ -119,14 +119,10 @@ module _ (p : Place) (input : Input) (calm : ForcesNone input) where
   unforced_on (steps.Counts_ack s from kept came counts step) = unforced_on step
   unforced_on (steps.Acts l below acts.Rest why) = tt
   unforced_on (steps.Does s from nexts.Rest kept why) = tt
-  unforced_on (steps.Makes_record n s r d call (steps.Makes_table x free)) = tt
-  unforced_on (steps.Makes_record n s r d call (steps.Makes_link x free)) = tt
-  unforced_on (steps.Makes_record n s r d call (steps.Makes_synonym x free)) = tt
   unforced_on (steps.Makes_record n s r d call (steps.Sets_recovery on)) = tt
   unforced_on (steps.Forces_given n id m b call named) = absurd (calm n (stmts.CommitForce id (Some m)) call tt)
   unforced_on (steps.Forces_commit n id b call named) = absurd (calm n (stmts.CommitForce id None) call tt)
   unforced_on (steps.Forces_rollback n id b call named) = absurd (calm n (stmts.RollbackForce id) call tt)
-  unforced_on (steps.Gives_up_commit n b (Some l) gives has calls live) = tt
   unforced_on (steps.Gives_up_commit n b None gives has calls live) = tt
   unforced_on _ = tt
 

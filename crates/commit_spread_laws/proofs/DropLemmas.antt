@@ -1,56 +1,27 @@
 -- A branch that is dropped in a turn: no record ended it, and it did not say ReadOnly. What a whole turn leaves of a node's live branches.
-use Rattle.std.proofs.Common.{◌≡◌, ℕ, ◌&&◌, ◌||◌, Bool, true, false, if◌then◌else◌, List, [], ◌∷◌, map, Option, Some, None, inl, inr, refl, sym, ap, subst, ◌∙◌}
+use Rattle.std.proofs.Common.{◌≡◌, ℕ, ◌&&◌, ◌||◌, Bool, true, false, if◌then◌else◌, List, [], ◌∷◌, map, Option, Some, None, refl, sym, ap, subst, ◌∙◌}
 use Rattle.std.specs.Prelude.{◌⊎◌}
 use Rattle.std.specs.List.{list_any}
-use Rattle.agreement.specs.Events.{Event, Exit, Sealed, Decided, Quiet, Dropped, Answer_read_only, Drop, first, only_at, exit_by, exit}
-use Rattle.agreement.proofs.EventLemmas.{first_is, only_at_is, only_at_same}
+use Rattle.agreement.specs.Events.{Event, Sealed, Decided, Dropped, first, only_at, exit}
+use Rattle.agreement.proofs.EventLemmas.{only_at_same}
 use Rattle.node_rules.specs.Data.{BranchId, Live, Msg, RedoRecord, Sealed as SealedRecord, Decided as DecidedRecord}
 use Rattle.node_rules.specs.Data.records
 use Rattle.node_rules.specs.Words.{same, item_at}
 use Rattle.node_rules.specs.NodeState.{live_id}
 use Rattle.run_rules.specs.Branches.{is_among}
-use Rattle.run_base_laws.specs.RunEvents.{with_event, wrote_event, leave_event, has_left, with_leaver, with_leavers}
+use Rattle.run_base_laws.specs.RunEvents.{with_event, wrote_event, with_leavers}
 use Rattle.run_rules.specs.Trail.{is_quiet}
-use Rattle.tree_laws.proofs.LeaveLemmas.{first_none}
+use Rattle.tree_laws.proofs.LeaveLemmas.{all_left, wrote_left}
 
 -- ---- exits
 
-module _ (after : List BranchId) (sent : List Msg) where
-  left_dropped : (b x : BranchId) (t : List Event) → exit (with_leaver after sent b t) x ≡ Some Dropped → (exit t x ≡ Some Dropped) ⊎ (list_any (is_quiet x) sent ≡ false)
-  left_dropped b x t is = by (has_left after t b) (list_any (is_quiet b) sent) refl is
-    where
-      by : (left quiet : Bool) → list_any (is_quiet b) sent ≡ quiet → exit (if left then leave_event sent b ∷ t else t) x ≡ Some Dropped → (exit t x ≡ Some Dropped) ⊎ (list_any (is_quiet x) sent ≡ false)
-      by false quiet told it = inl it
-      by true false told it = elim (first_is (exit t x) (exit_by (leave_event sent b) x) Dropped it) [
-        | inl old ↦ inl old
-        | inr new ↦ inr (subst (λ c. list_any (is_quiet c) sent ≡ false) (only_at_is b x Dropped Dropped (subst (λ q. exit_by (if q then Answer_read_only b else Drop b) x ≡ Some Dropped) told new.1)).0 told)
-      ]
-      by true true told it = elim (first_is (exit t x) (exit_by (leave_event sent b) x) Dropped it) [
-        | inl old ↦ inl old
-        | inr new ↦ (let at = only_at_is b x Quiet Dropped (subst (λ q. exit_by (if q then Answer_read_only b else Drop b) x ≡ Some Dropped) told new.1) in absurd (cc (at.1)))
-      ]
-
-  -- who is dropped with others did not say ReadOnly
-  pub all_dropped : (bs : List BranchId) (x : BranchId) (t : List Event) → exit (with_leavers after sent bs t) x ≡ Some Dropped → (exit t x ≡ Some Dropped) ⊎ (list_any (is_quiet x) sent ≡ false)
-  all_dropped [] x t is = inl is
-  all_dropped (b ∷ bs) x t is = elim (all_dropped bs x (with_leaver after sent b t) is) [ inl old ↦ left_dropped b x t old | inr new ↦ inr new ]
-
-none_dropped : (o : Option Exit) → first o None ≡ Some Dropped → o ≡ Some Dropped
-none_dropped o is = sym (first_none o) ∙ is
+-- who is dropped with others did not say ReadOnly
+pub all_dropped : (after : List BranchId) (sent : List Msg) (bs : List BranchId) (x : BranchId) (t : List Event) → exit (with_leavers after sent bs t) x ≡ Some Dropped → (exit t x ≡ Some Dropped) ⊎ (list_any (is_quiet x) sent ≡ false)
+all_dropped after sent bs x t is = all_left after sent false bs x t is
 
 -- no record drops
 pub wrote_dropped : (n : ℕ) (t : List Event) (w : Option RedoRecord) (b : BranchId) → exit (with_event (wrote_event n w) t) b ≡ Some Dropped → exit t b ≡ Some Dropped
-wrote_dropped n t None b is = is
-wrote_dropped n t (Some (records.Sealed r)) b is =
-    elim (first_is (exit t b) (only_at r.me b (Sealed r.scn)) Dropped is) [ inl old ↦ old | inr new ↦ (let at = only_at_is r.me b (Sealed r.scn) Dropped new.1 in absurd (cc (at.1))) ]
-wrote_dropped n t (Some (records.Decided r)) b is =
-    elim (first_is (exit t b) (only_at r.me b (Decided r.scn)) Dropped is) [ inl old ↦ old | inr new ↦ (let at = only_at_is r.me b (Decided r.scn) Dropped new.1 in absurd (cc (at.1))) ]
-wrote_dropped n t (Some (records.Ended c d)) b is = none_dropped (exit t b) is
-wrote_dropped n t (Some (records.Forced c d given)) b is = none_dropped (exit t b) is
-wrote_dropped n t (Some (records.Met c d mixed)) b is = none_dropped (exit t b) is
-wrote_dropped n t (Some (records.Forgot c)) b is = none_dropped (exit t b) is
-wrote_dropped n t (Some (records.Table table)) b is = none_dropped (exit t b) is
-wrote_dropped n t (Some _) b is = is
+wrote_dropped n t w b is = wrote_left false n t w b is
 
 -- a seal and a decision end their branch
 pub seal_ends : (n : ℕ) (t : List Event) (w : Option RedoRecord) (r : SealedRecord) (b : BranchId) → w ≡ Some (records.Sealed r) → r.me ≡ b → exit t b ≡ None → exit (with_event (wrote_event n w) t) b ≡ Some (Sealed r.scn)

@@ -25,7 +25,8 @@ use Rattle.run_base_laws.proofs.LaterLemmas.{exit_made, turn_added}
 use Rattle.run_base_laws.proofs.LawfulLemmas.{serves}
 use Rattle.run_rules.proofs.ListLemmas.{all_map}
 use Rattle.tree_laws.proofs.PrefixLemmas.{so_far, f_at, e_at}
-use Rattle.tree_laws.proofs.SealLemmas.{IsSealOf, wrote_seal, later_unsealed}
+use Rattle.run_branch_laws.proofs.KeptRowLemmas.{IsSealOf, wrote_seal}
+use Rattle.tree_laws.proofs.SealLemmas.{later_unsealed}
 use Rattle.tree_laws.proofs.SettleLemmas.{live_in}
 use Rattle.tree_laws.proofs.SiteLemmas.{IsDecisionOf, wrote_decision, later_undecided}
 use Rattle.tree_laws.proofs.WhyLemmas.{Near, ActsIn, seal_act, WroteWhy, SaidWhy, why_on}

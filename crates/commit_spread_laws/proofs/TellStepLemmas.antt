@@ -158,29 +158,10 @@ module _ (k0 : NodeState) (input : Input) where
     tells_on (steps.Counts_ack s from kept came counts step) near = tells_on step (λ no. absurd (no from s.me came))
     tells_on (steps.Acts {k = k} l below acts.Decide why) near =
         λ x named. each_sent (is_commit_at (k.clock + 1)) l.me (kinds.Committed (k.clock + 1)) (same_number (k.clock + 1)) x (site_neighbors l) (neighbor_named l x named)
-    tells_on (steps.Acts l below acts.Seal why) near = tt
-    tells_on (steps.Acts l below (acts.SealAndPass i) why) near = tt
-    tells_on (steps.Acts l below acts.Rest why) near = tt
-    tells_on (steps.Acts l below acts.AskDown why) near = tt
-    tells_on (steps.Acts l below acts.SayReadOnly why) near = tt
-    tells_on (steps.Acts l below acts.SayReady why) near = tt
-    tells_on (steps.Acts l below acts.Finish why) near = tt
-    tells_on (steps.Acts l below acts.Abandon why) near = tt
     tells_on (steps.Does {k = k} s from (nexts.End (decisions.Commit n)) kept (steps.Ends_so _ brings toward none state met)) near =
         (s, row_there k near s brings kept, λ x there. commit_sent s n (beyond s) x there)
-    tells_on (steps.Does s from (nexts.End decisions.Rollback) kept why) near = tt
     tells_on (steps.Does {k = k} s from (nexts.Meet (decisions.Commit n) mixed) kept (steps.Meets_so _ brings toward none sealed committed met)) near =
         (s, row_there k near s brings kept, λ x there. commit_sent s n (beyond s) x there)
-    tells_on (steps.Does s from (nexts.Meet decisions.Rollback mixed) kept why) near = tt
-    tells_on (steps.Does s from nexts.Forget kept why) near = tt
-    tells_on (steps.Does s from nexts.Rest kept why) near = tt
-    tells_on (steps.Does s from nexts.AckToward kept why) near = tt
-    tells_on (steps.Does s from nexts.SayForgotten kept why) near = tt
-    tells_on (steps.Does s from nexts.SayAck kept why) near = tt
-    tells_on (steps.Makes_record n s r d call (steps.Makes_table x free)) near = tt
-    tells_on (steps.Makes_record n s r d call (steps.Makes_link x free)) near = tt
-    tells_on (steps.Makes_record n s r d call (steps.Makes_synonym x free)) near = tt
     tells_on (steps.Makes_record n s r d call (steps.Sets_recovery on)) near = tt
-    tells_on (steps.Gives_up_commit n b (Some l) gives has calls live) near = tt
     tells_on (steps.Gives_up_commit n b None gives has calls live) near = tt
     tells_on _ near = tt

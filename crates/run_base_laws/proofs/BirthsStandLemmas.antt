@@ -9,14 +9,14 @@ use Rattle.node_rules.specs.Data.kinds
 use Rattle.node_rules.specs.Data.inputs
 use Rattle.node_rules.specs.Words.{numbered}
 use Rattle.node_rules.specs.Inputs.{Came, IsFit}
-use Rattle.node_rules.specs.NodeState.{NodeState, TurnDraft}
+use Rattle.node_rules.specs.NodeState.{NodeState}
 use Rattle.node_rules.specs.Calls.{next_child}
 use Rattle.node_rules.specs.Client.{new_root}
-use Rattle.node_rules.specs.Turn.{turn_of, heard, draft_of, stamped}
+use Rattle.node_rules.specs.Turn.{turn_of, heard, stamped}
 use Rattle.run_rules.specs.Data.{Took, Turn, Command}
 use Rattle.run_rules.specs.Data.happenings
 use Rattle.run_rules.specs.Branches.{is_among}
-use Rattle.run_rules.specs.Facts.{Facts, place_at, node_at, records_at, kept_after, facts_after}
+use Rattle.run_rules.specs.Facts.{Facts, place_at, node_at, records_at, kept_after}
 use Rattle.run_rules.specs.Lawful.{IsPlace, MayTurn, IsOwed, Comes, boots}
 use Rattle.run_base_laws.specs.RunEvents.{lives_at, with_happening}
 use Rattle.run_base_laws.specs.NodeLaws.{count_of}
@@ -36,6 +36,7 @@ use Rattle.run_base_laws.proofs.TurnEventLemmas.{cases_nat, told, serving}
 use Rattle.run_base_laws.proofs.NeighborStepLemmas.{NamesSo, names_on}
 use Rattle.run_base_laws.proofs.BirthLemmas.{Begins, None_begins, Root_begins, Child_begins, begins_so, news_of, Bears, birth_bears, began_more, began_last, counted_last, found_last, turn_left, turn_leaves}
 use Rattle.run_base_laws.proofs.WiderLemmas.{below_wider, record_wider, names_wider, node_wider, goes_wider}
+use Rattle.run_base_laws.proofs.OneTurn.{one_turn}
 
 -- ---- what stands
 
@@ -76,20 +77,7 @@ module _ (places : List Place) (asked : List Command) (each : (n : ℕ) (p : Pla
   module _ (f : Facts) (t : List Event) (bs : List Born) (u : Turn) (k : NodeState) (now : NodesStand places f t) (even : length f.nodes ≡ length f.records)
       (node : (m : ℕ) (x : NodeState) → node_at f m ≡ Some x → Node (records_at f m) x) (owns : (m : ℕ) (x : NodeState) → node_at f m ≡ Some x → OwnAt (place_at places m) (records_at f m) x)
       (may : MayTurn places f u k) (number : (place_at places u.node).number ≡ u.node) (born : BirthsStand f t bs) where
-    abbrev n : ℕ
-    n = u.node
-
-    abbrev p : Place
-    p = place_at places u.node
-
-    abbrev rs : List RedoRecord
-    rs = records_at f u.node
-
-    abbrev d : TurnDraft
-    d = draft_of p k u.input
-
-    abbrev g : Facts
-    g = facts_after places asked f (happenings.Turn u)
+    open one_turn places asked f u k use {n, p, rs, d, g}
 
     abbrev r : List Event
     r = with_happening f g (happenings.Turn u) t

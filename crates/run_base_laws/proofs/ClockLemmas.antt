@@ -24,11 +24,11 @@ use Rattle.run_base_laws.proofs.NodeLemmas.{each_that_may, KeepsAlone, kept_alon
 
 module _ (p : Place) (input : Input) (clock : ℕ) where
   -- the clock is as high as it was, and the record comes later
-  abbrev Since : TurnDraft → Type 0
+  abbrev pub Since : TurnDraft → Type 0
   Since d = (clock ≤ d.after.clock) × IfSome d.wrote (IsLater clock)
 
   -- each step leaves it so
-  since : {k : NodeState} {d : TurnDraft} → Step p input k d → clock ≤ k.clock → Since d
+  pub since : {k : NodeState} {d : TurnDraft} → Step p input k d → clock ≤ k.clock → Since d
   since (steps.Begins n s call rows fit none step) now = since step now
   since (steps.Pends n l given call has live code step) now = since step now
   since (steps.Lets_reads_go l comment site_below live begins step) now = since step now

@@ -54,19 +54,9 @@ module _ (boot : ℕ) (b : BranchId) where
   given_on p input (steps.Acts {k = k} l site_below acts.Decide why) given = still k _ (ended_if_seqs k.sessions (is_alone l) l.me) given
   given_on p input (steps.Acts {k = k} l site_below acts.Finish why) given = still k _ (ended_seqs k.sessions l.me) given
   given_on p input (steps.Acts {k = k} l site_below acts.Abandon why) given = still k _ (abandoned_seqs k.sessions l l.parent) given
-  given_on p input (steps.Acts l site_below acts.Rest why) given = given
-  given_on p input (steps.Acts l site_below acts.AskDown why) given = given
-  given_on p input (steps.Acts l site_below acts.SayReadOnly why) given = given
-  given_on p input (steps.Acts l site_below acts.SayReady why) given = given
-  given_on p input (steps.Acts l site_below acts.Seal why) given = given
-  given_on p input (steps.Acts l site_below (acts.SealAndPass i) why) given = given
   given_on p input (steps.Does {k = k} s from (nexts.End d) kept why) given = still k _ (decided_seqs k.sessions s.me d) given
   given_on p input (steps.Does {k = k} s from (nexts.Meet d mixed) kept why) given = still k _ (decided_seqs k.sessions s.me d) given
   given_on p input (steps.Does {k = k} s from nexts.Forget kept why) given = still k _ (ended_seqs k.sessions s.me) given
-  given_on p input (steps.Does s from nexts.Rest kept why) given = given
-  given_on p input (steps.Does s from nexts.AckToward kept why) given = given
-  given_on p input (steps.Does s from nexts.SayForgotten kept why) given = given
-  given_on p input (steps.Does s from nexts.SayAck kept why) given = given
   given_on p input (steps.Forces_given {k = k} m id scn c call named) given = still k _ (ended_seqs k.sessions c) given
   given_on p input (steps.Forces_commit {k = k} m id c call named) given = still k _ (ended_seqs k.sessions c) given
   given_on p input (steps.Forces_rollback {k = k} m id c call named) given = still k _ (ended_seqs k.sessions c) given

@@ -11,9 +11,9 @@ use Rattle.node_rules.specs.Data.kinds
 use Rattle.node_rules.specs.declared.work.Work.{Work}
 use Rattle.node_rules.specs.Words.{numbered, set_numbered, item_at}
 use Rattle.node_rules.specs.Inputs.{Came}
-use Rattle.node_rules.specs.NodeState.{NodeState, Branch, TurnDraft, live_id, live_at, branch_at}
+use Rattle.node_rules.specs.NodeState.{NodeState, Branch, live_id, live_at, branch_at}
 use Rattle.node_rules.specs.Sessions.{session_at}
-use Rattle.node_rules.specs.Turn.{turn_of, start_of, made, heard, draft_of}
+use Rattle.node_rules.specs.Turn.{turn_of, start_of, made, heard}
 use Rattle.node_rules.proofs.Steps.{Step}
 use Rattle.node_rules.proofs.StandLemmas.{live_so}
 use Rattle.agreement.specs.Events.{Event}
@@ -46,6 +46,7 @@ use Rattle.run_base_laws.proofs.InTurnLemmas as turns
 use Rattle.run_base_laws.proofs.KidLemmas.{edge_of, parent_in, parent_of, child_edge, child_parent, kids_of, above_of, child_of}
 use Rattle.run_base_laws.proofs.InTurnStepLemmas.{NewBorn, Granted, turns_on}
 use Rattle.run_base_laws.proofs.SaidPostLemmas.{posts_back, posts_of, said_after, execs_are_low, replies_are_low, unborn_silent}
+use Rattle.run_base_laws.proofs.OneTurn.{one_turn}
 
 -- ---- what stands
 
@@ -96,20 +97,7 @@ module _ (places : List Place) (asked : List Command) (each : (n : ℕ) (p : Pla
     -- ---- a turn
 
     module _ (u : Turn) (k : NodeState) (may : MayTurn places f u k) where
-      abbrev n : ℕ
-      n = u.node
-
-      abbrev p : Place
-      p = place_at places u.node
-
-      abbrev d : TurnDraft
-      d = draft_of p k u.input
-
-      abbrev g : Facts
-      g = facts_after places asked f (happenings.Turn u)
-
-      abbrev said : List Post
-      said = said_in f
+      open one_turn places asked f u k use {n, p, d, g, said}
 
       pub number : p.number ≡ n
       number = number_is places asked each f u.node k stand.0.1.many may.up

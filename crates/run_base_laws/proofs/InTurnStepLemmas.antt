@@ -301,7 +301,6 @@ module _ (E : BranchId → Option ℕ) (A : BranchId → Option BranchId) (G Her
     turns_on (steps.Does {k = k} s from nexts.Forget kept why) granted ss news now = quiet k now _ (each_says IsDumb s.me kinds.Forgotten (map (λ b. b.branch) (beyond s)) (refl, refl))
     turns_on (steps.Does {k = k} s from nexts.SayForgotten kept why) granted ss news now = quiet k now _ ((refl, refl), tt)
     turns_on (steps.Does {k = k} s from nexts.SayAck kept why) granted ss news now = quiet k now _ ((refl, refl), tt)
-    turns_on (steps.Does {k = k} s from nexts.Rest kept why) granted ss news now = quiet k now [] tt
     turns_on (steps.Rolls_back {k = k} n x call has live) granted ss news now = goes_away k now x.live.me _ (each_says IsDumb x.live.me kinds.Rollback (children_of x.live) (refl, refl))
     turns_on (steps.Gives_up {k = k} n x gives has calls live) granted ss news now =
         let was : Begun x.live x.work = turns.branch_begun E A G Here input said received k now x live in
@@ -312,13 +311,4 @@ module _ (E : BranchId → Option ℕ) (A : BranchId → Option BranchId) (G Her
           dumbly k now [] tt,
         )
     turns_on (steps.Gives_up_commit {k = k} n b (Some l) gives has calls live) granted ss news now = goes_away k now l.me _ (each_says IsDumb l.me kinds.Rollback (children_of l) (refl, refl))
-    turns_on (steps.Gives_up_commit {k = k} n b None gives has calls live) granted ss news now = quiet k now [] tt
-    turns_on (steps.Rests {k = k}) granted ss news now = quiet k now [] tt
-    turns_on (steps.Refuses {k = k} n s r is) granted ss news now = quiet k now [] tt
-    turns_on (steps.Completes_at_once {k = k} n s d call completes none) granted ss news now = quiet k now [] tt
-    turns_on (steps.Makes_record {k = k} n s r d call makes) granted ss news now = quiet k now [] tt
-    turns_on (steps.Forces_given {k = k} n id m b call named) granted ss news now = quiet k now [] tt
-    turns_on (steps.Forces_commit {k = k} n id b call named) granted ss news now = quiet k now [] tt
-    turns_on (steps.Forces_rollback {k = k} n id b call named) granted ss news now = quiet k now [] tt
-    turns_on (steps.Hides {k = k} n mixed id s call found) granted ss news now = quiet k now [] tt
-    turns_on (steps.Advises {k = k} n a call) granted ss news now = quiet k now [] tt
+    turns_on {k = k} _ granted ss news now = quiet k now [] tt

@@ -1,5 +1,6 @@
 pub mod PastLemmas
 pub mod LawfulLemmas
+pub mod OneTurn
 pub mod NodeLemmas
 pub mod ClockLemmas
 pub mod AckLemmas
@@ -15,7 +16,10 @@ pub mod LaterLemmas
 pub mod RowEventLemmas
 pub mod GivenLemmas
 pub mod MayStandLemmas
+pub mod RowRecordLemmas
 pub mod OwnLemmas
+pub mod LiveStepLemmas
+pub mod KeptStepLemmas
 pub mod RowScnLemmas
 pub mod SayLemmas
 pub mod SaidLemmas

@@ -211,24 +211,13 @@ module _ (t : List Event) (n boot : ℕ) (untaught : IsUntaught t) where
     may_on (steps.Acts {k = k} l site_below acts.Seal why) fits = seal_may k fits l.me (acting_live why)
     may_on (steps.Acts {k = k} l site_below (acts.SealAndPass i) why) fits = seal_may k fits l.me (acting_live why)
     may_on (steps.Acts {k = k} l site_below acts.Decide why) fits = live_exit k fits l.me (acting_live why)
-    may_on (steps.Acts l site_below acts.Rest why) fits = tt
-    may_on (steps.Acts l site_below acts.AskDown why) fits = tt
-    may_on (steps.Acts l site_below acts.SayReadOnly why) fits = tt
-    may_on (steps.Acts l site_below acts.SayReady why) fits = tt
-    may_on (steps.Acts l site_below acts.Finish why) fits = tt
-    may_on (steps.Acts l site_below acts.Abandon why) fits = tt
     may_on (steps.Does {k = k} s from (nexts.End d) kept why) fits = next_may t s (row_is k fits s kept) why
     may_on (steps.Does {k = k} s from (nexts.Meet d mixed) kept why) fits = next_may t s (row_is k fits s kept) why
     may_on (steps.Does {k = k} s from nexts.Forget kept why) fits = next_may t s (row_is k fits s kept) why
-    may_on (steps.Does s from nexts.Rest kept why) fits = tt
-    may_on (steps.Does s from nexts.AckToward kept why) fits = tt
-    may_on (steps.Does s from nexts.SayForgotten kept why) fits = tt
-    may_on (steps.Does s from nexts.SayAck kept why) fits = tt
     may_on (steps.Makes_record m s r d call makes) fits = made_so (MayStand t) (λ x. tt) (λ x. tt) (λ x. tt) (λ x. tt) makes
     may_on (steps.Forces_given {k = k} m id scn b call named) fits = forced_may t k.stored.durable.kept fits.rows p id b (decisions.Commit scn) true named
     may_on (steps.Forces_commit {k = k} m id b call named) fits = forced_may t k.stored.durable.kept fits.rows p id b (decisions.Commit (k.clock + 1)) false named
     may_on (steps.Forces_rollback {k = k} m id b call named) fits = forced_may t k.stored.durable.kept fits.rows p id b decisions.Rollback false named
-    may_on (steps.Gives_up_commit m b (Some l) gives has calls live) fits = tt
     may_on (steps.Gives_up_commit m b None gives has calls live) fits = tt
     may_on _ fits = tt
 
@@ -282,10 +271,6 @@ module _ (t : List Event) (n boot : ℕ) (untaught : IsUntaught t) where
     lives_on (steps.Does {k = k} s from (nexts.End d) kept why) fits = same_lives k fits (Learn s.me d None) (λ b. refl)
     lives_on (steps.Does {k = k} s from (nexts.Meet d mixed) kept why) fits = same_lives k fits (Learn s.me d (Some mixed)) (λ b. refl)
     lives_on (steps.Does {k = k} s from nexts.Forget kept why) fits = same_lives k fits (Forget s.me) (λ b. refl)
-    lives_on (steps.Does s from nexts.Rest kept why) fits = fits.lives
-    lives_on (steps.Does s from nexts.AckToward kept why) fits = fits.lives
-    lives_on (steps.Does s from nexts.SayForgotten kept why) fits = fits.lives
-    lives_on (steps.Does s from nexts.SayAck kept why) fits = fits.lives
     lives_on (steps.Makes_record {k = k} m s r d call makes) fits = made_so (λ x. Unended (Some x) k.lives) (λ x. same_lives k fits (Make n x) (λ b. refl)) (λ x. fits.lives) (λ x. fits.lives) (λ x. fits.lives) makes
     lives_on (steps.Forces_given {k = k} m id scn b call named) fits = same_lives k fits (Force b (decisions.Commit scn)) (λ c. refl)
     lives_on (steps.Forces_commit {k = k} m id b call named) fits = same_lives k fits (Force b (decisions.Commit (k.clock + 1))) (λ c. refl)
@@ -293,7 +278,6 @@ module _ (t : List Event) (n boot : ℕ) (untaught : IsUntaught t) where
     lives_on (steps.Rolls_back {k = k} m x call has live) fits = fewer_lives k fits x.live.me
     lives_on (steps.Gives_up {k = k} m x gives has calls live) fits = changed_lives k fits x.live (x.live, live_so k x.live.me x live)
     lives_on (steps.Gives_up_commit {k = k} m b (Some l) gives has calls live) fits = fewer_lives k fits l.me
-    lives_on (steps.Gives_up_commit m b None gives has calls live) fits = fits.lives
     lives_on _ fits = fits.lives
 
     -- ---- the branch that a record ends
@@ -315,20 +299,7 @@ module _ (t : List Event) (n boot : ℕ) (untaught : IsUntaught t) where
     ended_given (steps.Acts {k = k} l site_below acts.Seal why) fits = live_told k l.me fits (acting_live why)
     ended_given (steps.Acts {k = k} l site_below (acts.SealAndPass i) why) fits = live_told k l.me fits (acting_live why)
     ended_given (steps.Acts {k = k} l site_below acts.Decide why) fits = given_on boot l.me p input (steps.Acts l site_below acts.Decide why) (live_told k l.me fits (acting_live why))
-    ended_given (steps.Acts l site_below acts.Rest why) fits = tt
-    ended_given (steps.Acts l site_below acts.AskDown why) fits = tt
-    ended_given (steps.Acts l site_below acts.SayReadOnly why) fits = tt
-    ended_given (steps.Acts l site_below acts.SayReady why) fits = tt
-    ended_given (steps.Acts l site_below acts.Finish why) fits = tt
-    ended_given (steps.Acts l site_below acts.Abandon why) fits = tt
-    ended_given (steps.Does s from (nexts.End d) kept why) fits = tt
-    ended_given (steps.Does s from (nexts.Meet d mixed) kept why) fits = tt
-    ended_given (steps.Does s from nexts.Forget kept why) fits = tt
     ended_given (steps.Does s from nexts.Rest kept why) fits = tt
-    ended_given (steps.Does s from nexts.AckToward kept why) fits = tt
-    ended_given (steps.Does s from nexts.SayForgotten kept why) fits = tt
-    ended_given (steps.Does s from nexts.SayAck kept why) fits = tt
     ended_given (steps.Makes_record m s r d call makes) fits = made_so (EndsSo _) (λ x. tt) (λ x. tt) (λ x. tt) (λ x. tt) makes
-    ended_given (steps.Gives_up_commit m b (Some l) gives has calls live) fits = tt
     ended_given (steps.Gives_up_commit m b None gives has calls live) fits = tt
     ended_given _ fits = tt

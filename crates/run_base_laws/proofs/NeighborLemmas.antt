@@ -1,18 +1,12 @@
 -- The neighbours that live branches and rows name, as these began, and what keeps them so.
-use Rattle.std.proofs.Common.{◌≡◌, ℕ, zero, suc, ◌+◌, ◌==◌, ◌&&◌, ◌||◌, not, Bool, true, false, if◌then◌else◌, List, [], ◌∷◌, ◌++◌, length, map, filter, find, slice_get, slice_set, unwrap_or, option_map, Option, Some, None, inl, inr, refl, sym, ap, subst, ◌∙◌, arith}
+use Rattle.std.proofs.Common.{◌≡◌, ℕ, zero, suc, ◌+◌, ◌==◌, ◌&&◌, ◌||◌, Bool, true, false, if◌then◌else◌, List, [], ◌∷◌, ◌++◌, length, map, filter, find, slice_get, slice_set, unwrap_or, option_map, Option, Some, None, inl, inr, refl, sym, ap, subst, ◌∙◌, arith}
 use Rattle.std.specs.Option.{option_to_list}
 use Rattle.std.specs.List.{AllByRecursion}
 use Rattle.std.proofs.lemmas.Bool.{cond_both}
-use Rattle.redo_record.specs.Kept.{stands_at, ended_commit, forced_state, in_state, met_as, forgot_as, hidden_as, is_done, kept_after}
-use Rattle.redo_record.specs.Durable.{durable_after}
-use Rattle.redo_record.specs.Lists.{change_where, drop_where}
-use Rattle.redo_record.specs.Rows.{toward_of, kid_of, sealed_as, decided_as, has_neighbors}
+use Rattle.redo_record.specs.Rows.{toward_of, kid_of, sealed_as, decided_as}
 use Rattle.commit_forget.specs.Next.{acks_kid}
 use Rattle.node_rules.specs.Data.{Change, Stmt, BranchId, Edge, Peer, Live, KeptRow, RedoRecord, Place, Input}
-use Rattle.node_rules.specs.Data.decisions
 use Rattle.node_rules.specs.Data.kinds
-use Rattle.node_rules.specs.Data.records
-use Rattle.node_rules.specs.Data.params
 use Rattle.node_rules.specs.declared.work.Going.{Going}
 use Rattle.node_rules.specs.declared.work.Waits.{Waits}
 use Rattle.node_rules.specs.declared.work.Waits.TheVariants as waiting
@@ -29,7 +23,8 @@ use Rattle.node_rules.specs.Client.{new_root}
 use Rattle.node_rules.proofs.Steps.{IsOfRows}
 use Rattle.run_rules.specs.Births.{Born, root_born, child_born}
 use Rattle.run_base_laws.specs.BirthLaws.{IsChild, IsChildAt, AreNeighbors, ChildrenAre, LiveIs, TowardIs, KeptIs, RecordNames}
-use Rattle.run_rules.proofs.ListLemmas.{all_weaker, all_filter, all_append, all_map, all_put}
+use Rattle.run_base_laws.proofs.RowRecordLemmas.{RowCases, rows_applied as applied_so, rows_stored as stored_so}
+use Rattle.run_rules.proofs.ListLemmas.{all_weaker, all_filter, all_append, all_map}
 
 -- what is found with a test is so
 pub find_so : {A : Type 0} (P : A → Type 0) (test : A → Bool) (xs : List A) (y : A) → AllByRecursion P xs → find test xs ≡ Some y → P y
@@ -178,45 +173,15 @@ module _ (B : Born → Type 0) where
       site_way = tt;
     }
 
-  rows_changed : (c : BranchId) (g : KeptRow → KeptRow) → ((x : KeptRow) → KeptIs B x → KeptIs B (g x)) → (ks : List KeptRow) → AllByRecursion (KeptIs B) ks
-      → AllByRecursion (KeptIs B) (change_where (stands_at c) g ks)
-  rows_changed c g each ks all =
-      all_map (KeptIs B) (λ x. if stands_at c x then g x else x) ks
-      (all_weaker (KeptIs B) _ (λ x so. cond_both (stands_at c x) (g x) x (KeptIs B) (λ here. each x so) (λ other. so)) ks all)
-
-  rows_left : (test : KeptRow → Bool) (ks : List KeptRow) → AllByRecursion (KeptIs B) ks → AllByRecursion (KeptIs B) (drop_where test ks)
-  rows_left test ks all = all_filter (KeptIs B) (KeptIs B) (λ x. not (test x)) (λ x passes so. so) ks all
+  each_row : RowCases (RecordNames B) (KeptIs B)
+  each_row = record { seals = λ r is. is; decides = λ r is. is; ends = λ n x so. so; forces = λ d x so. so; meets = λ d mixed x so. so; forgets = λ x so. so; hides = λ x so. so }
 
   -- the rows after a record that names branches as they began
-  rows_kept : (ks : List KeptRow) (r : RedoRecord) → RecordNames B r → AllByRecursion (KeptIs B) ks → AllByRecursion (KeptIs B) (kept_after ks r)
-  unfolding kept_after
-  rows_kept ks (records.Sealed r) is all = all_put (KeptIs B) (λ y. y.me) ks (sealed_as r) all is
-  rows_kept ks (records.Decided r) is all =
-      cond_both (has_neighbors (decided_as r)) _ _ (AllByRecursion (KeptIs B)) (λ kept. all_put (KeptIs B) (λ y. y.me) ks (decided_as r) all is) (λ alone. all)
-  rows_kept ks (records.Ended c (decisions.Commit n)) is all = rows_changed c (ended_commit n) (λ x so. so) ks all
-  rows_kept ks (records.Ended c decisions.Rollback) is all = rows_left (stands_at c) ks all
-  rows_kept ks (records.Forced c d given) is all = rows_changed c (in_state (forced_state d)) (λ x so. so) ks all
-  rows_kept ks (records.Met c d true) is all = rows_changed c (met_as d true) (λ x so. so) ks all
-  rows_kept ks (records.Met c (decisions.Commit n) false) is all = rows_changed c (met_as (decisions.Commit n) false) (λ x so. so) ks all
-  rows_kept ks (records.Met c decisions.Rollback false) is all = rows_left (stands_at c) ks all
-  rows_kept ks (records.Forgot c) is all = rows_changed c forgot_as (λ x so. so) (drop_where (is_done c) ks) (rows_left (is_done c) ks all)
-  rows_kept ks (records.Hidden c) is all = rows_changed c hidden_as (λ x so. so) ks all
-  rows_kept ks _ is all = all
-
   pub rows_applied : (s : Stored) (r : RedoRecord) → RecordNames B r → AllByRecursion (KeptIs B) s.durable.kept → AllByRecursion (KeptIs B) (applied s r).durable.kept
-  unfolding applied durable_after
-  rows_applied s (records.Boot n) is all = all
-  rows_applied s (records.Table t) is all = all
-  rows_applied s (records.Link l) is all = all
-  rows_applied s (records.Synonym y) is all = all
-  rows_applied s (records.Param (params.Recovery on)) is all = all
-  rows_applied s (records.Param (params.Strength strength)) is all = all
-  rows_applied s r is all = rows_kept s.durable.kept r is all
+  rows_applied s r is all = applied_so each_row s r is all
 
   pub rows_stored : (s : Stored) (rs : List RedoRecord) → AllByRecursion (RecordNames B) rs → AllByRecursion (KeptIs B) s.durable.kept → AllByRecursion (KeptIs B) (stored_by s rs).durable.kept
-  unfolding stored_by
-  rows_stored s [] all now = now
-  rows_stored s (r ∷ rs) all now = rows_stored (applied s r) rs all.1 (rows_applied s r all.0 now)
+  rows_stored s rs is all = stored_so each_row s rs is all
 
   pub acked_row : (s : KeptRow) (from : BranchId) → KeptIs B s → KeptIs B (acked_by s from)
   acked_row s from is = record {

@@ -39,6 +39,7 @@ use Rattle.run_base_laws.specs.BirthLaws.{IsChildAt, LiveIs, KeptIs, OpeningIs, 
 use Rattle.run_rules.proofs.ListLemmas.{all_append}
 use Rattle.node_rules.proofs.StepLemmas.{made_so}
 use Rattle.run_base_laws.proofs.OwnLemmas.{all_found, all_with, all_without, all_last}
+use Rattle.run_base_laws.proofs.LiveStepLemmas.{LastsInTurn, acting_by}
 use Rattle.run_base_laws.proofs.NeighborLemmas.{find_so, reply_is, News, turned, children_map, children_last, children_numbered, up, edges_down, downs, peer_child, neighbors_are, seal_names, decide_names, rows_applied, acked_row}
 use Rattle.run_base_laws.proofs.NeighborSayLemmas.{Goes, GoAll, one_goes, each_goes, answer_goes, exec_goes, prepares_go, told_goes, beyond_near, toward_near, passes_go, askings_go}
 
@@ -92,12 +93,7 @@ module _ (B : Born → Type 0) where
     }
 
     acting_is : {input : Input} {l : Live} {site_below : Bool} {a : _} → Acting k input l site_below a → LiveIs B l
-    acting_is (steps.Asks_down l comment site_below e es live begins has) = collecting_is l comment site_below (live_is l.me l live)
-    acting_is (steps.Has_no_children l comment site_below a live begins none collected) = collecting_is l comment site_below (live_is l.me l live)
-    acting_is (steps.Hears_abort l from site_below live answers) = voted_is l from _ (live_is l.me l live)
-    acting_is (steps.Waits_on l from v site_below live answers other some) = voted_is l from v (live_is l.me l live)
-    acting_is (steps.Hears_last l from v site_below a live answers other all collected) = voted_is l from v (live_is l.me l live)
-    acting_is (steps.At_point l from a live came phase pointed) = live_is l.me l live
+    acting_is why = acting_by (LiveIs B) (λ l comment site_below live begins is. collecting_is l comment site_below is) (λ l from v site_below answers is. voted_is l from v is) (λ l live. live_is l.me l live) why
 
   -- ---- news as a turn goes on
 
@@ -128,6 +124,10 @@ module _ (B : Born → Type 0) where
 
     pub acked_news : (k : NodeState) (s : KeptRow) → News B p input k → News B p input (with_kept_row k s)
     acked_news k s news = record { root = news.root; child = news.child }
+
+    -- so they are known through a turn
+    pub news_lasts : LastsInTurn p input (News B p input)
+    news_lasts = record { begun = λ k n s call rows free news. begun_news k n news; pends = λ k n l given call has news. pends_news k n given call news; lets = lets_news; acked = λ k s from kept came news. acked_news k (acked_by s from) news }
 
   -- what a step keeps, writes and says
   abbrev pub NamesSo : TurnDraft → Type 0
@@ -261,7 +261,6 @@ module _ (B : Born → Type 0) where
         ((names.0, recorded k names (records.Forgot s.me) tt, names.2), tt, each_goes B s.me kinds.Forgotten (map (λ b. b.branch) (beyond s)) (beyond_near B s (kept_is k names s kept)))
     names_on (steps.Does s from nexts.SayForgotten kept (steps.Has_forgotten came knows forgot)) names news = (names, tt, (turned B from s.me (heard from s.me kinds.Ack came), tt))
     names_on (steps.Does s from nexts.SayAck kept (steps.Acks_again n m came toward knows all)) names news = (names, tt, (turned B from s.me (heard from s.me (kinds.Committed m) came), tt))
-    names_on (steps.Does s from nexts.Rest kept why) names news = (names, tt, tt)
     names_on (steps.Makes_record {k = k} m s r d call makes) names news =
         made_so (λ x. NamesAre B (record k { stored = applied k.stored x }) × RecordNames B x × Unit {0}) (λ t. ((names.0, recorded k names (records.Table t) tt, names.2), tt, tt))
         (λ l. ((names.0, recorded k names (records.Link l) tt, names.2), tt, tt)) (λ y. ((names.0, recorded k names (records.Synonym y) tt, names.2), tt, tt))
@@ -274,5 +273,4 @@ module _ (B : Born → Type 0) where
         ((gone k names x.live.me, names.1, names.2), tt, each_goes B x.live.me kinds.Rollback (children_of x.live) (downs B x.live (branch_live k names x live)))
     names_on (steps.Gives_up {k = k} m x gives has calls live) names news = ((changed k names x.live (branch_live k names x live), names.1, names.2), tt, tt)
     names_on (steps.Gives_up_commit {k = k} m b (Some l) gives has calls live) names news = ((gone k names l.me, names.1, names.2), tt, each_goes B l.me kinds.Rollback (children_of l) (downs B l (live_is k names b l live)))
-    names_on (steps.Gives_up_commit m b None gives has calls live) names news = (names, tt, tt)
     names_on _ names news = (names, tt, tt)

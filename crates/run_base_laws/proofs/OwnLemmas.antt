@@ -1,19 +1,16 @@
 -- The live branches, the rows, the opened branches and the records of a node are of its own branches.
-use Rattle.std.proofs.Common.{◌≡◌, ℕ, ◌+◌, find, filter, Ok, not, Bool, true, false, if◌then◌else◌, List, [], ◌∷◌, ◌++◌, Option, Some, None, refl, sym, subst}
+use Rattle.std.proofs.Common.{◌≡◌, ℕ, ◌+◌, find, filter, Ok, not, Bool, true, false, if◌then◌else◌, List, [], ◌∷◌, ◌++◌, Option, Some, None, refl, subst}
 use Rattle.std.specs.Prelude.{IfSome}
 use Rattle.std.specs.Option.{option_to_list}
 use Rattle.std.specs.List.{AllByRecursion}
 use Rattle.std.proofs.lemmas.Bool.{cond_both}
-use Rattle.redo_record.specs.Kept.{stands_at, ended_commit, forced_state, in_state, met_as, forgot_as, is_done, hidden_as, kept_after}
-use Rattle.redo_record.specs.Durable.{durable_after}
-use Rattle.redo_record.specs.Rows.{sealed_as, decided_as, has_neighbors}
 use Rattle.node_rules.specs.Data.{BranchId, KeptRow, RedoRecord, Live, Place, Input}
 use Rattle.node_rules.specs.Data.decisions
 use Rattle.node_rules.specs.Data.params
 use Rattle.node_rules.specs.Data.records
 use Rattle.node_rules.specs.Data.acts
 use Rattle.commit_forget.specs.declared.next.Next.TheVariants as nexts
-use Rattle.node_rules.specs.Words.{same, item_at, put_item, drop_item, change_where, drop_where}
+use Rattle.node_rules.specs.Words.{same, item_at, put_item, drop_item}
 use Rattle.node_rules.specs.NodeState.{NodeState, TurnDraft, Stored, live_id, kept_row_id}
 use Rattle.node_rules.specs.Records.{applied, nothing_stored, stored_by}
 use Rattle.node_rules.specs.Turn.{start_of}
@@ -28,9 +25,10 @@ use Rattle.node_rules.proofs.Steps.{Step, IsKept}
 use Rattle.tran_ids.proofs.ListedLemmas.{item_is}
 use Rattle.node_rules.proofs.StandLemmas.{live_so}
 use Rattle.run_base_laws.specs.IdLaws.{IsRecordOf}
-use Rattle.run_rules.proofs.ListLemmas.{all_weaker, all_filter, all_append, all_map, all_put}
+use Rattle.run_rules.proofs.ListLemmas.{all_filter, all_append}
 use Rattle.node_rules.proofs.StepLemmas.{IsLive, asked_live, acting_live, made_so}
 use Rattle.run_base_laws.proofs.NodeLemmas.{Keeps}
+use Rattle.run_base_laws.proofs.RowRecordLemmas.{RowCases, rows_applied as applied_so, rows_stored as stored_so}
 
 -- ---- lists
 
@@ -61,43 +59,15 @@ module _ (P : BranchId → Type 0) where
   abbrev pub RowsOf : List KeptRow → Type 0
   RowsOf ks = AllByRecursion (λ s. P s.me) ks
 
-  rows_changed : (c : BranchId) (g : KeptRow → KeptRow) → ((x : KeptRow) → (g x).me ≡ x.me) → (ks : List KeptRow) → RowsOf ks → RowsOf (change_where (stands_at c) g ks)
-  rows_changed c g me ks all =
-      all_map (λ s. P s.me) (λ x. if stands_at c x then g x else x) ks
-      (all_weaker (λ s. P s.me) _ (λ x so. cond_both (stands_at c x) (g x) x (λ y. P y.me) (λ here. subst P (sym (me x)) so) (λ other. so)) ks all)
-
-  rows_left : (p : KeptRow → Bool) (ks : List KeptRow) → RowsOf ks → RowsOf (drop_where p ks)
-  rows_left p ks all = all_filter (λ s. P s.me) (λ s. P s.me) (λ x. not (p x)) (λ x passes so. so) ks all
+  each_row : RowCases (IsRecordOf P) (λ s. P s.me)
+  each_row = record { seals = λ r is. is; decides = λ r is. is; ends = λ n x so. so; forces = λ d x so. so; meets = λ d mixed x so. so; forgets = λ x so. so; hides = λ x so. so }
 
   -- the rows after a record of a branch that is so
-  pub rows_kept : (ks : List KeptRow) (r : RedoRecord) → IsRecordOf P r → RowsOf ks → RowsOf (kept_after ks r)
-  unfolding kept_after
-  rows_kept ks (records.Sealed r) is all = all_put (λ s. P s.me) (λ y. y.me) ks (sealed_as r) all is
-  rows_kept ks (records.Decided r) is all = cond_both (has_neighbors (decided_as r)) _ _ RowsOf (λ kept. all_put (λ s. P s.me) (λ y. y.me) ks (decided_as r) all is) (λ alone. all)
-  rows_kept ks (records.Ended c (decisions.Commit n)) is all = rows_changed c (ended_commit n) (λ x. refl) ks all
-  rows_kept ks (records.Ended c decisions.Rollback) is all = rows_left (stands_at c) ks all
-  rows_kept ks (records.Forced c d given) is all = rows_changed c (in_state (forced_state d)) (λ x. refl) ks all
-  rows_kept ks (records.Met c d true) is all = rows_changed c (met_as d true) (λ x. refl) ks all
-  rows_kept ks (records.Met c (decisions.Commit n) false) is all = rows_changed c (met_as (decisions.Commit n) false) (λ x. refl) ks all
-  rows_kept ks (records.Met c decisions.Rollback false) is all = rows_left (stands_at c) ks all
-  rows_kept ks (records.Forgot c) is all = rows_changed c forgot_as (λ x. refl) (drop_where (is_done c) ks) (rows_left (is_done c) ks all)
-  rows_kept ks (records.Hidden c) is all = rows_changed c hidden_as (λ x. refl) ks all
-  rows_kept ks _ is all = all
-
-  pub rows_applied : (s : Stored) (r : RedoRecord) → IsRecordOf P r → RowsOf s.durable.kept → RowsOf (applied s r).durable.kept
-  unfolding applied durable_after
-  rows_applied s (records.Boot n) is all = all
-  rows_applied s (records.Table t) is all = all
-  rows_applied s (records.Link l) is all = all
-  rows_applied s (records.Synonym y) is all = all
-  rows_applied s (records.Param (params.Recovery on)) is all = all
-  rows_applied s (records.Param (params.Strength strength)) is all = all
-  rows_applied s r is all = rows_kept s.durable.kept r is all
+  rows_applied : (s : Stored) (r : RedoRecord) → IsRecordOf P r → RowsOf s.durable.kept → RowsOf (applied s r).durable.kept
+  rows_applied s r is all = applied_so each_row s r is all
 
   pub rows_stored : (s : Stored) (rs : List RedoRecord) → AllByRecursion (IsRecordOf P) rs → RowsOf s.durable.kept → RowsOf (stored_by s rs).durable.kept
-  unfolding stored_by
-  rows_stored s [] all now = now
-  rows_stored s (r ∷ rs) all now = rows_stored (applied s r) rs all.1 (rows_applied s r all.0 now)
+  rows_stored s rs is all = stored_so each_row s rs is all
 
 -- ---- steps
 
@@ -201,7 +171,6 @@ module _ (n : ℕ) where
     own_on (steps.Rolls_back {k = k} m x call has live) own = ((gone k own x.live.me, own.1, own.2), tt)
     own_on (steps.Gives_up {k = k} m x gives has calls live) own = ((changed k own x.live (x.live, live_so k x.live.me x live), own.1, own.2), tt)
     own_on (steps.Gives_up_commit {k = k} m b (Some l) gives has calls live) own = ((gone k own l.me, own.1, own.2), tt)
-    own_on (steps.Gives_up_commit {k = k} m b None gives has calls live) own = (own, tt)
     own_on _ own = (own, tt)
 
 -- ---- nodes

@@ -57,12 +57,10 @@ module _ (k : NodeState) (now : NodeRoots k) (l : Live) (is : RootIs k.sessions 
   acts_so site_below acts.Rest says = stays_so l refl is
   acts_so site_below acts.AskDown says = stays_so l refl is
   acts_so site_below acts.SayReady says = stays_so (ready l) refl (says refl)
-  acts_so site_below acts.SayReadOnly says = gone k now l.me
-  acts_so site_below acts.Seal says = gone k now l.me
-  acts_so site_below (acts.SealAndPass i) says = gone k now l.me
   acts_so site_below acts.Decide says = decided_so (is_alone l)
   acts_so site_below acts.Finish says = gone_ended k now l.me
   acts_so site_below acts.Abandon says = abandoned_so l.parent
+  acts_so site_below _ says = gone k now l.me
 
 -- a session whose number is in range is set
 session_put : (ss : List Session) (n : ℕ) (s : Session) → RootsFit ss → IsSession n → session_at (set_numbered ss n s) n ≡ s

@@ -173,8 +173,6 @@ module _ (t : List Event) (n boot : ℕ) (untaught : IsUntaught t) (p : Place) (
       each_told (Decide l.me l.root (k.clock + 1) (own_changes k l.me) ∷ t) (k.clock + 1) l.me (kinds.Committed (k.clock + 1)) (site_neighbors l) (λ b. decide_told k l fits (acting_live why))
   step_told (steps.Acts {k = k} l site_below acts.Abandon why) fits below =
       all_append (May t k.clock) (to_one l.me kinds.Abort l.parent) _ (one_told t k.clock l.me kinds.Abort l.parent (λ b. tt)) (each_told t k.clock l.me kinds.Rollback (children_of l) (λ b. tt))
-  step_told (steps.Acts l site_below acts.Rest why) fits below = tt
-  step_told (steps.Acts l site_below acts.Finish why) fits below = tt
   step_told (steps.Drops_told {k = k} l live drops) fits below = each_told t k.clock l.me kinds.Rollback (children_of l) (λ b. tt)
   step_told (steps.Drops_asked {k = k} l from live came parent) fits below = (tt, each_told t k.clock l.me kinds.Rollback (children_of l) (λ b. tt))
   step_told (steps.Does {k = k} s from (nexts.End d) kept why) fits below =
@@ -185,8 +183,6 @@ module _ (t : List Event) (n boot : ℕ) (untaught : IsUntaught t) (p : Place) (
   step_told (steps.Does {k = k} s from nexts.Forget kept why) fits below = each_told (Forget s.me ∷ t) k.clock s.me kinds.Forgotten (map (λ b. b.branch) (beyond s)) (λ b. inl (inl refl))
   step_told (steps.Does {k = k} s from nexts.SayForgotten kept (steps.Has_forgotten came knows forgot)) fits below = (inl ((row_is t n boot untaught k fits s kept).forgot forgot), tt)
   step_told (steps.Does s from nexts.SayAck kept why) fits below = (tt, tt)
-  step_told (steps.Does s from nexts.Rest kept why) fits below = tt
   step_told (steps.Rolls_back {k = k} m x call has live) fits below = each_told t k.clock x.live.me kinds.Rollback (children_of x.live) (λ b. tt)
   step_told (steps.Gives_up_commit {k = k} m b (Some l) gives has pending live) fits below = each_told t k.clock l.me kinds.Rollback (children_of l) (λ c. tt)
-  step_told (steps.Gives_up_commit {k = k} m b None gives has pending live) fits below = tt
   step_told _ fits below = tt

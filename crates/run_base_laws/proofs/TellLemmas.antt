@@ -195,7 +195,6 @@ module _ (p : Place) (input : Input) where
   step_tells (steps.Does s from nexts.SayAck kept why) = (tt, tt)
   step_tells (steps.Rolls_back {k = k} n x call has live) = each_told (rows_at k) None x.live.me kinds.Rollback (children_of x.live) tt
   step_tells (steps.Gives_up_commit {k = k} n b (Some l) gives has pending live) = each_told (rows_at k) None l.me kinds.Rollback (children_of l) tt
-  step_tells (steps.Gives_up_commit {k = k} n b None gives has pending live) = tt
   step_tells _ = tt
 
 -- ---- turns

@@ -10,9 +10,9 @@ use Rattle.node_rules.specs.Data.{BranchId, KeptRow, RedoRecord, Place, Input}
 use Rattle.node_rules.specs.Data.inputs
 use Rattle.node_rules.specs.Data.records
 use Rattle.node_rules.specs.Words.{numbered}
-use Rattle.node_rules.specs.NodeState.{NodeState, TurnDraft, live_id}
+use Rattle.node_rules.specs.NodeState.{NodeState, live_id}
 use Rattle.node_rules.specs.Records.{nothing_stored, stored_by}
-use Rattle.node_rules.specs.Turn.{turn_of, heard, draft_of, stamped}
+use Rattle.node_rules.specs.Turn.{turn_of, heard, stamped}
 use Rattle.run_rules.specs.Data.{Turn, Command}
 use Rattle.run_rules.specs.Data.happenings
 use Rattle.run_rules.specs.Branches.{is_among}
@@ -37,6 +37,7 @@ use Rattle.run_base_laws.proofs.RowScnLemmas.{Below, below_further}
 use Rattle.run_base_laws.proofs.SayLemmas.{AcksWereSent, step_told}
 use Rattle.run_base_laws.proofs.NodesStandLemmas.{stored_rows, WasGiven, NodesStand, among_so, lives_among, wrote_elsewhere, exit_alone, row_alone, wrote_untaught, wrote_exit, exit_with, some_or_none, wrote_rows, acked_back, counts}
 use Rattle.run_rules.proofs.AtNodeLemmas.{flat_some, there_too, turn_elsewhere, turn_here}
+use Rattle.run_base_laws.proofs.OneTurn.{one_turn}
 
 pub cases_nat : (m n : ℕ) → (m ≡ n) ⊎ (m ≢ n)
 cases_nat m n = by (m == n) refl
@@ -84,20 +85,7 @@ module _ (places : List Place) (asked : List Command) (each : (n : ℕ) (p : Pla
   module _ (f : Facts) (t : List Event) (u : Turn) (k : NodeState) (now : NodesStand places f t) (even : length f.nodes ≡ length f.records)
       (node : (m : ℕ) (x : NodeState) → node_at f m ≡ Some x → Node (records_at f m) x) (owns : (m : ℕ) (x : NodeState) → node_at f m ≡ Some x → OwnAt (place_at places m) (records_at f m) x)
       (may : MayTurn places f u k) where
-    abbrev n : ℕ
-    n = u.node
-
-    abbrev p : Place
-    p = place_at places u.node
-
-    abbrev rs : List RedoRecord
-    rs = records_at f u.node
-
-    abbrev d : TurnDraft
-    d = draft_of p k u.input
-
-    abbrev g : Facts
-    g = facts_after places asked f (happenings.Turn u)
+    open one_turn places asked f u k use {n, p, rs, d, g}
 
     -- the events with the record, and with all that the turn does
     abbrev t1 : List Event

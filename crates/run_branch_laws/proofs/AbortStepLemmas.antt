@@ -138,8 +138,6 @@ module _ (p : Place) (input : Input) where
   aborts_on (steps.Acts {k = k} l site_below acts.Decide why) = none_so _ input _ (each_says Other l.me (kinds.Committed (k.clock + 1)) (site_neighbors l) refl)
   aborts_on (steps.Acts {k = k} l site_below acts.Abandon why) =
       all_append (λ x. AbortSo k input x.from x.kind) (to_one l.me kinds.Abort l.parent) _ (one_so k input l.me l.parent (abandons_so why)) (none_so k input _ (each_says Other l.me kinds.Rollback (children_of l) refl))
-  aborts_on (steps.Acts l site_below acts.Rest why) = tt
-  aborts_on (steps.Acts l site_below acts.Finish why) = tt
   aborts_on (steps.Drops_told l live drops) = none_so _ input _ (each_says Other l.me kinds.Rollback (children_of l) refl)
   aborts_on (steps.Drops_asked l from live came parent) = (tt, none_so _ input _ (each_says Other l.me kinds.Rollback (children_of l) refl))
   aborts_on (steps.Does s from (nexts.End d) kept why) = none_so _ input _ (passes_say Other others s d)
@@ -148,8 +146,6 @@ module _ (p : Place) (input : Input) where
   aborts_on (steps.Does s from nexts.Forget kept why) = none_so _ input _ (each_says Other s.me kinds.Forgotten (map (λ b. b.branch) (beyond s)) refl)
   aborts_on (steps.Does s from nexts.SayForgotten kept why) = (tt, tt)
   aborts_on (steps.Does s from nexts.SayAck kept why) = (tt, tt)
-  aborts_on (steps.Does s from nexts.Rest kept why) = tt
   aborts_on (steps.Rolls_back n x call has live) = none_so _ input _ (each_says Other x.live.me kinds.Rollback (children_of x.live) refl)
   aborts_on (steps.Gives_up_commit n b (Some l) gives has calls live) = none_so _ input _ (each_says Other l.me kinds.Rollback (children_of l) refl)
-  aborts_on (steps.Gives_up_commit n b None gives has calls live) = tt
   aborts_on _ = tt

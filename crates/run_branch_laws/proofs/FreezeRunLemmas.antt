@@ -9,14 +9,14 @@ use Rattle.node_rules.specs.declared.session.PendingCall.{PendingCall}
 use Rattle.node_rules.specs.declared.session.PendingCall.TheVariants as pending
 use Rattle.node_rules.specs.declared.work.Going.{Going}
 use Rattle.node_rules.specs.Words.{numbered, set_numbered}
-use Rattle.node_rules.specs.NodeState.{NodeState, Branch, TurnDraft, live_id, live_at, branch_at}
+use Rattle.node_rules.specs.NodeState.{NodeState, Branch, live_id, live_at, branch_at}
 use Rattle.node_rules.specs.Sessions.{session_at}
-use Rattle.node_rules.specs.Turn.{turn_of, start_of, made, heard, draft_of}
+use Rattle.node_rules.specs.Turn.{turn_of, start_of, made, heard}
 use Rattle.node_rules.proofs.StandLemmas.{live_so}
 use Rattle.agreement.specs.Events.{Event}
 use Rattle.run_rules.specs.Data.{Turn, Happening, Command}
 use Rattle.run_rules.specs.Data.happenings
-use Rattle.run_rules.specs.Facts.{Facts, first_facts, place_at, flat, node_at, kept_after, with_boot, facts_after, facts_of}
+use Rattle.run_rules.specs.Facts.{Facts, first_facts, flat, node_at, kept_after, with_boot, facts_after, facts_of}
 use Rattle.run_rules.specs.Lawful.{IsPlace, MayTurn, MayHappen, Comes, IsOwed, IsLawful, History, IsLawfulRun, facts_at}
 use Rattle.run_base_laws.specs.RunEvents.{events_after}
 use Rattle.run_rules.specs.Births.{Born, births_after, births_of, born_at}
@@ -43,6 +43,7 @@ use Rattle.run_base_laws.proofs.KidLemmas.{edge_of, parent_in, parent_of, child_
 use Rattle.run_base_laws.proofs.InTurnLemmas as turns
 use Rattle.run_base_laws.proofs.InTurnRunLemmas as calls
 use Rattle.run_base_laws.proofs.InTurnRunLemmas.{CallsStand, CallsOf, heard_calls, each_both, calls_stand_on, first_calls, branch_calls}
+use Rattle.run_base_laws.proofs.OneTurn.{one_turn}
 use Rattle.run_branch_laws.specs.WalkLaws.{OneWay, WalksAreOne}
 use Rattle.run_branch_laws.proofs.FreezeLemmas.{AskedAnswered, Frozen, stays_frozen}
 use Rattle.run_branch_laws.proofs.FreezeStepLemmas.{Ice, Prepared, Unasking, Freezes, freezes_on}
@@ -71,20 +72,7 @@ frozen_stay said says k none now =
 module _ (places : List Place) (asked : List Command) (each : (n : ℕ) (p : Place) → numbered places n ≡ Some p → IsPlace places n p) where
   module _ (f : Facts) (t : List Event) (bs : List Born) (stand : StandBorn places asked each f t bs) (roots : RootsStand places asked each f) (turned : CallsStand f) (now : FreezeStand f) where
     module _ (u : Turn) (k : NodeState) (may : MayTurn places f u k) where
-      abbrev n : ℕ
-      n = u.node
-
-      abbrev p : Place
-      p = place_at places u.node
-
-      abbrev d : TurnDraft
-      d = draft_of p k u.input
-
-      abbrev g : Facts
-      g = facts_after places asked f (happenings.Turn u)
-
-      abbrev said : List Post
-      said = said_in f
+      open one_turn places asked f u k use {n, p, d, g, said}
 
       abbrev Here : BranchId → Type 0
       Here = calls.Here places asked each f t bs stand roots turned u k may

@@ -380,18 +380,8 @@ module _ (E : BranchId → Option ℕ) (A : BranchId → Option BranchId) (G Her
           quiet k ss now ice _ (each_says IsPlain s.me kinds.Forgotten (map (λ b. b.branch) (beyond s)) refl) (each_says IsDumb s.me kinds.Forgotten (map (λ b. b.branch) (beyond s)) (refl, refl))
       freezes_on (steps.Does {k = k} s from nexts.SayForgotten kept why) granted ss news now ice = quiet k ss now ice _ (refl, tt) ((refl, refl), tt)
       freezes_on (steps.Does {k = k} s from nexts.SayAck kept why) granted ss news now ice = quiet k ss now ice _ (refl, tt) ((refl, refl), tt)
-      freezes_on (steps.Does {k = k} s from nexts.Rest kept why) granted ss news now ice = quiet k ss now ice [] tt tt
       freezes_on (steps.Rolls_back {k = k} n x call has live) granted ss news now ice = left k ss now ice x.live.me _ (rolled x.live).0 (rolled x.live).1
       freezes_on (steps.Gives_up {k = k} n x gives has calls live) granted ss news now ice =
           put k ss now ice [] x.live (gives_up x).work (work_is k x.live.me x live) tt (λ p c. inl refl) (found_ice k ss now ice x live).frozen
       freezes_on (steps.Gives_up_commit {k = k} n b (Some l) gives has calls live) granted ss news now ice = left k ss now ice l.me _ (rolled l).0 (rolled l).1
-      freezes_on (steps.Gives_up_commit {k = k} n b None gives has calls live) granted ss news now ice = quiet k ss now ice [] tt tt
-      freezes_on (steps.Rests {k = k}) granted ss news now ice = quiet k ss now ice [] tt tt
-      freezes_on (steps.Refuses {k = k} n s r is) granted ss news now ice = quiet k ss now ice [] tt tt
-      freezes_on (steps.Completes_at_once {k = k} n s d call completes none) granted ss news now ice = quiet k ss now ice [] tt tt
-      freezes_on (steps.Makes_record {k = k} n s r d call makes) granted ss news now ice = quiet k ss now ice [] tt tt
-      freezes_on (steps.Forces_given {k = k} n id m b call named) granted ss news now ice = quiet k ss now ice [] tt tt
-      freezes_on (steps.Forces_commit {k = k} n id b call named) granted ss news now ice = quiet k ss now ice [] tt tt
-      freezes_on (steps.Forces_rollback {k = k} n id b call named) granted ss news now ice = quiet k ss now ice [] tt tt
-      freezes_on (steps.Hides {k = k} n mixed id s call found) granted ss news now ice = quiet k ss now ice [] tt tt
-      freezes_on (steps.Advises {k = k} n a call) granted ss news now ice = quiet k ss now ice [] tt tt
+      freezes_on {k = k} _ granted ss news now ice = quiet k ss now ice [] tt tt

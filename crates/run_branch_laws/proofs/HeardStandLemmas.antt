@@ -10,14 +10,14 @@ use Rattle.node_rules.specs.Data.records
 use Rattle.node_rules.specs.Data.inputs
 use Rattle.node_rules.specs.Words.{numbered}
 use Rattle.node_rules.specs.Inputs.{Came}
-use Rattle.node_rules.specs.NodeState.{NodeState, TurnDraft, live_id}
+use Rattle.node_rules.specs.NodeState.{NodeState, live_id}
 use Rattle.node_rules.specs.Records.{nothing_stored}
-use Rattle.node_rules.specs.Turn.{made, turn_of, start_of, heard, draft_of, stamped}
+use Rattle.node_rules.specs.Turn.{made, turn_of, start_of, heard, stamped}
 use Rattle.run_rules.specs.Data.{Turn, Happening, Command}
 use Rattle.run_rules.specs.Data.happenings
 use Rattle.run_rules.specs.Branches.{is_among}
 use Rattle.run_rules.specs.Trail.{is_read_only, is_quiet}
-use Rattle.run_rules.specs.Facts.{Facts, first_facts, place_at, node_at, kept_after, with_boot, facts_after}
+use Rattle.run_rules.specs.Facts.{Facts, first_facts, node_at, kept_after, with_boot, facts_after}
 use Rattle.run_rules.specs.Lawful.{IsPlace, MayHappen, MayTurn, MayStart, IsOwed, IsNode, History, IsLawfulRun, facts_at}
 use Rattle.run_base_laws.specs.RunEvents.{with_event, wrote_event, lives_at, with_record, with_happening, events_after, events_of}
 use Rattle.run_branch_laws.specs.HeardLaws.{AnswersAre, AcksAre, QuietIs, AnswersAreTrue, AcksAreTrue, QuietsAreGone}
@@ -32,7 +32,9 @@ use Rattle.run_base_laws.proofs.NodesStandLemmas.{lives_among}
 use Rattle.run_base_laws.proofs.TurnEventLemmas.{cases_nat, all_both}
 use Rattle.run_base_laws.proofs.EventsStandLemmas.{first_node, BranchStatus, stand_on, stand_first}
 use Rattle.run_base_laws.proofs.BirthsStandLemmas.{came_so}
-use Rattle.run_branch_laws.proofs.HeardLemmas.{acks_stored, later_answers, later_acks, risen_answers, HeardSo, answers_on, acks_on}
+use Rattle.run_base_laws.proofs.OneTurn.{one_turn}
+use Rattle.run_branch_laws.proofs.HeardLemmas.{Sent, later_answers, later_acks, risen_answers, HeardSo, answers_on, acks_on}
+use Rattle.run_branch_laws.proofs.HeldAckLemmas.{acks_stored}
 use Rattle.run_branch_laws.proofs.QuietLemmas.{Quits, QuitsSo, quits_on, quiet_there, quiet_leaves}
 
 -- what a node holds of its neighbours is true
@@ -81,17 +83,7 @@ module _ (places : List Place) (asked : List Command) (each : (n : ℕ) (p : Pla
     -- ---- a turn
 
     module _ (u : Turn) (k : NodeState) (may : MayTurn places f u k) where
-      abbrev n : ℕ
-      n = u.node
-
-      abbrev p : Place
-      p = place_at places u.node
-
-      abbrev d : TurnDraft
-      d = draft_of p k u.input
-
-      abbrev g : Facts
-      g = facts_after places asked f (happenings.Turn u)
+      open one_turn places asked f u k use {n, p, d, g}
 
       abbrev r : List Event
       r = with_happening f g (happenings.Turn u) t
@@ -194,7 +186,7 @@ module _ (places : List Place) (asked : List Command) (each : (n : ℕ) (p : Pla
 
       start_so : (zs : List RedoRecord) → NodeHeard t (start_of zs)
       unfolding start_of
-      start_so zs = (tt, acks_stored t nothing_stored zs tt)
+      start_so zs = (tt, acks_stored (Sent t) nothing_stored zs tt)
 
       start_node : (i : ℕ) → IfSome (node_at begun i) (NodeHeard t)
       start_node i = elim (cases_nat i m) [
@@ -228,7 +220,7 @@ module _ (places : List Place) (asked : List Command) (each : (n : ℕ) (p : Pla
 
   made_heard : NodeHeard [] made
   unfolding start_of
-  made_heard = (tt, acks_stored [] nothing_stored (records.Boot 1 ∷ []) tt)
+  made_heard = (tt, acks_stored (Sent []) nothing_stored (records.Boot 1 ∷ []) tt)
 
   abbrev pub StandHeard : Facts → List Event → Type 0
   StandHeard f t = BranchStatus places asked each f t × HeardStand f t

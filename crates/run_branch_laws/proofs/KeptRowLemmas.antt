@@ -149,14 +149,14 @@ later_unsealed b m e (Was_quiet c was gone) is = let at = only_at_is c b Quiet (
 later_unsealed b m e (Was_dropped c was gone) is = let at = only_at_is c b Dropped (Sealed m) is in absurd (cc (at.1))
 
 -- it is the seal of this branch
-abbrev IsSealOf : BranchId → Option RedoRecord → Type 0
+abbrev pub IsSealOf : BranchId → Option RedoRecord → Type 0
 IsSealOf b (Some (records.Sealed s)) = s.me ≡ b
 IsSealOf b _ = ⊥
 
 none_new : (t : List Event) (b : BranchId) (m : ℕ) (w : Option RedoRecord) → first (exit t b) None ≡ Some (Sealed m) → (exit t b ≡ Some (Sealed m)) ⊎ IsSealOf b w
 none_new t b m w is = elim (first_is (exit t b) None (Sealed m) is) [ inl old ↦ inl old | inr new ↦ (let no : None ≡ Some (Sealed m) = new.1 in absurd cc) ]
 
-wrote_seal : (n : ℕ) (t : List Event) (w : Option RedoRecord) (b : BranchId) (m : ℕ) → exit (with_event (wrote_event n w) t) b ≡ Some (Sealed m) → (exit t b ≡ Some (Sealed m)) ⊎ IsSealOf b w
+pub wrote_seal : (n : ℕ) (t : List Event) (w : Option RedoRecord) (b : BranchId) (m : ℕ) → exit (with_event (wrote_event n w) t) b ≡ Some (Sealed m) → (exit t b ≡ Some (Sealed m)) ⊎ IsSealOf b w
 wrote_seal n t None b m is = inl is
 wrote_seal n t (Some (records.Sealed s)) b m is =
     elim (first_is (exit t b) (only_at s.me b (Sealed s.scn)) (Sealed m) is) [ inl old ↦ inl old | inr new ↦ inr (only_at_is s.me b (Sealed s.scn) (Sealed m) new.1).0 ]
@@ -182,28 +182,51 @@ seal_there b rs _ at = absurd at
 abbrev pub StaysKept : Facts → List Event → Type 0
 StaysKept f t = (b : BranchId) (m : ℕ) → exit t b ≡ Some (Sealed m) → IsKeptIn b (stored_rows f b.node) ⊎ IsGoneForGood t b
 
+module _ (places : List Place) (asked : List Command) (each : (n : ℕ) (p : Place) → numbered places n ≡ Some p → IsPlace places n p) (f : Facts) (t : List Event) (stand : BranchStatus places asked each f t) where
+  -- rows after a turn
+  module _ (u : Turn) (may : MayHappen places asked f (happenings.Turn u)) where
+    abbrev after : Facts
+    after = facts_after places asked f (happenings.Turn u)
+
+    may_stand : IfSome u.wrote (MayStand t)
+    may_stand = record_may places asked each f t u may.0 stand.1 stand.0.even (node_so places asked each f t stand) (owned_so places asked each f t stand) may.1
+
+    pub own_record : IfSome u.wrote (IsRecordOf (λ b. b.node ≡ u.node))
+    own_record = record_own places asked each f t u may.0 stand.1 stand.0.even (node_so places asked each f t stand) (owned_so places asked each f t stand) may.1
+
+    pub records_now : records_at after u.node ≡ records_at f u.node ++ option_to_list u.wrote
+    records_now = (turn_here places asked f stand.0.even u may.0 may.1.up).1
+
+    pub row_after : (b : BranchId) → IsKeptIn b (stored_rows f b.node) → IsKeptIn b (stored_rows after b.node) ⊎ IsGoneForGood (with_record u t) b
+    row_after b has = elim (cases_nat b.node u.node) [
+      | inl at ↦ subst (λ i. IsKeptIn b (stored_rows after i) ⊎ IsGoneForGood (with_record u t) b) (sym at)
+          (subst (λ (xs : List RedoRecord). IsKeptIn b (stored_by nothing_stored xs).durable.kept ⊎ IsGoneForGood (with_record u t) b) (sym records_now)
+          (wrote_stay b u.node t (records_at f u.node) u.wrote may_stand (subst (λ i. IsKeptIn b (stored_rows f i)) at has)))
+      | inr other ↦ inl (subst (λ (xs : List RedoRecord). IsKeptIn b (stored_by nothing_stored xs).durable.kept) (sym (turn_elsewhere places asked f stand.0.even u b.node (λ e. other (sym e))).1) has)
+    ]
+
+  -- rows after a start
+  module _ (n boot : ℕ) (may : MayHappen places asked f (happenings.Started n boot)) where
+    abbrev started : Facts
+    started = facts_after places asked f (happenings.Started n boot)
+
+    booted_row : (b : BranchId) (rs : List RedoRecord) → IsKeptIn b (stored_by nothing_stored rs).durable.kept → IsKeptIn b (stored_by nothing_stored (rs ++ records.Boot boot ∷ [])).durable.kept
+    unfolding applied durable_after
+    booted_row b rs has = subst (λ s. IsKeptIn b s.durable.kept) (sym (stored_with rs (Some (records.Boot boot)))) has
+
+    pub started_row : (b : BranchId) → IsKeptIn b (stored_rows f b.node) → IsKeptIn b (stored_rows started b.node)
+    started_row b has = elim (cases_nat b.node n) [
+      | inl at ↦ subst (λ i. IsKeptIn b (stored_rows started i)) (sym at)
+          (subst (λ (xs : List RedoRecord). IsKeptIn b (stored_by nothing_stored xs).durable.kept) (sym (start_here places asked f stand.0.even n boot may.there.0 (omega (arith, may.there.1, stand.1.many))).1)
+          (booted_row b (records_at f n) (subst (λ i. IsKeptIn b (stored_rows f i)) at has)))
+      | inr other ↦ subst (λ (xs : List RedoRecord). IsKeptIn b (stored_by nothing_stored xs).durable.kept) (sym (start_elsewhere places asked f stand.0.even n boot b.node (λ e. other (sym e))).1) has
+    ]
+
 module _ (places : List Place) (asked : List Command) (each : (n : ℕ) (p : Place) → numbered places n ≡ Some p → IsPlace places n p) (f : Facts) (t : List Event) (stand : BranchStatus places asked each f t)
     (kept : StaysKept f t) where
   module _ (u : Turn) (may : MayHappen places asked f (happenings.Turn u)) where
     abbrev g : Facts
     g = facts_after places asked f (happenings.Turn u)
-
-    may_stand : IfSome u.wrote (MayStand t)
-    may_stand = record_may places asked each f t u may.0 stand.1 stand.0.even (node_so places asked each f t stand) (owned_so places asked each f t stand) may.1
-
-    own_record : IfSome u.wrote (IsRecordOf (λ b. b.node ≡ u.node))
-    own_record = record_own places asked each f t u may.0 stand.1 stand.0.even (node_so places asked each f t stand) (owned_so places asked each f t stand) may.1
-
-    records_now : records_at g u.node ≡ records_at f u.node ++ option_to_list u.wrote
-    records_now = (turn_here places asked f stand.0.even u may.0 may.1.up).1
-
-    row_after : (b : BranchId) → IsKeptIn b (stored_rows f b.node) → IsKeptIn b (stored_rows g b.node) ⊎ IsGoneForGood (with_record u t) b
-    row_after b has = elim (cases_nat b.node u.node) [
-      | inl at ↦ subst (λ i. IsKeptIn b (stored_rows g i) ⊎ IsGoneForGood (with_record u t) b) (sym at)
-          (subst (λ (xs : List RedoRecord). IsKeptIn b (stored_by nothing_stored xs).durable.kept ⊎ IsGoneForGood (with_record u t) b) (sym records_now)
-          (wrote_stay b u.node t (records_at f u.node) u.wrote may_stand (subst (λ i. IsKeptIn b (stored_rows f i)) at has)))
-      | inr other ↦ inl (subst (λ (xs : List RedoRecord). IsKeptIn b (stored_by nothing_stored xs).durable.kept) (sym (turn_elsewhere places asked f stand.0.even u b.node (λ e. other (sym e))).1) has)
-    ]
 
     seal_here : (w : Option RedoRecord) (b : BranchId) → IfSome w (IsRecordOf (λ c. c.node ≡ u.node)) → IsSealOf b w → b.node ≡ u.node
     seal_here (Some (records.Sealed s)) b own at = subst (λ c. c.node ≡ u.node) at own
@@ -211,12 +234,12 @@ module _ (places : List Place) (asked : List Command) (each : (n : ℕ) (p : Pla
 
     new_row : (b : BranchId) → IsSealOf b u.wrote → IsKeptIn b (stored_rows g b.node)
     new_row b at =
-        subst (λ i. IsKeptIn b (stored_rows g i)) (sym (seal_here u.wrote b own_record at))
-        (subst (λ (xs : List RedoRecord). IsKeptIn b (stored_by nothing_stored xs).durable.kept) (sym records_now) (seal_there b (records_at f u.node) u.wrote at))
+        subst (λ i. IsKeptIn b (stored_rows g i)) (sym (seal_here u.wrote b (own_record places asked each f t stand u may) at))
+        (subst (λ (xs : List RedoRecord). IsKeptIn b (stored_by nothing_stored xs).durable.kept) (sym (records_now places asked each f t stand u may)) (seal_there b (records_at f u.node) u.wrote at))
 
     row_now : (b : BranchId) (m : ℕ) → exit (with_record u t) b ≡ Some (Sealed m) → IsKeptIn b (stored_rows g b.node) ⊎ IsGoneForGood (with_record u t) b
     row_now b m sealed = elim (wrote_seal u.node t u.wrote b m sealed) [
-      | inl old ↦ elim (kept b m old) [ inl row ↦ row_after b row | inr done ↦ inr (done_with (wrote_event u.node u.wrote) t b done) ]
+      | inl old ↦ elim (kept b m old) [ inl row ↦ row_after places asked each f t stand u may b row | inr done ↦ inr (done_with (wrote_event u.node u.wrote) t b done) ]
       | inr new ↦ inl (new_row b new)
     ]
 
@@ -237,20 +260,8 @@ module _ (places : List Place) (asked : List Command) (each : (n : ℕ) (p : Pla
     abbrev h : Facts
     h = facts_after places asked f (happenings.Started n boot)
 
-    booted_row : (b : BranchId) (rs : List RedoRecord) → IsKeptIn b (stored_by nothing_stored rs).durable.kept → IsKeptIn b (stored_by nothing_stored (rs ++ records.Boot boot ∷ [])).durable.kept
-    unfolding applied durable_after
-    booted_row b rs has = subst (λ s. IsKeptIn b s.durable.kept) (sym (stored_with rs (Some (records.Boot boot)))) has
-
-    started_row : (b : BranchId) → IsKeptIn b (stored_rows f b.node) → IsKeptIn b (stored_rows h b.node)
-    started_row b has = elim (cases_nat b.node n) [
-      | inl at ↦ subst (λ i. IsKeptIn b (stored_rows h i)) (sym at)
-          (subst (λ (xs : List RedoRecord). IsKeptIn b (stored_by nothing_stored xs).durable.kept) (sym (start_here places asked f stand.0.even n boot may.there.0 (omega (arith, may.there.1, stand.1.many))).1)
-          (booted_row b (records_at f n) (subst (λ i. IsKeptIn b (stored_rows f i)) at has)))
-      | inr other ↦ subst (λ (xs : List RedoRecord). IsKeptIn b (stored_by nothing_stored xs).durable.kept) (sym (start_elsewhere places asked f stand.0.even n boot b.node (λ e. other (sym e))).1) has
-    ]
-
     start_keeps : StaysKept h (events_after places asked f (happenings.Started n boot) t)
-    start_keeps b m sealed = elim (kept b m sealed) [ inl row ↦ inl (started_row b row) | inr done ↦ inr done ]
+    start_keeps b m sealed = elim (kept b m sealed) [ inl row ↦ inl (started_row places asked each f t stand n boot may b row) | inr done ↦ inr done ]
 
   pub keeps_on : (h : Happening) → MayHappen places asked f h → StaysKept (facts_after places asked f h) (events_after places asked f h t)
   unfolding facts_after

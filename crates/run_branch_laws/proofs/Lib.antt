@@ -5,6 +5,7 @@ pub mod KeptRowLemmas
 pub mod GoneLemmas
 pub mod PhaseLemmas
 pub mod TreeJustLemmas
+pub mod HeldAckLemmas
 pub mod HeardLemmas
 pub mod QuietLemmas
 pub mod AbortStepLemmas

@@ -8,20 +8,16 @@ use Rattle.node_rules.specs.Data.votes
 use Rattle.node_rules.specs.Data.phases
 use Rattle.node_rules.specs.Data.acts
 use Rattle.node_rules.specs.Data.records
-use Rattle.commit_forget.specs.declared.next.Next.TheVariants as nexts
-use Rattle.node_rules.specs.Words.{numbered, set_numbered, put_item, drop_item}
+use Rattle.node_rules.specs.Words.{numbered, set_numbered}
 use Rattle.session_tree.specs.Live.{new_edge}
-use Rattle.node_rules.specs.NodeState.{NodeState, Branch, TurnDraft, live_id, live_at, branch_at}
-use Rattle.node_rules.specs.Statement.{ran, after_run}
-use Rattle.node_rules.specs.Calls.{with_edge, hears_reply}
-use Rattle.node_rules.specs.Prepare.{is_awaited, collecting, with_comment, with_prepare_sent, ready, voted, has_voted, answers_first}
+use Rattle.node_rules.specs.NodeState.{NodeState, TurnDraft, live_at}
+use Rattle.node_rules.specs.Prepare.{is_awaited, collecting, with_comment, with_prepare_sent, voted, has_voted, answers_first}
 use Rattle.node_rules.specs.Turn.{start_of}
 use Rattle.node_rules.proofs.Steps as steps
-use Rattle.node_rules.proofs.Steps.{Step, Asked, Collected, Pointed, Acting}
-use Rattle.node_rules.proofs.StandLemmas.{live_so}
+use Rattle.node_rules.proofs.Steps.{Step, Collected, Pointed, Acting}
 use Rattle.run_branch_laws.specs.PhaseLaws.{IsUnasked, IsNoAbort, PhaseFits, PhasesFit}
 use Rattle.run_rules.proofs.ListLemmas.{all_weaker, all_append, all_map}
-use Rattle.run_base_laws.proofs.OwnLemmas.{all_found, all_with, all_without, all_last}
+use Rattle.run_base_laws.proofs.LiveStepLemmas.{LiveCases, LeftBy, nothing_lasts, lives_on}
 use Rattle.run_base_laws.proofs.NodeLemmas.{Keeps, node_keeps}
 use Rattle.run_base_laws.proofs.NeighborLemmas.{reply_is}
 
@@ -88,19 +84,15 @@ voted_none : (from : BranchId) (v : Vote) → v ≢ votes.Abort → (es : List E
 voted_none from v other es all =
     all_map IsNoAbort (has_voted from v) es (all_weaker IsNoAbort _ (λ e so. cond_both (answers_first from e) (record e { vote = v }) e IsNoAbort (λ first. other) (λ again. so)) es all)
 
--- what a branch that goes on is like after an act
-abbrev ActFits : Live → Act → Type 0
-ActFits l acts.Rest = PhaseFits l.parent l.edges l.phase
-ActFits l acts.AskDown = PhaseFits l.parent l.edges l.phase
-ActFits l acts.SayReady = PhaseFits l.parent l.edges phases.Ready
-ActFits l _ = Unit {0}
+abbrev Fits : Live → Type 0
+Fits l = PhaseFits l.parent l.edges l.phase
 
 parent_there : (o : Option BranchId) → is_none o ≡ false → o ≢ None
 parent_there None is none = absurd cc
 parent_there (Some b) is none = absurd cc
 
 module _ (l : Live) where
-  collected_fits : {site_below : Bool} {a : Act} → AllByRecursion IsNoAbort l.edges → list_any awaited l.edges ≡ false → Collected l site_below a → ActFits l a
+  collected_fits : {site_below : Bool} {a : Act} → AllByRecursion IsNoAbort l.edges → list_any awaited l.edges ≡ false → Collected l site_below a → LeftBy Fits l a
   collected_fits none all (steps.Has_nothing is) = tt
   collected_fits none all (steps.Is_prepared is) = tt
   collected_fits none all (steps.Awaits_point is) = (none, all, parent_there l.parent is)
@@ -108,30 +100,17 @@ module _ (l : Live) where
   collected_fits none all (steps.Is_site root is) = tt
   collected_fits none all (steps.Has_no_site root is) = tt
 
-  pointed_fits : {a : Act} → PhaseFits l.parent l.edges l.phase → Pointed l a → ActFits l a
+  pointed_fits : {a : Act} → PhaseFits l.parent l.edges l.phase → Pointed l a → LeftBy Fits l a
   pointed_fits fits (steps.Points_on i is) = tt
   pointed_fits fits (steps.Points_here is) = tt
   pointed_fits fits (steps.Points_nowhere is) = fits
 
-abbrev Fits : Live → Type 0
-Fits l = PhaseFits l.parent l.edges l.phase
-
-module _ (k : NodeState) (all : AllByRecursion Fits k.lives) where
-  live_fits : (b : BranchId) (l : Live) → live_at k b ≡ Some l → Fits l
-  live_fits b l found = all_found Fits live_id k.lives b l all found
-
-  branch_fits : (x : Branch) → branch_at k x.live.me ≡ Some x → Fits x.live
-  branch_fits x found = live_fits x.live.me x.live (live_so k x.live.me x found)
-
-  asked_fits : {input : Input} {x : Branch} {s : _} {given : ℕ} → Asked k input x s given → Fits x.live
-  asked_fits (steps.By_call n x s call rows has code live) = branch_fits x live
-  asked_fits (steps.By_exec x from call given advice s came live runs) = branch_fits x live
-
+module _ (k : NodeState) (live_fits : (l : Live) → live_at k l.me ≡ Some l → Fits l) where
   -- a collecting branch holds no Abort
   collecting_none : (l : Live) (site_below : Bool) → live_at k l.me ≡ Some l → l.phase ≡ phases.Collecting site_below → AllByRecursion IsNoAbort l.edges
-  collecting_none l site_below live is = let fits : PhaseFits l.parent l.edges (phases.Collecting site_below) = subst (PhaseFits l.parent l.edges) is (live_fits l.me l live) in fits.0
+  collecting_none l site_below live is = let fits : PhaseFits l.parent l.edges (phases.Collecting site_below) = subst (PhaseFits l.parent l.edges) is (live_fits l live) in fits.0
 
-  acting_fits : {input : Input} {l : Live} {site_below : Bool} {a : Act} → Acting k input l site_below a → ActFits l a
+  acting_fits : {input : Input} {l : Live} {site_below : Bool} {a : Act} → Acting k input l site_below a → LeftBy Fits l a
   acting_fits (steps.Asks_down l comment site_below e es live begins has) = (asked_none l.edges, asked_some l.edges es e has)
   acting_fits (steps.Has_no_children l comment site_below a live begins none collected) =
       collected_fits (collecting (with_comment l comment) site_below) (asked_none l.edges) (ap (λ (ys : List Edge). list_any awaited (map with_prepare_sent ys)) none) collected
@@ -145,53 +124,23 @@ module _ (k : NodeState) (all : AllByRecursion Fits k.lives) where
       awaited_so false is = absurd cc
   acting_fits (steps.Hears_last l from v site_below a live answers other all_so collected) =
       collected_fits (voted l from v) (voted_none from v other l.edges (collecting_none l site_below live answers.collecting)) (not-true (list_any awaited (voted l from v).edges) all_so) collected
-  acting_fits (steps.At_point l from a live came is pointed) = pointed_fits l (live_fits l.me l live) pointed
+  acting_fits (steps.At_point l from a live came is pointed) = pointed_fits l (live_fits l live) pointed
 
-  changed : (l : Live) → Fits l → AllByRecursion Fits (put_item live_id k.lives l)
-  changed l is = all_with Fits live_id k.lives l all is
-
-  gone : (b : BranchId) → AllByRecursion Fits (drop_item live_id k.lives b)
-  gone b = all_without Fits live_id k.lives b all
+each : (p : Place) (input : Input) → LiveCases p input (λ k. Unit {0}) (λ d. Unit {0}) Fits
+each p input = record {
+  lasts = nothing_lasts p input;
+  root = λ k n s call rows free c. tt;
+  child = λ k to parent edge root depth came new c. tt;
+  advised = λ l advice fits. fits;
+  runs = λ k x s t fits. fits;
+  opens = λ k x from strength g link opened c fits. more_fits x.live.parent x.live.edges (new_edge from link strength) x.live.phase refl fits;
+  replies = λ k x weight count a i e answered fits. numbered_fits x.live.parent x.live.edges i e _ x.live.phase (reply_is x answered.from answered.call i e answered.waits) refl fits;
+  acts = λ k l below a why c q all. acting_fits k all why;
+}
 
 -- each step keeps it
 fits_on : (p : Place) (input : Input) {k : NodeState} {d : TurnDraft} → Step p input k d → AllByRecursion Fits k.lives → AllByRecursion Fits d.after.lives
-fits_on p input (steps.Begins {k = k} n s call rows fit none step) all = fits_on p input step (all_last Fits live_id k.lives _ all tt)
-fits_on p input (steps.Pends n l comment call has live code step) all = fits_on p input step all
-fits_on p input (steps.Lets_reads_go l comment site_below live begins step) all = fits_on p input step all
-fits_on p input (steps.Counts_ack s from kept came counts step) all = fits_on p input step all
-fits_on p input (steps.Runs {k = k} x s given t asked way) all = changed k all (after_run x.live (ran p k x.live.me s t)) (asked_fits k all asked)
-fits_on p input (steps.Goes_nowhere {k = k} x s given r asked way) all = changed k all x.live (asked_fits k all asked)
-fits_on p input (steps.Calls {k = k} x s given i table asked way) all = changed k all x.live (asked_fits k all asked)
-fits_on p input (steps.Opens {k = k} x s given node link table asked way) all = changed k all x.live (asked_fits k all asked)
-fits_on p input (steps.Goes_on {k = k} x from strength g link opened) all =
-    changed k all (with_edge x (new_edge from link strength)).live (more_fits x.live.parent x.live.edges (new_edge from link strength) x.live.phase refl (branch_fits k all x opened.live))
-fits_on p input (steps.Hears_reply {k = k} x weight count a i e answered) all =
-    changed k all (hears_reply x i weight count e).live
-    (numbered_fits x.live.parent x.live.edges i e _ x.live.phase (reply_is x answered.from answered.call i e answered.waits) refl (branch_fits k all x answered.live))
-fits_on p input (steps.Opens_branch {k = k} to parent edge root depth came new) all = all_last Fits live_id k.lives _ all tt
-fits_on p input (steps.Acts {k = k} l site_below acts.Rest why) all = changed k all l (acting_fits k all why)
-fits_on p input (steps.Acts {k = k} l site_below acts.AskDown why) all = changed k all l (acting_fits k all why)
-fits_on p input (steps.Acts {k = k} l site_below acts.SayReady why) all = changed k all (ready l) (acting_fits k all why)
-fits_on p input (steps.Acts {k = k} l site_below acts.SayReadOnly why) all = gone k all l.me
-fits_on p input (steps.Acts {k = k} l site_below acts.Seal why) all = gone k all l.me
-fits_on p input (steps.Acts {k = k} l site_below (acts.SealAndPass i) why) all = gone k all l.me
-fits_on p input (steps.Acts {k = k} l site_below acts.Decide why) all = gone k all l.me
-fits_on p input (steps.Acts {k = k} l site_below acts.Finish why) all = gone k all l.me
-fits_on p input (steps.Acts {k = k} l site_below acts.Abandon why) all = gone k all l.me
-fits_on p input (steps.Drops_told {k = k} l live drops) all = gone k all l.me
-fits_on p input (steps.Drops_asked {k = k} l from live came parent) all = gone k all l.me
-fits_on p input (steps.Does s from nexts.Rest kept why) all = all
-fits_on p input (steps.Does s from nexts.AckToward kept why) all = all
-fits_on p input (steps.Does s from nexts.SayForgotten kept why) all = all
-fits_on p input (steps.Does s from nexts.SayAck kept why) all = all
-fits_on p input (steps.Does s from (nexts.End d) kept why) all = all
-fits_on p input (steps.Does s from (nexts.Meet d mixed) kept why) all = all
-fits_on p input (steps.Does s from nexts.Forget kept why) all = all
-fits_on p input (steps.Rolls_back {k = k} n x call has live) all = gone k all x.live.me
-fits_on p input (steps.Gives_up {k = k} n x gives has calls live) all = changed k all x.live (branch_fits k all x live)
-fits_on p input (steps.Gives_up_commit {k = k} n b (Some l) gives has calls live) all = gone k all l.me
-fits_on p input (steps.Gives_up_commit n b None gives has calls live) all = all
-fits_on p input _ all = all
+fits_on p input step all = lives_on (each p input) step tt tt all
 
 starts_fit : (rs : List RedoRecord) → AllByRecursion Fits (start_of rs).lives
 unfolding start_of

@@ -157,8 +157,6 @@ module _ (p : Place) (input : Input) where
   quits_on (steps.Acts l site_below (acts.SealAndPass i) why) = plainly _ _ _ (one_plain l.me kinds.CommitPoint (peer_of l i) refl)
   quits_on (steps.Acts {k = k} l site_below acts.Decide why) = plainly _ _ _ (each_plain l.me (kinds.Committed (k.clock + 1)) (site_neighbors l) refl)
   quits_on (steps.Acts l site_below acts.Abandon why) = plainly _ _ _ (all_append Plain (to_one l.me kinds.Abort l.parent) _ (one_plain l.me kinds.Abort l.parent refl) (each_plain l.me kinds.Rollback (children_of l) refl))
-  quits_on (steps.Acts l site_below acts.Rest why) = tt
-  quits_on (steps.Acts l site_below acts.Finish why) = tt
   quits_on (steps.Drops_told l live drops) = plainly _ _ _ (each_plain l.me kinds.Rollback (children_of l) refl)
   quits_on (steps.Drops_asked l from live came parent) = ((λ yes. absurd cc), plainly _ _ _ (each_plain l.me kinds.Rollback (children_of l) refl))
   quits_on (steps.Does s from (nexts.End d) kept why) = plainly _ _ _ (passes_plain s d)
@@ -167,10 +165,8 @@ module _ (p : Place) (input : Input) where
   quits_on (steps.Does s from nexts.Forget kept why) = plainly _ _ _ (each_plain s.me kinds.Forgotten (map (λ b. b.branch) (beyond s)) refl)
   quits_on (steps.Does s from nexts.SayForgotten kept why) = ((λ yes. absurd cc), tt)
   quits_on (steps.Does s from nexts.SayAck kept why) = ((λ yes. absurd cc), tt)
-  quits_on (steps.Does s from nexts.Rest kept why) = tt
   quits_on (steps.Rolls_back n x call has live) = plainly _ _ _ (each_plain x.live.me kinds.Rollback (children_of x.live) refl)
   quits_on (steps.Gives_up_commit n b (Some l) gives has calls live) = plainly _ _ _ (each_plain l.me kinds.Rollback (children_of l) refl)
-  quits_on (steps.Gives_up_commit n b None gives has calls live) = tt
   quits_on _ = tt
 
 -- ---- the exit of such a branch

@@ -270,8 +270,6 @@ module _ (t : List Event) where
     says_on (steps.Acts {k = k} l site_below acts.Decide why) found acks = each_so k _ l.me (kinds.Committed (k.clock + 1)) (site_neighbors l) (λ b. tt)
     says_on (steps.Acts {k = k} l site_below acts.Abandon why) found acks =
         all_append (So k _) (to_one l.me kinds.Abort l.parent) _ (one_so k _ l.me kinds.Abort l.parent (λ b. tt)) (leaves_so k _ l (acting_live why) refl (dropped_gone l.me k.lives) (acting_apart why))
-    says_on (steps.Acts l site_below acts.Rest why) found acks = tt
-    says_on (steps.Acts l site_below acts.Finish why) found acks = tt
     says_on (steps.Drops_told {k = k} l live (steps.By_rollback from came)) found acks = leaves_so k _ l (l, live) refl (dropped_gone l.me k.lives) (λ n s call rows. came_apart n s came call)
     says_on (steps.Drops_told {k = k} l live (steps.By_parent from came parent)) found acks = leaves_so k _ l (l, live) refl (dropped_gone l.me k.lives) (λ n s call rows. came_apart n s came call)
     says_on (steps.Drops_asked {k = k} l from live came parent) found acks =
@@ -284,7 +282,6 @@ module _ (t : List Event) where
     says_on (steps.Does s from nexts.SayForgotten kept why) found acks = (tt, tt)
     says_on (steps.Does {k = k} s from nexts.SayAck kept (steps.Acks_again n m came toward knows all)) found acks =
         (All_have s (itself k.stored.durable.kept s kept) (acked_all t s (all_found (AcksAre t) kept_row_id k.stored.durable.kept s.me s acks kept) all), tt)
-    says_on (steps.Does s from nexts.Rest kept why) found acks = tt
     says_on (steps.Rolls_back {k = k} n x call has live) found acks =
         leaves_so k _ x.live (x.live, live_so k x.live.me x live) refl (dropped_gone x.live.me k.lives) (λ m s other rows. rollback_apart n m s call other rows)
       where
@@ -295,5 +292,4 @@ module _ (t : List Event) where
       where
         gone_live : (k : NodeState) (b : BranchId) (l : Live) → live_at k b ≡ Some l → IsLive k l.me
         gone_live k b l is = (l, subst (λ c. live_at k c ≡ Some l) (sym (item_is live_id k.lives b l is)) is)
-    says_on (steps.Gives_up_commit n b None gives has calls live) found acks = tt
     says_on _ found acks = tt

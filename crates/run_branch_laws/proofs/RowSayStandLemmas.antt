@@ -14,13 +14,13 @@ use Rattle.node_rules.specs.Data.kinds
 use Rattle.node_rules.specs.Data.records
 use Rattle.node_rules.specs.Words.{same, numbered, item_at}
 use Rattle.node_rules.specs.Inputs.{Came}
-use Rattle.node_rules.specs.NodeState.{NodeState, TurnDraft, live_id, kept_row_id, with_work, kept_row_at}
-use Rattle.node_rules.specs.Turn.{Is_gone, live_or, status_of, turn_of, heard, draft_of, stamped}
+use Rattle.node_rules.specs.NodeState.{NodeState, live_id, kept_row_id, with_work, kept_row_at}
+use Rattle.node_rules.specs.Turn.{Is_gone, live_or, status_of, turn_of, heard, stamped}
 use Rattle.run_rules.specs.Data.{Took, Turn, Happening, Command}
 use Rattle.run_rules.specs.Data.happenings
 use Rattle.run_rules.specs.Branches.{is_among}
 use Rattle.run_rules.specs.Trail.{is_quiet}
-use Rattle.run_rules.specs.Facts.{Facts, first_facts, place_at, node_at, kept_after, facts_after}
+use Rattle.run_rules.specs.Facts.{Facts, first_facts, node_at, kept_after, facts_after}
 use Rattle.run_rules.specs.Lawful.{IsPlace, MayHappen, MayTurn, IsOwed, Comes}
 use Rattle.run_base_laws.specs.NodeLaws.{count_of, unacked_row}
 use Rattle.run_base_laws.specs.RunEvents.{with_event, wrote_event, lives_at, leave_event, has_left, with_leaver, with_leavers, with_record, with_exits, events_after}
@@ -44,6 +44,7 @@ use Rattle.run_branch_laws.proofs.GoneLemmas.{kept_not_gone}
 use Rattle.run_base_laws.proofs.EventsStandLemmas.{BranchStatus as StandAll, node_so, tells_so, stand_on, stand_first}
 use Rattle.run_base_laws.proofs.BirthsStandLemmas.{BirthsStand, came_so}
 use Rattle.run_base_laws.proofs.BirthRunLemmas.{births_on, stand_born_first}
+use Rattle.run_base_laws.proofs.OneTurn.{one_turn}
 use Rattle.run_branch_laws.proofs.HeardStandLemmas.{NodeHeard, HeardStand, heard_on, stand_heard_first, live_among, heard_lives}
 use Rattle.run_branch_laws.proofs.TowardLemmas.{ToldSo, heard_rows}
 use Rattle.run_branch_laws.proofs.RowSayLemmas.{LearnsRollback, IsAsked, Rolls, Has_left, Has_learned, Is_not_there, Knows_so, Names_not, Acks, All_have, Is_done, SaysSo, RowsFound, says_on}
@@ -182,17 +183,7 @@ module _ (places : List Place) (asked : List Command) (each : (n : ℕ) (q : Pla
   known_first = record { stand = stand_first places asked each; heard = (stand_heard_first places asked each).1; kept = λ c n is. absurd cc; births = []; born = (stand_born_first places asked each).1 }
 
   module _ (f : Facts) (t : List Event) (now : Known f t) (u : Turn) (k : NodeState) (may : MayTurn places f u k) where
-    abbrev n : ℕ
-    n = u.node
-
-    abbrev p : Place
-    p = place_at places u.node
-
-    abbrev d : TurnDraft
-    d = draft_of p k u.input
-
-    abbrev g : Facts
-    g = facts_after places asked f (happenings.Turn u)
+    open one_turn places asked f u k use {n, p, d, g}
 
     abbrev r : List Event
     r = with_exits f g u t

@@ -33,10 +33,10 @@ use Rattle.run_base_laws.proofs.InTurnStepLemmas as drafts
 use Rattle.run_branch_laws.proofs.FreezeStepLemmas as frost
 
 -- what a change of edges leaves of each, it leaves of all
-collected : {X : Type 0} (f : Edge → X) → ((e : Edge) → f (with_prepare_sent e) ≡ f e) → (es : List Edge) → map f (map with_prepare_sent es) ≡ map f es
+pub collected : {X : Type 0} (f : Edge → X) → ((e : Edge) → f (with_prepare_sent e) ≡ f e) → (es : List Edge) → map f (map with_prepare_sent es) ≡ map f es
 collected f each es = map_after f with_prepare_sent f each es
 
-heard_vote : {X : Type 0} (f : Edge → X) (from : BranchId) (v : Vote) → ((e : Edge) → f (record e { vote = v }) ≡ f e) → (es : List Edge) → map f (map (has_voted from v) es) ≡ map f es
+pub heard_vote : {X : Type 0} (f : Edge → X) (from : BranchId) (v : Vote) → ((e : Edge) → f (record e { vote = v }) ≡ f e) → (es : List Edge) → map f (map (has_voted from v) es) ≡ map f es
 heard_vote f from v each es = map_after f (has_voted from v) f (λ e. cond_both (answers_first from e) (record e { vote = v }) e (λ y. f y ≡ f e) (λ here. each e) (λ other. refl)) es
 
 module _ (k0 : NodeState) where
@@ -114,12 +114,7 @@ module _ (k0 : NodeState) where
     acts_leave l site_below acts.Rest is = stays l is
     acts_leave l site_below acts.AskDown is = stays l is
     acts_leave l site_below acts.SayReady is = stays (ready l) (ready_still l (works_of k.works l.me) is)
-    acts_leave l site_below acts.SayReadOnly is = left l.me
-    acts_leave l site_below acts.Seal is = left l.me
-    acts_leave l site_below (acts.SealAndPass i) is = left l.me
-    acts_leave l site_below acts.Decide is = left l.me
-    acts_leave l site_below acts.Finish is = left l.me
-    acts_leave l site_below acts.Abandon is = left l.me
+    acts_leave l site_below _ is = left l.me
 
   module _ (E : BranchId → Option ℕ) (A : BranchId → Option BranchId) (G Here : BranchId → Type 0) (input : Input) (said : List Post) (received : turns.Received E A G Here input said) (prepared : frost.Prepared E A G Here input said received) (p : Place)
       (place : (b : BranchId) → b.node ≡ p.number → Here b) where
@@ -162,12 +157,6 @@ module _ (k0 : NodeState) where
     stills_on (steps.Drops_told {k = k} l live drops) ss news nodes ice now = left k now l.me
     stills_on (steps.Drops_asked {k = k} l from live came parent) ss news nodes ice now = left k now l.me
     stills_on (steps.Does s from nexts.Rest kept why) ss news nodes ice now = now
-    stills_on (steps.Does s from nexts.AckToward kept why) ss news nodes ice now = now
-    stills_on (steps.Does s from nexts.SayForgotten kept why) ss news nodes ice now = now
-    stills_on (steps.Does s from nexts.SayAck kept why) ss news nodes ice now = now
-    stills_on (steps.Does s from (nexts.End d) kept why) ss news nodes ice now = now
-    stills_on (steps.Does s from (nexts.Meet d mixed) kept why) ss news nodes ice now = now
-    stills_on (steps.Does s from nexts.Forget kept why) ss news nodes ice now = now
     stills_on (steps.Rolls_back {k = k} n x call has live) ss news nodes ice now = left k now x.live.me
     stills_on (steps.Gives_up {k = k} n x gives has calls live) ss news nodes ice now =
         let parts = branch_parts k x.live.me x live in
@@ -176,5 +165,4 @@ module _ (k0 : NodeState) where
         record { peers = was.peers; weights = was.weights; counts = was.counts; changed = was.changed; calls = was.calls; last = was.last; phase = was.phase }))
         (λ z v there other so. so)
     stills_on (steps.Gives_up_commit {k = k} n b (Some l) gives has calls live) ss news nodes ice now = left k now l.me
-    stills_on (steps.Gives_up_commit n b None gives has calls live) ss news nodes ice now = now
     stills_on _ ss news nodes ice now = now

@@ -5,12 +5,12 @@ use Rattle.node_rules.specs.Data.{BranchId, Live, Place}
 use Rattle.node_rules.specs.Data.phases
 use Rattle.node_rules.specs.declared.work.Work.{Work}
 use Rattle.node_rules.specs.Words.{numbered, item_at}
-use Rattle.node_rules.specs.NodeState.{NodeState, Branch, TurnDraft, live_id, branch_at}
-use Rattle.node_rules.specs.Turn.{turn_of, heard, draft_of}
+use Rattle.node_rules.specs.NodeState.{NodeState, Branch, live_id, branch_at}
+use Rattle.node_rules.specs.Turn.{turn_of, heard}
 use Rattle.agreement.specs.Events.{Event}
 use Rattle.run_rules.specs.Data.{Turn, Happening, Command}
 use Rattle.run_rules.specs.Data.happenings
-use Rattle.run_rules.specs.Facts.{Facts, first_facts, place_at, facts_after}
+use Rattle.run_rules.specs.Facts.{Facts, first_facts, facts_after}
 use Rattle.run_rules.specs.Lawful.{IsPlace, MayTurn, MayHappen, IsLawful}
 use Rattle.run_base_laws.specs.RunEvents.{events_after}
 use Rattle.run_base_laws.specs.NodeLaws.{EachFactFrom}
@@ -33,6 +33,7 @@ use Rattle.run_base_laws.proofs.SaidPostLemmas.{unborn_asks, unborn_silent}
 use Rattle.run_base_laws.proofs.KidLemmas.{edge_of, parent_in, parent_of}
 use Rattle.run_base_laws.proofs.InTurnRunLemmas as calls
 use Rattle.run_base_laws.proofs.InTurnRunLemmas.{CallsStand, heard_calls, calls_stand_on, first_calls}
+use Rattle.run_base_laws.proofs.OneTurn.{one_turn}
 use Rattle.run_branch_laws.proofs.FreezeRunLemmas as frozen
 use Rattle.run_branch_laws.proofs.FreezeRunLemmas.{FreezeStand, freeze_on, first_freeze}
 use Rattle.run_branch_laws.proofs.StillLemmas.{pair, Still, Stills, NewThere, stills_on}
@@ -53,11 +54,7 @@ first_stills k there = record { there = there; each = each }
 module _ (places : List Place) (asked : List Command) (each : (n : ℕ) (p : Place) → numbered places n ≡ Some p → IsPlace places n p) where
   module _ (f : Facts) (t : List Event) (bs : List Born) (stand : StandBorn places asked each f t bs) (roots : RootsStand places asked each f) (turned : CallsStand f) (now : FreezeStand f) where
     module _ (u : Turn) (k : NodeState) (may : MayTurn places f u k) where
-      abbrev p : Place
-      p = place_at places u.node
-
-      abbrev d : TurnDraft
-      d = draft_of p k u.input
+      open one_turn places asked f u k use {p, d}
 
       abbrev Here : BranchId → Type 0
       Here = calls.Here places asked each f t bs stand roots turned u k may

@@ -124,27 +124,11 @@ module _ (t : List Event) (p : Place) (input : Input) (told : (from to : BranchI
   goes_on (steps.Counts_ack {k = k} {d = d} s from kept came counts step) acks =
       wrote_acked t k.stored.durable.kept s from kept d.wrote
       (goes_on step (all_with (AcksAre t) kept_row_id k.stored.durable.kept (acked_by s from) acks (acked_so t s from (told from s.me kinds.Ack came) (all_found (AcksAre t) kept_row_id k.stored.durable.kept s.me s acks kept))))
-  goes_on (steps.Acts l site_below acts.Seal why) acks = tt
-  goes_on (steps.Acts l site_below (acts.SealAndPass i) why) acks = tt
-  goes_on (steps.Acts l site_below acts.Decide why) acks = tt
   goes_on (steps.Acts l site_below acts.Rest why) acks = tt
-  goes_on (steps.Acts l site_below acts.AskDown why) acks = tt
-  goes_on (steps.Acts l site_below acts.SayReadOnly why) acks = tt
-  goes_on (steps.Acts l site_below acts.SayReady why) acks = tt
-  goes_on (steps.Acts l site_below acts.Finish why) acks = tt
-  goes_on (steps.Acts l site_below acts.Abandon why) acks = tt
   goes_on (steps.Does {k = k} s from (nexts.End d) kept why) acks = ends_so k.stored.durable.kept s kept why
   goes_on (steps.Does {k = k} s from (nexts.Meet d mixed) kept why) acks = meets_so k.stored.durable.kept s kept why
   goes_on (steps.Does {k = k} s from nexts.Forget kept why) acks = forgets_so k.stored.durable.kept s kept (all_found (AcksAre t) kept_row_id k.stored.durable.kept s.me s acks kept) why
-  goes_on (steps.Does s from nexts.Rest kept why) acks = tt
-  goes_on (steps.Does s from nexts.AckToward kept why) acks = tt
-  goes_on (steps.Does s from nexts.SayForgotten kept why) acks = tt
-  goes_on (steps.Does s from nexts.SayAck kept why) acks = tt
-  goes_on (steps.Makes_record n s r d call (steps.Makes_table x free)) acks = tt
-  goes_on (steps.Makes_record n s r d call (steps.Makes_link x free)) acks = tt
-  goes_on (steps.Makes_record n s r d call (steps.Makes_synonym x free)) acks = tt
   goes_on (steps.Makes_record n s r d call (steps.Sets_recovery on)) acks = tt
-  goes_on (steps.Gives_up_commit n b (Some l) gives has calls live) acks = tt
   goes_on (steps.Gives_up_commit n b None gives has calls live) acks = tt
   goes_on _ acks = tt
 

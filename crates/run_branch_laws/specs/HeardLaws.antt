@@ -25,14 +25,18 @@ EdgeIs t clock e = VoteIs t clock e.peer e.vote
 abbrev pub AnswersAre : List Event → ℕ → Live → Type 0
 AnswersAre t clock l = AllByRecursion (EdgeIs t clock) l.edges
 
--- Each Ack that a row holds was sent.
-pub record HasAcks (t : List Event) (me : BranchId) (parent : Option BranchId) (parent_acked : Bool) (children : List Kid) : Type 0 where
-  pub above : parent_acked ≡ true → (b : BranchId) → parent ≡ Some b → Has (Send_ack b me) t
-  pub below : AllByRecursion (λ c. c.acked ≡ true → Has (Send_ack c.branch me) t) children
+-- Each Ack that a row holds tells this of the neighbour and the branch.
+pub record HasAcks (Q : BranchId → BranchId → Type 0) (me : BranchId) (parent : Option BranchId) (parent_acked : Bool) (children : List Kid) : Type 0 where
+  pub above : parent_acked ≡ true → (b : BranchId) → parent ≡ Some b → Q b me
+  pub below : AllByRecursion (λ c. c.acked ≡ true → Q c.branch me) children
 
 -- of a kept branch
+abbrev pub RowHasAcks : (BranchId → BranchId → Type 0) → KeptRow → Type 0
+RowHasAcks Q s = HasAcks Q s.me s.parent s.parent_acked s.children
+
+-- each Ack that it holds was sent
 abbrev pub AcksAre : List Event → KeptRow → Type 0
-AcksAre t s = HasAcks t s.me s.parent s.parent_acked s.children
+AcksAre t s = RowHasAcks (λ b me. Has (Send_ack b me) t) s
 
 -- an answer without changes comes from a branch that is gone so
 abbrev pub QuietIs : List Event → BranchId → Kind → Type 0

@@ -33,7 +33,7 @@ use Rattle.run_rules.specs.Trail.{acked_by, acks_after, stopped_by, trail_after}
 use Rattle.run_rules.proofs.AtNodeLemmas.{turn_elsewhere, turn_here}
 use Rattle.run_base_laws.proofs.EventsStandLemmas.{BranchStatus, run_stands, node_so, owned_so, nodes_are_as_events, first_node}
 use Rattle.run_base_laws.proofs.LawfulLemmas.{of_wrote, serves}
-use Rattle.run_rules.proofs.ListLemmas.{all_weaker, map_after}
+use Rattle.run_rules.proofs.ListLemmas.{map_after}
 use Rattle.run_base_laws.proofs.OwnLemmas.{all_found}
 use Rattle.run_base_laws.proofs.StoredLemmas.{records_are_kept}
 use Rattle.run_branch_laws.proofs.TowardLemmas.{heard_rows}
@@ -46,7 +46,9 @@ use Rattle.tree_trail_laws.proofs.MomentLemmas.{tr_at, trail_one_on, by_moment}
 use Rattle.tree_trail_laws.proofs.SeenLemmas.{item_mapped, turned, seen_turned}
 use Rattle.tree_trail_laws.proofs.SeenRunLemmas.{all_is_seen}
 use Rattle.run_cause_laws.specs.ForgetLaws.{SiteMayForget, ForgetsDuly, SitesForgetDuly}
-use Rattle.run_cause_laws.proofs.AckStepLemmas.{RowHasAcks, Heard, IsOfDecision, ForgetsSo, acks_stored, acks_on, forgets_on}
+use Rattle.run_cause_laws.proofs.AckStepLemmas.{Heard, IsOfDecision, ForgetsSo, acks_on, forgets_on}
+use Rattle.run_branch_laws.specs.HeardLaws.{RowHasAcks}
+use Rattle.run_branch_laws.proofs.HeldAckLemmas.{acks_stored, wider_acks}
 use Rattle.tree_trail_laws.proofs.LeftLemmas.{IsToldLeft, left_are_told}
 use Rattle.run_cause_laws.proofs.OnceLemmas.{IsOnly, disks_only}
 use Rattle.tree_laws.proofs.AtTurn.{at_turn}
@@ -90,13 +92,6 @@ stopped_acks n s = by (is_live_at n s)
     by : (q : Bool) → ((if q then record s { exit = Some Dropped } else s).me ≡ s.me) × ((if q then record s { exit = Some Dropped } else s).acks ≡ s.acks)
     by true = (refl, refl)
     by false = (refl, refl)
-
--- rows with Acks that tell more
-wider_acks : (P Q : BranchId → BranchId → Type 0) → ((c b : BranchId) → P c b → Q c b) → (ks : List KeptRow) → AllByRecursion (RowHasAcks P) ks → AllByRecursion (RowHasAcks Q) ks
-wider_acks P Q more ks all = all_weaker (RowHasAcks P) (RowHasAcks Q) (λ s is. record {
-  above = λ acked b at. more b s.me (is.above acked b at);
-  below = all_weaker (λ c. c.acked ≡ true → P c.branch s.me) _ (λ c so acked. more c.branch s.me (so acked)) s.children is.below;
-}) ks all
 
 -- the row of a decision
 peers_are : (ps : List Peer) → map (λ (c : Kid). c.branch) (map kid_of ps) ≡ map (λ (c : Peer). c.branch) ps

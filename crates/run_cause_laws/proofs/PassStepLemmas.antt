@@ -165,7 +165,6 @@ module _ (p : Place) (input : Input) where
   passes_on (steps.Pends {k = k} {d = d} n l given call has found code step) = past (called_none input n (stmts.Commit given) call refl) (ap opens call) refl (passes_on step)
   passes_on (steps.Lets_reads_go {k = k} {d = d} l comment q found begins step) = past (collects_none input begins) (collects_closed begins) refl (passes_on step)
   passes_on (steps.Counts_ack {k = k} {d = d} s from kept came counts step) = past (came_none input came refl) (ap opens came.is) refl (passes_on step)
-  passes_on (steps.Rests {k = k}) = calm k _ tt refl
   passes_on (steps.Sends {k = k} ps says) = calm k _ (says_none says) refl
   passes_on (steps.Runs {k = k} x s given t asked way) =
       let z : Branch = record x { live = after_run x.live (ran p k x.live.me s t) } in
@@ -185,16 +184,7 @@ module _ (p : Place) (input : Input) where
   passes_on (steps.Does {k = k} s from nexts.Forget kept why) = calm k _ (each_says NoExec s.me kinds.Forgotten (map (λ b. b.branch) (beyond s)) refl) refl
   passes_on (steps.Does {k = k} s from nexts.SayForgotten kept why) = calm k _ (refl, tt) refl
   passes_on (steps.Does {k = k} s from nexts.SayAck kept why) = calm k _ (refl, tt) refl
-  passes_on (steps.Does {k = k} s from nexts.Rest kept why) = calm k _ tt refl
-  passes_on (steps.Refuses {k = k} n s r is) = calm k _ tt refl
-  passes_on (steps.Completes_at_once {k = k} n s d call completes free) = calm k _ tt refl
-  passes_on (steps.Makes_record {k = k} n s r d call makes) = calm k _ tt refl
-  passes_on (steps.Forces_given {k = k} n id m b call named) = calm k _ tt refl
-  passes_on (steps.Forces_commit {k = k} n id b call named) = calm k _ tt refl
-  passes_on (steps.Forces_rollback {k = k} n id b call named) = calm k _ tt refl
-  passes_on (steps.Hides {k = k} n mixed id s call found) = calm k _ tt refl
-  passes_on (steps.Advises {k = k} n a call) = calm k _ tt refl
   passes_on (steps.Rolls_back {k = k} n x call has found) = left k _ x.live.me (rolls x.live) refl
   passes_on (steps.Gives_up {k = k} n x gives has calls found) = put k _ (record x.work { going = None }) tt (none_waits None refl) refl
   passes_on (steps.Gives_up_commit {k = k} n c (Some l) gives has calls found) = left k _ l.me (rolls l) refl
-  passes_on (steps.Gives_up_commit {k = k} n c None gives has calls found) = calm k _ tt refl
+  passes_on {k = k} _ = calm k _ tt refl

@@ -144,8 +144,6 @@ module _ (p : Place) (input : Input) (no : (from to : BranchId) → Came input f
   step_so (steps.Acts {k = k} l site_below acts.Decide why) = each_told (Forgets _) l.me (kinds.Committed (k.clock + 1)) (site_neighbors l) (λ b. tt)
   step_so (steps.Acts {k = k} l site_below acts.Abandon why) =
       all_append (λ (x : Post). ForgottenSo (Forgets None) x.from x.to x.kind) (to_one l.me kinds.Abort l.parent) _ (one_told (Forgets None) l.me kinds.Abort l.parent (λ b. tt)) (each_told (Forgets None) l.me kinds.Rollback (children_of l) (λ b. tt))
-  step_so (steps.Acts l site_below acts.Rest why) = tt
-  step_so (steps.Acts l site_below acts.Finish why) = tt
   step_so (steps.Drops_told {k = k} l live drops) = each_told (Forgets None) l.me kinds.Rollback (children_of l) (λ b. tt)
   step_so (steps.Drops_asked {k = k} l from live came parent) = (tt, each_told (Forgets None) l.me kinds.Rollback (children_of l) (λ b. tt))
   step_so (steps.Does {k = k} s from (nexts.End d) kept why) = passes_told (Forgets (Some (records.Ended s.me d))) s d
@@ -154,10 +152,8 @@ module _ (p : Place) (input : Input) (no : (from to : BranchId) → Came input f
   step_so (steps.Does {k = k} s from nexts.Forget kept why) = each_told (Forgets (Some (records.Forgot s.me))) s.me kinds.Forgotten (map (λ b. b.branch) (beyond s)) (λ b. refl)
   step_so (steps.Does {k = k} s from nexts.SayForgotten kept (steps.Has_forgotten came knows forgot)) = absurd (no from s.me came)
   step_so (steps.Does s from nexts.SayAck kept why) = (tt, tt)
-  step_so (steps.Does s from nexts.Rest kept why) = tt
   step_so (steps.Rolls_back {k = k} m x call has live) = each_told (Forgets None) x.live.me kinds.Rollback (children_of x.live) (λ b. tt)
   step_so (steps.Gives_up_commit {k = k} m b (Some l) gives has pending live) = each_told (Forgets None) l.me kinds.Rollback (children_of l) (λ c. tt)
-  step_so (steps.Gives_up_commit {k = k} m b None gives has pending live) = tt
   step_so _ = tt
 
 -- ---- a turn in which an Ack comes

@@ -32,7 +32,6 @@ use Rattle.tree_laws.specs.Forests.{forest_of}
 use Rattle.tree_laws.proofs.DecidedRowLemmas.{IsAlone}
 use Rattle.tree_laws.proofs.PrefixLemmas.{e_at, more_on}
 use Rattle.tree_laws.proofs.TimeLemmas.{may_of, exit_on, keep_on}
-use Rattle.commit_forget_laws.specs.RowLaws.{is_ack}
 use Rattle.tree_laws.proofs.MoreLemmas.{happening_added, lawful_at, inv_at}
 use Rattle.commit_forget_laws.proofs.EventLemmas.{learn_knows}
 use Rattle.commit_forget_laws.proofs.ForgetRunLemmas.{forgets_come_from_toward}
@@ -41,7 +40,7 @@ use Rattle.commit_forget_laws.proofs.DecidedEndLemmas.{decided_at}
 use Rattle.settle_laws.proofs.ForgotSayLemmas.{ForgottenSo, AllSo, Forgets, step_so, AckedSo, AckSo, ack_so}
 use Rattle.tree_laws.proofs.AtTurn.{at_happening}
 use Rattle.commit_forget_laws.proofs.SentBackLemmas.{leavers_back, wrote_back}
-use Rattle.commit_forget_laws.proofs.RowRunLemmas.{ack_is}
+use Rattle.commit_forget_laws.proofs.RowRunLemmas.{ack_or_none}
 
 heard_stand : (k : NodeState) (i : Input) (b : BranchId) → status_of (heard k i) b ≡ status_of k b
 unfolding status_of
@@ -194,22 +193,10 @@ module _ (t : History) (whole : IsLawfulRun t) where
               all_weaker (λ (x : Post). ForgottenSo (AckedSo e k0 m.from m.to rows d.wrote) x.from x.to x.kind) (λ (x : Post). ForgottenSo Q x.from x.to x.kind)
               (λ x y. so_weaker (AckedSo e k0 m.from m.to rows d.wrote) Q so x.from x.to x.kind y) d.says its
 
-        by_input : (x : Input) → u.input ≡ x → AllSo Q d.says
-        by_input (inputs.Message m) it = by_kind (is_ack m.kind) refl
-          where
-            by_kind : (q : Bool) → is_ack m.kind ≡ q → AllSo Q d.says
-            by_kind true ack = by_ack m it (ack_is m.kind ack)
-            by_kind false other = by_step (λ from to came. (let both : inputs.Message m ≡ inputs.Message (record { from = from; to = to; scn = came.scn; kind = kinds.Ack }) = sym it ∙ came.is in
-                let one : m ≡ record { from = from; to = to; scn = came.scn; kind = kinds.Ack } = cc in
-                let yes : is_ack m.kind ≡ true = ap (λ (x : Msg). is_ack x.kind) one in absurd (cc (yes, other))))
-        by_input (inputs.Call n c) it = by_step (λ from to came. (let no = came.is in absurd (cc (no, it))))
-        by_input (inputs.GiveUp n) it = by_step (λ from to came. (let no = came.is in absurd (cc (no, it))))
-        by_input inputs.Reco it = by_step (λ from to came. (let no = came.is in absurd (cc (no, it))))
-
       sent_so : (cut : Bool) → IsOwed place k u.input u.wrote u.sent cut → AllByRecursion (λ (m : Msg). ForgottenSo Q m.from m.to m.kind) u.sent
       unfolding turn_of
       sent_so true owed = subst (AllByRecursion (λ (m : Msg). ForgottenSo Q m.from m.to m.kind)) (sym owed.1) tt
-      sent_so false owed = subst (AllByRecursion (λ (m : Msg). ForgottenSo Q m.from m.to m.kind)) (sym owed.1) (all_map (λ (m : Msg). ForgottenSo Q m.from m.to m.kind) (stamped d.after.clock) d.says (by_input owed.0 u.input refl))
+      sent_so false owed = subst (AllByRecursion (λ (m : Msg). ForgottenSo Q m.from m.to m.kind)) (sym owed.1) (all_map (λ (m : Msg). ForgottenSo Q m.from m.to m.kind) (stamped d.after.clock) d.says (ack_or_none u.input (by_step owed.0) (by_ack owed.0)))
 
       turn_have : AllHave after
       turn_have a b has = elim (messages_back a b Q u.sent (with_exits f g u e) (sent_so u.cut may.owed) has) [

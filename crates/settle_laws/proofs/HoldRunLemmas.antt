@@ -36,7 +36,6 @@ use Rattle.tree_laws.specs.RecordLaws.{RecordLeads, WritesAsTold}
 use Rattle.tree_laws.proofs.PrefixLemmas.{f_at, e_at, one_on, more_on}
 use Rattle.tree_laws.proofs.RecordRunLemmas.{records_are_as_told}
 use Rattle.tree_laws.proofs.TimeLemmas.{may_of, fact_at, exit_on, keep_on}
-use Rattle.commit_forget_laws.specs.RowLaws.{is_ack}
 use Rattle.commit_forget_laws.proofs.AckTurnLemmas.{ack_rows}
 use Rattle.tree_laws.proofs.MoreLemmas.{inv_at}
 use Rattle.commit_forget_laws.proofs.EventLemmas.{forgot_left, turn_back, stop_back, wrote_back}
@@ -46,7 +45,7 @@ use Rattle.commit_forget_laws.proofs.VotedLemmas.{draft_voted}
 use Rattle.commit_forget_laws.proofs.FoundRowLemmas.{rows_found}
 use Rattle.settle_laws.proofs.HoldLemmas.{Holds, holds_stays, all_unacked, tells_for, from_tells}
 use Rattle.tree_laws.proofs.AtTurn.{at_happening}
-use Rattle.commit_forget_laws.proofs.RowRunLemmas.{ack_is}
+use Rattle.commit_forget_laws.proofs.RowRunLemmas.{ack_or_none}
 
 heard_stored : (k : NodeState) (input : Input) → (heard k input).stored ≡ k.stored
 heard_stored k (inputs.Message m) = refl
@@ -147,23 +146,11 @@ module _ (t : History) (whole : IsLawfulRun t) where
             let same_turn : Left (kind_turn p k0 m.from m.to m.kind (status_of k0 m.to)) = subst (λ x. Left (kind_turn p k0 m.from m.to x (status_of k0 m.to))) (sym kind) left in
             subst (λ i. Left (draft_of p k i)) (sym it) same_turn
 
-        by_input : (i : Input) → u.input ≡ i → Left d
-        by_input (inputs.Message m) it = by_kind (is_ack m.kind) refl
-          where
-            by_kind : (q : Bool) → is_ack m.kind ≡ q → Left d
-            by_kind true ack = by_ack m it (ack_is m.kind ack)
-            by_kind false other = by_step (λ from to came. (let both : inputs.Message m ≡ inputs.Message (record { from = from; to = to; scn = came.scn; kind = kinds.Ack }) = sym it ∙ came.is in
-                let one : m ≡ record { from = from; to = to; scn = came.scn; kind = kinds.Ack } = cc in
-                let yes : is_ack m.kind ≡ true = ap (λ (x : Msg). is_ack x.kind) one in absurd (cc (yes, other))))
-        by_input (inputs.Call n c) it = by_step (λ from to came. (let no = came.is in absurd (cc (no, it))))
-        by_input (inputs.GiveUp n) it = by_step (λ from to came. (let no = came.is in absurd (cc (no, it))))
-        by_input inputs.Reco it = by_step (λ from to came. (let no = came.is in absurd (cc (no, it))))
-
         -- the rows after the turn, by its record
         left : AllByRecursion (Holds (with_record u e)) d.after.stored.durable.kept
         left =
             subst (λ w. AllByRecursion (Holds (with_event (wrote_event u.node w) e)) d.after.stored.durable.kept) (sym wrote)
-            (all_weaker _ (Holds (with_event (wrote_event u.node d.wrote) e)) (λ x so. from_tells (told ++ d.says) (with_event (wrote_event u.node d.wrote) e) x so) d.after.stored.durable.kept (by_input u.input refl))
+            (all_weaker _ (Holds (with_event (wrote_event u.node d.wrote) e)) (λ x so. from_tells (told ++ d.says) (with_event (wrote_event u.node d.wrote) e) x so) d.after.stored.durable.kept (ack_or_none u.input by_step by_ack))
 
         -- and those that its records make
         stored0 : StoresOf (records_at f u.node) (heard k u.input)

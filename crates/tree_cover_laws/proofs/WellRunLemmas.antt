@@ -8,17 +8,17 @@ use Rattle.node_rules.specs.Data.kinds
 use Rattle.node_rules.specs.declared.work.Work.{Work}
 use Rattle.node_rules.specs.Words.{numbered, item_at}
 use Rattle.node_rules.specs.Inputs.{Came}
-use Rattle.node_rules.specs.NodeState.{NodeState, TurnDraft, live_id, live_at}
+use Rattle.node_rules.specs.NodeState.{NodeState, live_id, live_at}
 use Rattle.node_rules.specs.Calls.{is_gone}
 use Rattle.node_rules.specs.Sessions.{session_at}
-use Rattle.node_rules.specs.Turn.{turn_of, start_of, heard, draft_of}
+use Rattle.node_rules.specs.Turn.{turn_of, start_of, heard}
 use Rattle.node_rules.specs.LiveBranches.{EachLive}
 use Rattle.node_rules.proofs.LiveLemmas.{each_same, none_live, branch_parts}
 use Rattle.agreement.specs.Events.{Event, exit}
 use Rattle.run_rules.specs.Births.{Born, births_after}
 use Rattle.run_rules.specs.Data.{Packet, Turn, Happening, Command}
 use Rattle.run_rules.specs.Data.happenings
-use Rattle.run_rules.specs.Facts.{Facts, first_facts, place_at, node_at, kept_after, facts_after, facts_of}
+use Rattle.run_rules.specs.Facts.{Facts, first_facts, node_at, kept_after, facts_after, facts_of}
 use Rattle.run_base_laws.specs.InTurnLaws.{post_of, packet_post, said_in, newest_reply, NeedsNoRollback}
 use Rattle.run_rules.specs.Lawful.{IsPlace, MayTurn, MayHappen, IsOwed, IsLawful, History, IsLawfulRun, facts_at}
 use Rattle.run_base_laws.specs.RunEvents.{events_after}
@@ -31,6 +31,7 @@ use Rattle.run_base_laws.proofs.OwnLemmas.{all_found}
 use Rattle.run_base_laws.proofs.RestLemmas.{live_root}
 use Rattle.run_base_laws.proofs.RestRunLemmas.{NodeRests, heard_rests, RootsStand, roots_stand_on, first_rests}
 use Rattle.run_base_laws.proofs.SaidPostLemmas.{posts_back, posts_of}
+use Rattle.run_base_laws.proofs.OneTurn.{one_turn}
 use Rattle.tree_laws.proofs.EachNodeLemmas.{EachNode, turn_says, turn_nodes, says_on, nodes_on, nodes_first}
 use Rattle.node_rules.proofs.HeardLemmas.{sessions_heard}
 use Rattle.tree_laws.proofs.GoOnLemmas.{goes_before}
@@ -95,17 +96,7 @@ start_well ms zs = none_live _
 module _ (places : List Place) (asked : List Command) (each : (n : ℕ) (p : Place) → numbered places n ≡ Some p → IsPlace places n p) where
   module _ (f : Facts) (t : List Event) (bs : List Born) (stand : StandBorn places asked each f t bs) (roots : RootsStand places asked each f) (turns : CallsStand f) (now : WellStand f) where
     module _ (u : Turn) (k : NodeState) (may : MayTurn places f u k) where
-      abbrev n : ℕ
-      n = u.node
-
-      abbrev p : Place
-      p = place_at places u.node
-
-      abbrev d : TurnDraft
-      d = draft_of p k u.input
-
-      abbrev said : List Post
-      said = said_in f
+      open one_turn places asked f u k use {n, p, d, said}
 
       abbrev more : List Post
       more = said ++ d.says

@@ -300,7 +300,6 @@ module _ (E : BranchId → Option ℕ) (A : BranchId → Option BranchId) (G Her
     wells_on (steps.Does {k = k} s from nexts.Forget kept why) granted ss news rooted nodes calls now = draft.quiet E A G Here input said received k calls now _ (each_says IsIdle s.me kinds.Forgotten (map (λ b. b.branch) (beyond s)) ((λ n v is. is), refl))
     wells_on (steps.Does {k = k} s from nexts.SayForgotten kept why) granted ss news rooted nodes calls now = draft.quiet E A G Here input said received k calls now _ (((λ n v is. is), refl), tt)
     wells_on (steps.Does {k = k} s from nexts.SayAck kept why) granted ss news rooted nodes calls now = draft.quiet E A G Here input said received k calls now _ (((λ n v is. is), refl), tt)
-    wells_on (steps.Does {k = k} s from nexts.Rest kept why) granted ss news rooted nodes calls now = draft.quiet E A G Here input said received k calls now [] tt
     wells_on (steps.Rolls_back {k = k} n x call has live) granted ss news rooted nodes calls now = draft.left E A G Here input said received k calls now x.live.me _ (rolled x.live)
     wells_on (steps.Gives_up {k = k} n x gives has pends live) granted ss news rooted nodes calls now =
         let was : Old x.live x.work = found_old k calls now ss nodes x live in
@@ -315,13 +314,4 @@ module _ (E : BranchId → Option ℕ) (A : BranchId → Option BranchId) (G Her
           (λ b none n v is. is),
         )
     wells_on (steps.Gives_up_commit {k = k} n b (Some l) gives has pends live) granted ss news rooted nodes calls now = draft.left E A G Here input said received k calls now l.me _ (rolled l)
-    wells_on (steps.Gives_up_commit {k = k} n b None gives has pends live) granted ss news rooted nodes calls now = draft.quiet E A G Here input said received k calls now [] tt
-    wells_on (steps.Rests {k = k}) granted ss news rooted nodes calls now = draft.quiet E A G Here input said received k calls now [] tt
-    wells_on (steps.Refuses {k = k} n s r is) granted ss news rooted nodes calls now = draft.quiet E A G Here input said received k calls now [] tt
-    wells_on (steps.Completes_at_once {k = k} n s d call completes none) granted ss news rooted nodes calls now = draft.quiet E A G Here input said received k calls now [] tt
-    wells_on (steps.Makes_record {k = k} n s r d call makes) granted ss news rooted nodes calls now = draft.quiet E A G Here input said received k calls now [] tt
-    wells_on (steps.Forces_given {k = k} n id m b call named) granted ss news rooted nodes calls now = draft.quiet E A G Here input said received k calls now [] tt
-    wells_on (steps.Forces_commit {k = k} n id b call named) granted ss news rooted nodes calls now = draft.quiet E A G Here input said received k calls now [] tt
-    wells_on (steps.Forces_rollback {k = k} n id b call named) granted ss news rooted nodes calls now = draft.quiet E A G Here input said received k calls now [] tt
-    wells_on (steps.Hides {k = k} n mixed id s call found) granted ss news rooted nodes calls now = draft.quiet E A G Here input said received k calls now [] tt
-    wells_on (steps.Advises {k = k} n a call) granted ss news rooted nodes calls now = draft.quiet E A G Here input said received k calls now [] tt
+    wells_on {k = k} _ granted ss news rooted nodes calls now = draft.quiet E A G Here input said received k calls now [] tt

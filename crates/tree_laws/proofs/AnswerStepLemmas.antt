@@ -4,7 +4,6 @@ use Rattle.std.proofs.Common.{◌≡◌, ◌≢◌, ℕ, zero, suc, Bool, true, 
 use Rattle.std.specs.List.{AllByRecursion}
 use Rattle.std.proofs.lemmas.Bool.{cond_both, and_parts}
 use Rattle.tran_ids.proofs.BranchLemmas.{equal_from_same}
-use Rattle.commit_forget.specs.declared.next.Next.TheVariants as nexts
 use Rattle.session_tree.specs.Live.{new_edge}
 use Rattle.node_rules.specs.Data.{BranchId, Edge, Vote, Live, Act, Phase, Post, Place, Input}
 use Rattle.node_rules.specs.Data.acts
@@ -12,18 +11,15 @@ use Rattle.node_rules.specs.Data.kinds
 use Rattle.node_rules.specs.Data.phases
 use Rattle.node_rules.specs.Data.votes
 use Rattle.node_rules.specs.declared.work.Going.{Going}
-use Rattle.node_rules.specs.Words.{same, numbered, set_numbered, put_item, drop_item}
+use Rattle.node_rules.specs.Words.{same, numbered, set_numbered}
 use Rattle.node_rules.specs.Inputs.{Came}
 use Rattle.node_rules.specs.NodeState.{NodeState, Branch, TurnDraft, live_id, live_at, branch_at}
-use Rattle.node_rules.specs.Statement.{ran, after_run}
-use Rattle.node_rules.specs.Calls.{with_edge, hears_reply}
 use Rattle.node_rules.specs.Prepare.{with_prepare_sent, ready, voted, has_voted, is_awaited, answers_first}
-use Rattle.node_rules.proofs.Steps as steps
-use Rattle.node_rules.proofs.Steps.{Step, Asked, Answers, Acting, vote_kind}
-use Rattle.node_rules.proofs.StandLemmas.{live_so}
+use Rattle.node_rules.proofs.Steps.{Step, Answers, Acting, vote_kind}
 use Rattle.run_branch_laws.specs.WalkLaws.{is_below, was_sent}
 use Rattle.run_rules.proofs.ListLemmas.{all_weaker, all_append, all_map, all_each}
-use Rattle.run_base_laws.proofs.OwnLemmas.{all_found, all_with, all_without, all_last}
+use Rattle.run_base_laws.proofs.OwnLemmas.{all_found}
+use Rattle.run_base_laws.proofs.LiveStepLemmas.{LastsInTurn, LiveCases, acting_by, left_by, lives_on}
 use Rattle.run_base_laws.proofs.NeighborLemmas.{reply_is}
 use Rattle.run_branch_laws.proofs.PhaseLemmas.{slice_all, slice_set_all}
 use Rattle.run_branch_laws.proofs.QuietLemmas.{came_apart}
@@ -70,69 +66,38 @@ module _ (said : List Post) (p : Place) (input : Input) (came_ready : (from to :
         asked = λ other. vote_asked answers;
       }) (λ other. is)) l.edges old)
 
+  acting_told : (k : NodeState) → ((x : Live) → live_at k x.me ≡ Some x → Told x) → {l : Live} {b : Bool} {a : Act} → Acting k input l b a → Told l
+  acting_told k all why = acting_by Told (λ x comment b live begins so. asked_down x.me (phases.Collecting b) x.edges) (λ x from v b answers so. voted_told x from v b answers so) all why
+
   module _ (k : NodeState) (all : AllByRecursion Told k.lives) where
     live_told : (b : BranchId) (l : Live) → live_at k b ≡ Some l → Told l
     live_told b l found = all_found Told live_id k.lives b l all found
 
-    branch_told : (x : Branch) → branch_at k x.live.me ≡ Some x → Told x.live
-    branch_told x found = live_told x.live.me x.live (live_so k x.live.me x found)
-
-    asked_told : {x : Branch} {s : _} {given : ℕ} → Asked k input x s given → Told x.live
-    asked_told (steps.By_call n x s call rows has code live) = branch_told x live
-    asked_told (steps.By_exec x from call given advice s came live runs) = branch_told x live
-
     pub acting_edges : {l : Live} {b : Bool} {a : Act} → Acting k input l b a → Told l
-    acting_edges (steps.Asks_down l comment b e es live begins has) = asked_down l.me (phases.Collecting b) l.edges
-    acting_edges (steps.Has_no_children l comment b a live begins none collected) = asked_down l.me (phases.Collecting b) l.edges
-    acting_edges (steps.Hears_abort l from b live answers) = voted_told l from votes.Abort b answers (live_told l.me l live)
-    acting_edges (steps.Waits_on l from v b live answers other some) = voted_told l from v b answers (live_told l.me l live)
-    acting_edges (steps.Hears_last l from v b a live answers other all_so collected) = voted_told l from v b answers (live_told l.me l live)
-    acting_edges (steps.At_point l from a live came is pointed) = live_told l.me l live
+    acting_edges why = acting_told k (λ x live. live_told x.me x live) why
 
-    changed : (l : Live) → Told l → AllByRecursion Told (put_item live_id k.lives l)
-    changed l is = all_with Told live_id k.lives l all is
+  opens_lasts : LastsInTurn p input OpensAtWork
+  opens_lasts = record {
+    begun = λ k n s call rows free works from to edge strength came. absurd (came_apart n s came call);
+    pends = λ k n l given call has works. works;
+    lets = λ k b works. works;
+    acked = λ k s from kept came works. works;
+  }
 
-    gone : (b : BranchId) → AllByRecursion Told (drop_item live_id k.lives b)
-    gone b = all_without Told live_id k.lives b all
+  each : LiveCases p input OpensAtWork (λ d. Unit {0}) Told
+  each = record {
+    lasts = opens_lasts;
+    root = λ k n s call rows free works. tt;
+    child = λ k to parent edge root depth came new works. tt;
+    advised = λ l advice so. so;
+    runs = λ k x s t so. so;
+    opens = λ k x from strength g link opened works so.
+        (let working : x.live.phase ≡ phases.Working = works from x.live.me opened.edge strength opened.came x g opened.live opened.going in
+        all_append (EdgeTold said x.live.me x.live.phase) x.live.edges (new_edge from link strength ∷ []) so (record { ready = λ is. absurd cc; asked = λ other. absurd (other working) }, tt));
+    replies = λ k x weight count a i e answered so. known_edges x.live.me x.live.phase x.live.edges i e _ (reply_is x answered.from answered.call i e answered.waits) refl refl so;
+    acts = λ k l below a why works q all.
+        left_by Told l a (λ says so. all_weaker _ _ (λ e is. record { ready = is.ready; asked = λ other. is.asked (acting_phase why) }) l.edges so) (acting_told k all why);
+  }
 
   pub answers_on : {k : NodeState} {d : TurnDraft} → Step p input k d → OpensAtWork k → AllByRecursion Told k.lives → AllByRecursion Told d.after.lives
-  answers_on (steps.Begins {k = k} n s call rows fit none step) works all = answers_on step (λ from to edge strength came. absurd (came_apart n s came call)) (all_last Told live_id k.lives _ all tt)
-  answers_on (steps.Pends n l comment call has live code step) works all = answers_on step works all
-  answers_on (steps.Lets_reads_go l comment b live begins step) works all = answers_on step works all
-  answers_on (steps.Counts_ack s from kept came counts step) works all = answers_on step works all
-  answers_on (steps.Runs {k = k} x s given t asked way) works all = changed k all (after_run x.live (ran p k x.live.me s t)) (asked_told k all asked)
-  answers_on (steps.Goes_nowhere {k = k} x s given r asked way) works all = changed k all x.live (asked_told k all asked)
-  answers_on (steps.Calls {k = k} x s given i table asked way) works all = changed k all x.live (asked_told k all asked)
-  answers_on (steps.Opens {k = k} x s given node link table asked way) works all = changed k all x.live (asked_told k all asked)
-  answers_on (steps.Goes_on {k = k} x from strength g link opened) works all =
-      let working : x.live.phase ≡ phases.Working = works from x.live.me opened.edge strength opened.came x g opened.live opened.going in
-      changed k all (with_edge x (new_edge from link strength)).live
-      (all_append (EdgeTold said x.live.me x.live.phase) x.live.edges (new_edge from link strength ∷ []) (branch_told k all x opened.live) (record { ready = λ is. absurd cc; asked = λ other. absurd (other working) }, tt))
-  answers_on (steps.Hears_reply {k = k} x weight count a i e answered) works all =
-      changed k all (hears_reply x i weight count e).live
-      (known_edges x.live.me x.live.phase x.live.edges i e _ (reply_is x answered.from answered.call i e answered.waits) refl refl (branch_told k all x answered.live))
-  answers_on (steps.Opens_branch {k = k} to parent edge root depth came new) works all = all_last Told live_id k.lives _ all tt
-  answers_on (steps.Acts {k = k} l b acts.Rest why) works all = changed k all l (acting_edges k all why)
-  answers_on (steps.Acts {k = k} l b acts.AskDown why) works all = changed k all l (acting_edges k all why)
-  answers_on (steps.Acts {k = k} l b acts.SayReady why) works all =
-      changed k all (ready l) (all_weaker _ _ (λ e is. record { ready = is.ready; asked = λ other. is.asked (acting_phase why) }) l.edges (acting_edges k all why))
-  answers_on (steps.Acts {k = k} l b acts.SayReadOnly why) works all = gone k all l.me
-  answers_on (steps.Acts {k = k} l b acts.Seal why) works all = gone k all l.me
-  answers_on (steps.Acts {k = k} l b (acts.SealAndPass i) why) works all = gone k all l.me
-  answers_on (steps.Acts {k = k} l b acts.Decide why) works all = gone k all l.me
-  answers_on (steps.Acts {k = k} l b acts.Finish why) works all = gone k all l.me
-  answers_on (steps.Acts {k = k} l b acts.Abandon why) works all = gone k all l.me
-  answers_on (steps.Drops_told {k = k} l live drops) works all = gone k all l.me
-  answers_on (steps.Drops_asked {k = k} l from live came parent) works all = gone k all l.me
-  answers_on (steps.Does s from nexts.Rest kept why) works all = all
-  answers_on (steps.Does s from nexts.AckToward kept why) works all = all
-  answers_on (steps.Does s from nexts.SayForgotten kept why) works all = all
-  answers_on (steps.Does s from nexts.SayAck kept why) works all = all
-  answers_on (steps.Does s from (nexts.End d) kept why) works all = all
-  answers_on (steps.Does s from (nexts.Meet d mixed) kept why) works all = all
-  answers_on (steps.Does s from nexts.Forget kept why) works all = all
-  answers_on (steps.Rolls_back {k = k} n x call has live) works all = gone k all x.live.me
-  answers_on (steps.Gives_up {k = k} n x gives has calls live) works all = changed k all x.live (branch_told k all x live)
-  answers_on (steps.Gives_up_commit {k = k} n b (Some l) gives has calls live) works all = gone k all l.me
-  answers_on (steps.Gives_up_commit {k = k} n b None gives has calls live) works all = all
-  answers_on _ works all = all
+  answers_on step works all = lives_on each step works tt all

@@ -10,7 +10,7 @@ use Rattle.node_rules.specs.Data.{BranchId, Kind, Live, Post, Place, RedoRecord}
 use Rattle.node_rules.specs.Data.kinds
 use Rattle.node_rules.specs.Words.{same, numbered}
 use Rattle.node_rules.specs.Inputs.{Came}
-use Rattle.node_rules.specs.NodeState.{NodeState, TurnDraft, live_id, live_at}
+use Rattle.node_rules.specs.NodeState.{NodeState, live_id, live_at}
 use Rattle.node_rules.specs.Turn.{start_of, heard, draft_of}
 use Rattle.agreement.specs.Events.{Event}
 use Rattle.run_rules.specs.Data.{Packet, Turn, Happening, Command}
@@ -37,6 +37,7 @@ use Rattle.run_base_laws.proofs.RestRunLemmas.{heard_rests, RootsStand, roots_st
 use Rattle.run_base_laws.proofs.SaidPostLemmas.{unborn_asks}
 use Rattle.run_base_laws.proofs.InTurnRunLemmas as calls
 use Rattle.run_base_laws.proofs.InTurnRunLemmas.{CallsStand, heard_calls, calls_stand_on, first_calls}
+use Rattle.run_base_laws.proofs.OneTurn.{one_turn}
 use Rattle.run_branch_laws.proofs.FreezeStepLemmas as frost
 use Rattle.run_branch_laws.proofs.FreezeRunLemmas as frozen
 use Rattle.run_branch_laws.proofs.FreezeRunLemmas.{FreezeStand, freeze_on, first_freeze}
@@ -88,20 +89,7 @@ start_told ms zs = none_live _
 module _ (places : List Place) (asked : List Command) (each : (n : ℕ) (p : Place) → numbered places n ≡ Some p → IsPlace places n p) where
   module _ (f : Facts) (t : List Event) (bs : List Born) (stand : StandBorn places asked each f t bs) (roots : RootsStand places asked each f) (turned : CallsStand f) (ice : FreezeStand f) (now : AskStand f bs) where
     module _ (u : Turn) (k : NodeState) (may : MayTurn places f u k) where
-      abbrev n : ℕ
-      n = u.node
-
-      abbrev p : Place
-      p = place_at places u.node
-
-      abbrev d : TurnDraft
-      d = draft_of p k u.input
-
-      abbrev g : Facts
-      g = facts_after places asked f (happenings.Turn u)
-
-      abbrev said : List Post
-      said = said_in f
+      open one_turn places asked f u k use {n, p, d, g, said}
 
       abbrev Here : BranchId → Type 0
       Here = calls.Here places asked each f t bs stand roots turned u k may
@@ -192,7 +180,7 @@ module _ (places : List Place) (asked : List Command) (each : (n : ℕ) (p : Pla
     -- ---- every happening
 
     goes_down : (kind : Kind → Bool) → GoesDown kind bs (said_in f)
-        → ((u : Turn) (k : NodeState) (may : MayTurn places f u k) → node_at (facts_after places asked f (happenings.Turn u)) u.node ≡ Some (d u k may).after → (q c : BranchId) → was_sent kind (d u k may).says q c ≡ true → HeardAbove kind (bs2 u k may) (more u k may) q)
+        → ((u : Turn) (k : NodeState) (may : MayTurn places f u k) → node_at (facts_after places asked f (happenings.Turn u)) u.node ≡ Some (draft_of (place_at places u.node) k u.input).after → (q c : BranchId) → was_sent kind (draft_of (place_at places u.node) k u.input).says q c ≡ true → HeardAbove kind (bs2 u k may) (more u k may) q)
         → (h : Happening) → MayHappen places asked f h → GoesDown kind (births_after places f h bs) (said_in (facts_after places asked f h))
     goes_down kind old new (happenings.Turn u) may =
         turn_says places asked f stand.0.0.even u may.0 may.1 (GoesDown kind (bs2 u may.0 may.1)) (λ down. down_same u may.0 may.1 kind old) (λ up. down_all u may.0 may.1 kind old (new u may.0 may.1 up))

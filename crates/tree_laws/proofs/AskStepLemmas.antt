@@ -363,18 +363,8 @@ module _ (E : BranchId → Option ℕ) (A : BranchId → Option BranchId) (G Her
       told_on (steps.Does {k = k} s from nexts.Forget kept why) ss news nodes ice now = same_lives k now _ _ (each_says IsPlain s.me kinds.Forgotten (map (λ b. b.branch) (beyond s)) refl)
       told_on (steps.Does {k = k} s from nexts.SayForgotten kept why) ss news nodes ice now = same_lives k now _ _ (refl, tt)
       told_on (steps.Does {k = k} s from nexts.SayAck kept why) ss news nodes ice now = same_lives k now _ _ (refl, tt)
-      told_on (steps.Does {k = k} s from nexts.Rest kept why) ss news nodes ice now = same_lives k now [] _ tt
       told_on (steps.Rolls_back {k = k} n x call has live) ss news nodes ice now = (left k now x.live.me _ (rolled x.live), plain_askers Here _ _ (rolled x.live))
       told_on (steps.Gives_up {k = k} n x gives has calls live) ss news nodes ice now =
           (put k now [] x.live (gives_up x).work (work_is k x.live.me x live) tt (now.each x.live.me x.live (branch_parts k x.live.me x live).0), plain_askers Here [] _ tt)
       told_on (steps.Gives_up_commit {k = k} n b (Some l) gives has calls live) ss news nodes ice now = (left k now l.me _ (rolled l), plain_askers Here _ _ (rolled l))
-      told_on (steps.Gives_up_commit {k = k} n b None gives has calls live) ss news nodes ice now = same_lives k now [] _ tt
-      told_on (steps.Rests {k = k}) ss news nodes ice now = same_lives k now [] _ tt
-      told_on (steps.Refuses {k = k} n s r is) ss news nodes ice now = same_lives k now [] _ tt
-      told_on (steps.Completes_at_once {k = k} n s d call completes none) ss news nodes ice now = same_lives k now [] _ tt
-      told_on (steps.Makes_record {k = k} n s r d call makes) ss news nodes ice now = same_lives k now [] _ tt
-      told_on (steps.Forces_given {k = k} n id m b call named) ss news nodes ice now = same_lives k now [] _ tt
-      told_on (steps.Forces_commit {k = k} n id b call named) ss news nodes ice now = same_lives k now [] _ tt
-      told_on (steps.Forces_rollback {k = k} n id b call named) ss news nodes ice now = same_lives k now [] _ tt
-      told_on (steps.Hides {k = k} n mixed id s call found) ss news nodes ice now = same_lives k now [] _ tt
-      told_on (steps.Advises {k = k} n a call) ss news nodes ice now = same_lives k now [] _ tt
+      told_on {k = k} _ ss news nodes ice now = same_lives k now [] _ tt

@@ -160,40 +160,27 @@ module _ (t : History) (before : List Happening) where
   set_back : (m n : ℕ) (o : Option NodeState) (j : NodeState) → flat (numbered (set_numbered f1.nodes m o) n) ≡ Some j → (node_at f1 n ≡ Some j) ⊎ (o ≡ Some j)
   set_back m n o j up = elim (set_or_before f1.nodes m n o) [ inl still ↦ inl (ap flat (sym still) ∙ up) | inr set ↦ inr (ap flat (sym set.1) ∙ up) ]
 
-  stop_back : (m n : ℕ) (j : NodeState) → node_at (facts_after t.places t.commands f1 (happenings.Stopped m)) n ≡ Some j → node_at f1 n ≡ Some j
+  -- a live branch after a happening that is no turn was at its node before
+  pub node_back : (h : Happening) → ((u : Turn) → h ≢ happenings.Turn u) → (n : ℕ) (j : NodeState) → node_at (facts_after t.places t.commands f1 h) n ≡ Some j → (w : Branch) → branch_at j w.live.me ≡ Some w → node_at f1 n ≡ Some j
   unfolding facts_after
-  stop_back m n j up = elim (set_back m n None j up) [ inl old ↦ old | inr none ↦ absurd cc ]
-
-  start_back : (m boot n : ℕ) (j : NodeState) → node_at (facts_after t.places t.commands f1 (happenings.Started m boot)) n ≡ Some j → (y : Branch) → branch_at j y.live.me ≡ Some y → node_at f1 n ≡ Some j
-  unfolding facts_after
-  start_back m boot n j up y found = elim (set_back m n (Some (start_of (with_boot f1 m boot))) j up) [
+  node_back (happenings.Turn u) not n j up w is = absurd (not u refl)
+  node_back (happenings.Stopped m) not n j up w is = elim (set_back m n None j up) [ inl old ↦ old | inr none ↦ absurd cc ]
+  node_back (happenings.Started m boot) not n j up w is = elim (set_back m n (Some (start_of (with_boot f1 m boot))) j up) [
     | inl old ↦ old
-    | inr new ↦ absurd (start_empty (with_boot f1 m boot) y (let it : start_of (with_boot f1 m boot) ≡ j = cc in subst (λ k. branch_at k y.live.me ≡ Some y) (sym it) found))
+    | inr new ↦ absurd (start_empty (with_boot f1 m boot) w (let it : start_of (with_boot f1 m boot) ≡ j = cc in subst (λ k. branch_at k w.live.me ≡ Some w) (sym it) is))
   ]
-
-  begun_back : (c n : ℕ) (j : NodeState) → node_at (facts_after t.places t.commands f1 (happenings.Begun c)) n ≡ Some j → node_at f1 n ≡ Some j
-  unfolding facts_after
-  begun_back c n j up = up
-
-  cut_back : (a b n : ℕ) (j : NodeState) → node_at (facts_after t.places t.commands f1 (happenings.Cut a b)) n ≡ Some j → node_at f1 n ≡ Some j
-  unfolding facts_after
-  cut_back a b n j up = up
-
-  join_back : (a b n : ℕ) (j : NodeState) → node_at (facts_after t.places t.commands f1 (happenings.Join a b)) n ≡ Some j → node_at f1 n ≡ Some j
-  unfolding facts_after
-  join_back a b n j up = up
-
-  lost_back : (k n : ℕ) (j : NodeState) → node_at (facts_after t.places t.commands f1 (happenings.Lost k)) n ≡ Some j → node_at f1 n ≡ Some j
-  unfolding facts_after
-  lost_back k n j up = up
+  node_back (happenings.Begun x) not n j up w is = up
+  node_back (happenings.Cut a b) not n j up w is = up
+  node_back (happenings.Join a b) not n j up w is = up
+  node_back (happenings.Lost k) not n j up w is = up
 
   -- each happening
   pub back : (h : Happening) (lawful : IsLawfulRun (so_far t before)) (may : MayHappen t.places t.commands f1 h) → LeavesStill t.places f1 h → (n : ℕ) (j : NodeState) → node_at (facts_after t.places t.commands f1 h) n ≡ Some j
       → (y : Branch) → branch_at j y.live.me ≡ Some y → (c : BranchId) → was_asked (said_in f1) y.live.me c ≡ true → Back t before h lawful may n y
   back (happenings.Turn u) lawful may still n j up y found c asked = turn_back_at t before u lawful may still n j up y found c asked
-  back (happenings.Stopped m) lawful may still n j up y found c asked = same_back t before (happenings.Stopped m) lawful may n j (stop_back m n j up) y found
-  back (happenings.Started m boot) lawful may still n j up y found c asked = same_back t before (happenings.Started m boot) lawful may n j (start_back m boot n j up y found) y found
-  back (happenings.Begun x) lawful may still n j up y found c asked = same_back t before (happenings.Begun x) lawful may n j (begun_back x n j up) y found
-  back (happenings.Cut a b) lawful may still n j up y found c asked = same_back t before (happenings.Cut a b) lawful may n j (cut_back a b n j up) y found
-  back (happenings.Join a b) lawful may still n j up y found c asked = same_back t before (happenings.Join a b) lawful may n j (join_back a b n j up) y found
-  back (happenings.Lost k) lawful may still n j up y found c asked = same_back t before (happenings.Lost k) lawful may n j (lost_back k n j up) y found
+  back (happenings.Stopped m) lawful may still n j up y found c asked = same_back t before (happenings.Stopped m) lawful may n j (node_back (happenings.Stopped m) (λ u is. absurd cc) n j up y found) y found
+  back (happenings.Started m boot) lawful may still n j up y found c asked = same_back t before (happenings.Started m boot) lawful may n j (node_back (happenings.Started m boot) (λ u is. absurd cc) n j up y found) y found
+  back (happenings.Begun x) lawful may still n j up y found c asked = same_back t before (happenings.Begun x) lawful may n j (node_back (happenings.Begun x) (λ u is. absurd cc) n j up y found) y found
+  back (happenings.Cut a b) lawful may still n j up y found c asked = same_back t before (happenings.Cut a b) lawful may n j (node_back (happenings.Cut a b) (λ u is. absurd cc) n j up y found) y found
+  back (happenings.Join a b) lawful may still n j up y found c asked = same_back t before (happenings.Join a b) lawful may n j (node_back (happenings.Join a b) (λ u is. absurd cc) n j up y found) y found
+  back (happenings.Lost k) lawful may still n j up y found c asked = same_back t before (happenings.Lost k) lawful may n j (node_back (happenings.Lost k) (λ u is. absurd cc) n j up y found) y found

@@ -134,16 +134,9 @@ calls_on p input (steps.Acts {k = k} l site_below acts.Abandon why) ss now = gon
 calls_on p input (steps.Drops_told {k = k} l live drops) ss now = gone k now l.me
 calls_on p input (steps.Drops_asked {k = k} l from live came parent) ss now = gone k now l.me
 calls_on p input (steps.Does s from nexts.Rest kept why) ss now = now
-calls_on p input (steps.Does s from nexts.AckToward kept why) ss now = now
-calls_on p input (steps.Does s from nexts.SayForgotten kept why) ss now = now
-calls_on p input (steps.Does s from nexts.SayAck kept why) ss now = now
-calls_on p input (steps.Does s from (nexts.End d) kept why) ss now = now
-calls_on p input (steps.Does s from (nexts.Meet d mixed) kept why) ss now = now
-calls_on p input (steps.Does s from nexts.Forget kept why) ss now = now
 calls_on p input (steps.Rolls_back {k = k} n x call has live) ss now = gone k now x.live.me
 calls_on p input (steps.Gives_up {k = k} n x gives has calls live) ss now = put k now x.live (gives_up x).work (work_is k x.live.me x live) (found_called k now x live)
 calls_on p input (steps.Gives_up_commit {k = k} n b (Some l) gives has calls live) ss now = gone k now l.me
-calls_on p input (steps.Gives_up_commit n b None gives has calls live) ss now = now
 calls_on p input _ ss now = now
 
 abbrev AllCalled : NodeState → Type 0

@@ -18,21 +18,16 @@ use Rattle.node_rules.specs.Prepare.{act_turn, ready, collecting, with_comment, 
 use Rattle.node_rules.specs.Turn.{draft_of}
 use Rattle.node_rules.proofs.Steps.{HasRoot}
 use Rattle.node_rules.proofs.StandLemmas.{RootSo, root_so}
-use Rattle.tree_laws.proofs.SealLemmas.{IsSealOf}
+use Rattle.run_branch_laws.proofs.KeptRowLemmas.{IsSealOf}
 use Rattle.tree_laws.proofs.SiteLemmas.{IsDecisionOf}
-use Rattle.tree_laws.proofs.RestLemmas.{collected}
+use Rattle.run_branch_laws.proofs.StillLemmas.{collected}
 
 -- an act concerns its branch alone
 act_other : (k : NodeState) (l : Live) (b : Bool) (a : Act) (c : BranchId) → same l.me c ≡ false → live_at (act_turn k l b a).after c ≡ live_at k c
 act_other k l b acts.Rest c other = put_leaves live_id k.lives l c other
 act_other k l b acts.AskDown c other = put_leaves live_id k.lives l c other
 act_other k l b acts.SayReady c other = put_leaves live_id k.lives (ready l) c other
-act_other k l b acts.SayReadOnly c other = drop_leaves live_id k.lives l.me c other
-act_other k l b acts.Seal c other = drop_leaves live_id k.lives l.me c other
-act_other k l b (acts.SealAndPass i) c other = drop_leaves live_id k.lives l.me c other
-act_other k l b acts.Decide c other = drop_leaves live_id k.lives l.me c other
-act_other k l b acts.Finish c other = drop_leaves live_id k.lives l.me c other
-act_other k l b acts.Abandon c other = drop_leaves live_id k.lives l.me c other
+act_other k l b _ c other = drop_leaves live_id k.lives l.me c other
 
 -- a record of this branch
 abbrev pub Ends_record : BranchId → Option RedoRecord → Type 0
@@ -45,12 +40,7 @@ act_record k l b acts.Decide c (inr is) = is
 act_record k l b acts.Seal c (inr is) = absurd is
 act_record k l b (acts.SealAndPass i) c (inr is) = absurd is
 act_record k l b acts.Decide c (inl is) = absurd is
-act_record k l b acts.Rest c is = elim is [ inl never ↦ absurd never | inr never ↦ absurd never ]
-act_record k l b acts.AskDown c is = elim is [ inl never ↦ absurd never | inr never ↦ absurd never ]
-act_record k l b acts.SayReady c is = elim is [ inl never ↦ absurd never | inr never ↦ absurd never ]
-act_record k l b acts.SayReadOnly c is = elim is [ inl never ↦ absurd never | inr never ↦ absurd never ]
-act_record k l b acts.Finish c is = elim is [ inl never ↦ absurd never | inr never ↦ absurd never ]
-act_record k l b acts.Abandon c is = elim is [ inl never ↦ absurd never | inr never ↦ absurd never ]
+act_record k l b _ c is = elim is [ inl never ↦ absurd never | inr never ↦ absurd never ]
 
 module _ (k : NodeState) (n : ℕ) (comment : List ℕ) where
   -- it is the root of the session, and its transaction needs no rollback

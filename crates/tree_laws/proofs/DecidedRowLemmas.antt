@@ -1,6 +1,6 @@
 -- In every lawful run a branch that decided has a row, by the records of its node, until it forgot, unless all beyond it are gone without
 -- changes: a site without neighbours keeps none.
-use Rattle.std.proofs.Common.{◌≡◌, ℕ, arith, ◌||◌, Bool, true, false, if◌then◌else◌, List, [], ◌∷◌, ◌++◌, map, is_some, slice_get, Option, Some, None, refl, sym, subst, ◌⊎◌, inl, inr}
+use Rattle.std.proofs.Common.{◌≡◌, ℕ, ◌||◌, Bool, true, false, if◌then◌else◌, List, [], ◌∷◌, ◌++◌, map, is_some, slice_get, Option, Some, None, refl, sym, subst, ◌⊎◌, inl, inr}
 use Rattle.std.specs.Prelude.{IfSome}
 use Rattle.std.specs.Option.{option_to_list}
 use Rattle.tran_ids.proofs.BranchLemmas.{same_from_equal}
@@ -18,19 +18,17 @@ use Rattle.run_rules.specs.Data.happenings
 use Rattle.run_rules.specs.Facts.{Facts, first_facts, records_at, facts_after}
 use Rattle.run_base_laws.specs.IdLaws.{IsRecordOf}
 use Rattle.run_rules.specs.Lawful.{IsPlace, MayHappen, IsLawful, History, IsLawfulRun}
-use Rattle.run_base_laws.specs.RunEvents.{with_record, events_after}
-use Rattle.run_base_laws.specs.EventRows.{MayStand, IsKeptIn, IsGoneForGood}
+use Rattle.run_base_laws.specs.RunEvents.{events_after}
+use Rattle.run_base_laws.specs.EventRows.{IsKeptIn, IsGoneForGood}
 use Rattle.run_base_laws.specs.EventLaws.{EachEventFrom, AtEachEvent}
-use Rattle.run_rules.proofs.AtNodeLemmas.{turn_elsewhere, turn_here, start_elsewhere, start_here}
-use Rattle.run_base_laws.proofs.EventsStandLemmas.{BranchStatus, node_so, owned_so, stand_on, stand_first}
+use Rattle.run_base_laws.proofs.EventsStandLemmas.{BranchStatus, stand_on, stand_first}
 use Rattle.run_base_laws.proofs.LaterLemmas.{Added, Any, added_on, added_wider, exit_made, learned_later, has_later, wrote_added, turn_added, stop_added}
 use Rattle.run_base_laws.proofs.NodesStandLemmas.{stored_rows}
 use Rattle.run_base_laws.proofs.StoredLemmas.{stored_with}
-use Rattle.run_base_laws.proofs.TurnEventLemmas.{cases_nat, record_may, record_own}
 use Rattle.tree_laws.specs.BeyondLaws.{IsNamed, RecordHeard, WritesHeard}
 use Rattle.tree_laws.specs.Forests.{forest_of}
 use Rattle.tree_laws.proofs.NameLemmas.{exit_on}
-use Rattle.run_branch_laws.proofs.KeptRowLemmas.{put_there, wrote_stay}
+use Rattle.run_branch_laws.proofs.KeptRowLemmas.{own_record, records_now, row_after, started_row, put_there}
 use Rattle.tree_laws.proofs.SettleRunLemmas.{records_heard}
 use Rattle.tree_laws.proofs.SiteLemmas.{IsDecisionOf, wrote_decision, later_undecided}
 
@@ -83,34 +81,17 @@ module _ (p : Forest) where
       abbrev r : List Event
       r = events_after places asked f (happenings.Turn u) t
 
-      may_stand : IfSome u.wrote (MayStand t)
-      may_stand = record_may places asked each f t u may.0 stand.1 stand.0.even (node_so places asked each f t stand) (owned_so places asked each f t stand) may.1
-
-      own_record : IfSome u.wrote (IsRecordOf (λ b. b.node ≡ u.node))
-      own_record = record_own places asked each f t u may.0 stand.1 stand.0.even (node_so places asked each f t stand) (owned_so places asked each f t stand) may.1
-
-      records_now : records_at g u.node ≡ records_at f u.node ++ option_to_list u.wrote
-      records_now = (turn_here places asked f stand.0.even u may.0 may.1.up).1
-
-      row_after : (b : BranchId) → IsKeptIn b (stored_rows f b.node) → IsKeptIn b (stored_rows g b.node) ⊎ IsGoneForGood (with_record u t) b
-      row_after b has = elim (cases_nat b.node u.node) [
-        | inl at ↦ subst (λ i. IsKeptIn b (stored_rows g i) ⊎ IsGoneForGood (with_record u t) b) (sym at)
-            (subst (λ (xs : List RedoRecord). IsKeptIn b (stored_by nothing_stored xs).durable.kept ⊎ IsGoneForGood (with_record u t) b) (sym records_now)
-            (wrote_stay b u.node t (records_at f u.node) u.wrote may_stand (subst (λ i. IsKeptIn b (stored_rows f i)) at has)))
-        | inr other ↦ inl (subst (λ (xs : List RedoRecord). IsKeptIn b (stored_by nothing_stored xs).durable.kept) (sym (turn_elsewhere places asked f stand.0.even u b.node (λ e. other (sym e))).1) has)
-      ]
-
       decided_here : (w : Option RedoRecord) (b : BranchId) → IfSome w (IsRecordOf (λ c. c.node ≡ u.node)) → IsDecisionOf b w → b.node ≡ u.node
       decided_here (Some (records.Decided x)) b own at = subst (λ c. c.node ≡ u.node) at own
       decided_here _ b own at = absurd at
 
       new_row : (b : BranchId) → IsDecisionOf b u.wrote → IsKeptIn b (stored_rows g b.node) ⊎ IsAlone p t b
       new_row b at =
-          subst (λ i. IsKeptIn b (stored_rows g i) ⊎ IsAlone p t b) (sym (decided_here u.wrote b own_record at))
-          (subst (λ (xs : List RedoRecord). IsKeptIn b (stored_by nothing_stored xs).durable.kept ⊎ IsAlone p t b) (sym records_now) (decided_there t b (records_at f u.node) u.wrote heard at))
+          subst (λ i. IsKeptIn b (stored_rows g i) ⊎ IsAlone p t b) (sym (decided_here u.wrote b (own_record places asked each f t stand u may) at))
+          (subst (λ (xs : List RedoRecord). IsKeptIn b (stored_by nothing_stored xs).durable.kept ⊎ IsAlone p t b) (sym (records_now places asked each f t stand u may)) (decided_there t b (records_at f u.node) u.wrote heard at))
 
       old_stays : (b : BranchId) → IsKeptIn b (stored_rows f b.node) ⊎ (IsGoneForGood t b ⊎ IsAlone p t b) → IsKeptIn b (stored_rows g b.node) ⊎ (IsGoneForGood r b ⊎ IsAlone p r b)
-      old_stays b (inl row) = elim (row_after b row) [ inl still ↦ inl still | inr done ↦ inr (inl (done_later (turn_added f g u t) b done)) ]
+      old_stays b (inl row) = elim (row_after places asked each f t stand u may b row) [ inl still ↦ inl still | inr done ↦ inr (inl (done_later (turn_added f g u t) b done)) ]
       old_stays b (inr (inl done)) = inr (inl (done_later (added_on (wrote_added u t) (added_wider {R = Any} (λ e is. tt) (turn_added f g u t))) b done))
       old_stays b (inr (inr alone)) = inr (inr (alone_later (happenings.Turn u) b alone))
 
@@ -137,20 +118,8 @@ module _ (p : Forest) where
       abbrev h : Facts
       h = facts_after places asked f (happenings.Started n boot)
 
-      booted_row : (b : BranchId) (rs : List RedoRecord) → IsKeptIn b (stored_by nothing_stored rs).durable.kept → IsKeptIn b (stored_by nothing_stored (rs ++ records.Boot boot ∷ [])).durable.kept
-      unfolding applied durable_after
-      booted_row b rs has = subst (λ s. IsKeptIn b s.durable.kept) (sym (stored_with rs (Some (records.Boot boot)))) has
-
-      started_row : (b : BranchId) → IsKeptIn b (stored_rows f b.node) → IsKeptIn b (stored_rows h b.node)
-      started_row b has = elim (cases_nat b.node n) [
-        | inl at ↦ subst (λ i. IsKeptIn b (stored_rows h i)) (sym at)
-            (subst (λ (xs : List RedoRecord). IsKeptIn b (stored_by nothing_stored xs).durable.kept) (sym (start_here places asked f stand.0.even n boot may.there.0 (omega (arith, may.there.1, stand.1.many))).1)
-            (booted_row b (records_at f n) (subst (λ i. IsKeptIn b (stored_rows f i)) at has)))
-        | inr other ↦ subst (λ (xs : List RedoRecord). IsKeptIn b (stored_by nothing_stored xs).durable.kept) (sym (start_elsewhere places asked f stand.0.even n boot b.node (λ e. other (sym e))).1) has
-      ]
-
       start_stays : DecidedStays p h (events_after places asked f (happenings.Started n boot) t)
-      start_stays b m decided = elim (now b m decided) [ inl row ↦ inl (started_row b row) | inr rest ↦ inr rest ]
+      start_stays b m decided = elim (now b m decided) [ inl row ↦ inl (started_row places asked each f t stand n boot may b row) | inr rest ↦ inr rest ]
 
     stays_on : (h : Happening) → MayHappen places asked f h → WritesHeard p f t h → DecidedStays p (facts_after places asked f h) (events_after places asked f h t)
     unfolding facts_after

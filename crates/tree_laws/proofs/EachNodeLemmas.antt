@@ -4,7 +4,7 @@ use Rattle.std.specs.Prelude.{IfSome}
 use Rattle.tran_ids.proofs.NumberedLemmas.{set_or_before}
 use Rattle.node_rules.specs.Data.{Place, Post, RedoRecord}
 use Rattle.node_rules.specs.Words.{numbered, set_numbered}
-use Rattle.node_rules.specs.NodeState.{NodeState, TurnDraft}
+use Rattle.node_rules.specs.NodeState.{NodeState}
 use Rattle.node_rules.specs.Turn.{turn_of, start_of, draft_of}
 use Rattle.run_rules.specs.Data.{Turn, Happening, Command}
 use Rattle.run_rules.specs.Data.happenings
@@ -15,6 +15,7 @@ use Rattle.run_rules.proofs.AtNodeLemmas.{turn_elsewhere, turn_here}
 use Rattle.run_base_laws.proofs.EventsStandLemmas.{first_node, run_stands}
 use Rattle.run_base_laws.proofs.SaidPostLemmas.{posts_back, posts_of, said_after}
 use Rattle.run_base_laws.proofs.TurnEventLemmas.{cases_nat}
+use Rattle.run_base_laws.proofs.OneTurn.{one_turn}
 use Rattle.tree_laws.proofs.PrefixLemmas.{so_far, f_at, one_on, keep_prefix}
 
 -- so it is of each node that is up, and of what was said
@@ -28,14 +29,7 @@ module _ (places : List Place) (asked : List Command) (f : Facts) where
   -- ---- a turn
 
   module _ (even : length f.nodes ≡ length f.records) (u : Turn) (k : NodeState) (may : MayTurn places f u k) where
-    abbrev p : Place
-    p = place_at places u.node
-
-    abbrev d : TurnDraft
-    d = draft_of p k u.input
-
-    abbrev g : Facts
-    g = facts_after places asked f (happenings.Turn u)
+    open one_turn places asked f u k use {p, d, g}
 
     here : node_at g u.node ≡ kept_after u.cut (Some (turn_of p k u.input))
     here = (turn_here places asked f even u k may.up).0

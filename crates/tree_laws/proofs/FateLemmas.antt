@@ -1,19 +1,16 @@
 -- What becomes of a live branch in a happening of a lawful run: it stays live with the tree below it as it was, or it leaves.
-use Rattle.std.proofs.Common.{◌≡◌, ◌≢◌, ℕ, ◌||◌, ◌⊎◌, Bool, true, false, if◌then◌else◌, List, [], ◌∷◌, ◌++◌, map, length, Option, Some, None, inl, inr, refl, sym, ap, subst, subst₂, ◌∙◌}
+use Rattle.std.proofs.Common.{◌≡◌, ◌≢◌, ℕ, ◌||◌, Bool, true, false, if◌then◌else◌, List, [], ◌∷◌, ◌++◌, map, length, Option, Some, None, inl, inr, refl, sym, ap, subst, subst₂, ◌∙◌}
 use Rattle.tran_ids.proofs.ListedLemmas.{item_is}
-use Rattle.tran_ids.proofs.NumberedLemmas.{set_or_before}
 use Rattle.agreement.specs.Events.{Event, Exit, Sealed, Decided, Quiet, Dropped, exit}
-use Rattle.node_rules.specs.Data.{BranchId, Live, RedoRecord}
+use Rattle.node_rules.specs.Data.{BranchId, Live}
 use Rattle.node_rules.specs.Data.phases
-use Rattle.node_rules.specs.Words.{same, numbered, set_numbered, item_at}
+use Rattle.node_rules.specs.Words.{same, item_at}
 use Rattle.node_rules.specs.NodeState.{NodeState, Branch, live_id, live_at, branch_at, work_at, with_work}
-use Rattle.node_rules.specs.Turn.{turn_of, start_of}
+use Rattle.node_rules.specs.Turn.{turn_of}
 use Rattle.node_rules.proofs.StandLemmas.{live_so}
-use Rattle.node_rules.specs.LiveBranches.{EachLive}
-use Rattle.node_rules.proofs.LiveLemmas.{none_live}
 use Rattle.run_rules.specs.Data.{Turn, Happening}
 use Rattle.run_rules.specs.Data.happenings
-use Rattle.run_rules.specs.Facts.{Facts, first_facts, place_at, flat, node_at, kept_after, with_boot, facts_after}
+use Rattle.run_rules.specs.Facts.{Facts, first_facts, place_at, node_at, kept_after, facts_after}
 use Rattle.run_rules.specs.Lawful.{MayHappen, History, IsLawfulRun}
 use Rattle.run_rules.specs.Branches.{is_among}
 use Rattle.run_rules.specs.Births.{births_of, born_at}
@@ -32,6 +29,7 @@ use Rattle.run_base_laws.proofs.OwnLemmas.{all_found}
 use Rattle.run_branch_laws.proofs.StillRunLemmas.{trees_stand_still}
 use Rattle.run_base_laws.proofs.TurnEventLemmas.{cases_nat}
 use Rattle.tree_laws.proofs.PrefixLemmas.{so_far, f_at, e_at, one_on, more_on, lawful_on}
+use Rattle.tree_laws.proofs.BackLemmas.{node_back as back_before}
 use Rattle.tree_laws.proofs.SealLemmas.{later_unsealed}
 use Rattle.tree_laws.proofs.SiteLemmas.{later_undecided}
 use Rattle.tree_laws.specs.RestLaws.{Rests, SameTree, LeavesAtRest}
@@ -182,30 +180,9 @@ module _ (t : History) where
     abbrev f1 : Facts
     f1 = f_at t hs
 
-    -- no branch is live at a node that has just started
-    start_none : (zs : List RedoRecord) → EachLive (λ l w. ⊥) (start_of zs).lives (start_of zs).works
-    unfolding start_of
-    start_none zs = none_live _
-
-    start_empty : (zs : List RedoRecord) (w : Branch) → branch_at (start_of zs) w.live.me ≡ Some w → ⊥
-    start_empty zs w is = (start_none zs).each w.live.me w.live (live_so (start_of zs) w.live.me w is)
-
-    set_back : (m n : ℕ) (o : Option NodeState) (j : NodeState) → flat (numbered (set_numbered f1.nodes m o) n) ≡ Some j → (node_at f1 n ≡ Some j) ⊎ (o ≡ Some j)
-    set_back m n o j up = elim (set_or_before f1.nodes m n o) [ inl still ↦ inl (ap flat (sym still) ∙ up) | inr set ↦ inr (ap flat (sym set.1) ∙ up) ]
-
     -- a live branch after a happening that is no turn was at its node before
     pub node_back : (h : Happening) → ((u : Turn) → h ≢ happenings.Turn u) → (n : ℕ) (j : NodeState) → node_at (facts_after t.places t.commands f1 h) n ≡ Some j → (w : Branch) → branch_at j w.live.me ≡ Some w → node_at f1 n ≡ Some j
-    unfolding facts_after
-    node_back (happenings.Turn u) not n j up w is = absurd (not u refl)
-    node_back (happenings.Stopped m) not n j up w is = elim (set_back m n None j up) [ inl old ↦ old | inr none ↦ absurd cc ]
-    node_back (happenings.Started m boot) not n j up w is = elim (set_back m n (Some (start_of (with_boot f1 m boot))) j up) [
-      | inl old ↦ old
-      | inr new ↦ absurd (start_empty (with_boot f1 m boot) w (let it : start_of (with_boot f1 m boot) ≡ j = cc in subst (λ k. branch_at k w.live.me ≡ Some w) (sym it) is))
-    ]
-    node_back (happenings.Begun x) not n j up w is = up
-    node_back (happenings.Cut a b) not n j up w is = up
-    node_back (happenings.Join a b) not n j up w is = up
-    node_back (happenings.Lost k) not n j up w is = up
+    node_back h not n j up w is = back_before t hs h not n j up w is
 
     -- nobody leaves in one but by a stop
     pub drops_alone : (h : Happening) → ((u : Turn) → h ≢ happenings.Turn u) → (b : BranchId) (x : Exit) → exit (e_at t hs) b ≡ None → exit (events_after t.places t.commands f1 h (e_at t hs)) b ≡ Some x → x ≡ Dropped

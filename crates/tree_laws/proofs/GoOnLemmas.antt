@@ -3,14 +3,14 @@ use Rattle.std.proofs.Common.{◌≡◌, ℕ, List, Some, None, subst}
 use Rattle.tran_ids.proofs.ListedLemmas.{item_is}
 use Rattle.node_rules.specs.Data.{BranchId, Live, Place}
 use Rattle.node_rules.specs.Words.{numbered}
-use Rattle.node_rules.specs.NodeState.{NodeState, TurnDraft, live_id, live_at}
+use Rattle.node_rules.specs.NodeState.{NodeState, live_id, live_at}
 use Rattle.node_rules.specs.Sessions.{session_at}
-use Rattle.node_rules.specs.Turn.{turn_of, draft_of}
+use Rattle.node_rules.specs.Turn.{turn_of}
 use Rattle.node_rules.proofs.HeardLemmas.{sessions_heard}
 use Rattle.agreement.specs.Events.{Event}
 use Rattle.run_rules.specs.Births.{Born}
 use Rattle.run_rules.specs.Data.{Turn, Command}
-use Rattle.run_rules.specs.Facts.{Facts, place_at}
+use Rattle.run_rules.specs.Facts.{Facts}
 use Rattle.run_base_laws.specs.InTurnLaws.{NeedsNoRollback}
 use Rattle.run_rules.specs.Lawful.{IsPlace, MayTurn}
 use Rattle.run_base_laws.proofs.BirthRunLemmas.{StandBorn}
@@ -19,14 +19,11 @@ use Rattle.run_base_laws.proofs.InTurnRunLemmas as calls
 use Rattle.run_base_laws.proofs.InTurnRunLemmas.{CallsStand}
 use Rattle.run_base_laws.proofs.RestLemmas.{live_root}
 use Rattle.run_base_laws.proofs.RestRunLemmas.{NodeRests, RootsStand, turned}
+use Rattle.run_base_laws.proofs.OneTurn.{one_turn}
 
 module _ (places : List Place) (asked : List Command) (each : (n : ℕ) (p : Place) → numbered places n ≡ Some p → IsPlace places n p) where
   module _ (f : Facts) (t : List Event) (bs : List Born) (stand : StandBorn places asked each f t bs) (roots : RootsStand places asked each f) (turns : CallsStand f) (u : Turn) (k : NodeState) (may : MayTurn places f u k) where
-    abbrev p : Place
-    p = place_at places u.node
-
-    abbrev d : TurnDraft
-    d = draft_of p k u.input
+    open one_turn places asked f u k use {p, d}
 
     abbrev May : BranchId → Type 0
     May = calls.May places asked each f t bs stand roots turns u k may

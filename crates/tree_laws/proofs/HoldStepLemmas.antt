@@ -288,7 +288,6 @@ module _ (E : BranchId → Option ℕ) (A : BranchId → Option BranchId) (G Her
     holds_on (steps.Does {k = k} s from nexts.Forget kept why) granted ss news nodes ice now = quiet k now _ (each_says IsPlain s.me kinds.Forgotten (map (λ b. b.branch) (beyond s)) refl)
     holds_on (steps.Does {k = k} s from nexts.SayForgotten kept why) granted ss news nodes ice now = quiet k now _ (refl, tt)
     holds_on (steps.Does {k = k} s from nexts.SayAck kept why) granted ss news nodes ice now = quiet k now _ (refl, tt)
-    holds_on (steps.Does {k = k} s from nexts.Rest kept why) granted ss news nodes ice now = quiet k now [] tt
     holds_on (steps.Rolls_back {k = k} n x call has live) granted ss news nodes ice now = left k now x.live.me _ (rolled x.live)
     holds_on (steps.Gives_up {k = k} n x gives has calls live) granted ss news nodes ice now =
         let was : Old x.live x.work = found_old k now ss nodes ice x live in
@@ -297,13 +296,4 @@ module _ (E : BranchId → Option ℕ) (A : BranchId → Option BranchId) (G Her
         put k now [] x.live (gives_up x).work (work_is k x.live.me x live) tt
         (record { held = λ goes i e at. absurd (refused (goes none)); asked = (stay k now [] tt x.live x.work was).asked })
     holds_on (steps.Gives_up_commit {k = k} n b (Some l) gives has calls live) granted ss news nodes ice now = left k now l.me _ (rolled l)
-    holds_on (steps.Gives_up_commit {k = k} n b None gives has calls live) granted ss news nodes ice now = quiet k now [] tt
-    holds_on (steps.Rests {k = k}) granted ss news nodes ice now = quiet k now [] tt
-    holds_on (steps.Refuses {k = k} n s r is) granted ss news nodes ice now = quiet k now [] tt
-    holds_on (steps.Completes_at_once {k = k} n s d call completes none) granted ss news nodes ice now = quiet k now [] tt
-    holds_on (steps.Makes_record {k = k} n s r d call makes) granted ss news nodes ice now = quiet k now [] tt
-    holds_on (steps.Forces_given {k = k} n id m b call named) granted ss news nodes ice now = quiet k now [] tt
-    holds_on (steps.Forces_commit {k = k} n id b call named) granted ss news nodes ice now = quiet k now [] tt
-    holds_on (steps.Forces_rollback {k = k} n id b call named) granted ss news nodes ice now = quiet k now [] tt
-    holds_on (steps.Hides {k = k} n mixed id s call found) granted ss news nodes ice now = quiet k now [] tt
-    holds_on (steps.Advises {k = k} n a call) granted ss news nodes ice now = quiet k now [] tt
+    holds_on {k = k} _ granted ss news nodes ice now = quiet k now [] tt

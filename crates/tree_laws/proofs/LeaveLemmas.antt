@@ -44,7 +44,8 @@ use Rattle.run_base_laws.proofs.KidLemmas.{child_parent, above_of}
 use Rattle.tree_laws.proofs.AskLemmas.{voted_step}
 use Rattle.tree_laws.proofs.AskRunLemmas.{edges_asked}
 use Rattle.tree_laws.proofs.PrefixLemmas.{so_far, f_at, e_at, each_prefix}
-use Rattle.tree_laws.proofs.SealLemmas.{IsSealOf, wrote_seal, later_unsealed}
+use Rattle.run_branch_laws.proofs.KeptRowLemmas.{IsSealOf, wrote_seal}
+use Rattle.tree_laws.proofs.SealLemmas.{later_unsealed}
 use Rattle.tree_laws.proofs.SettleLemmas.{live_in, born_of}
 use Rattle.tree_laws.proofs.SiteLemmas.{IsDecisionOf, wrote_decision, later_undecided}
 use Rattle.tree_laws.proofs.WeightStepLemmas.{collected_weight, voted_weight}
@@ -73,41 +74,68 @@ pub messages_exit : (ms : List Msg) (t : List Event) (b : BranchId) → exit (wi
 messages_exit [] t b = refl
 messages_exit (m ∷ ms) t b = messages_exit ms (with_event (message_event m.from m.to m.scn m.kind) t) b ∙ said_exit m.from m.to m.scn m.kind t b
 
-module _ (after : List BranchId) (sent : List Msg) where
-  left_quiet : (b x : BranchId) (t : List Event) → exit (with_leaver after sent b t) x ≡ Some Quiet → (exit t x ≡ Some Quiet) ⊎ (list_any (is_quiet x) sent ≡ true)
-  left_quiet b x t is = by (has_left after t b) (list_any (is_quiet b) sent) refl is
+-- how a branch leaves without a record, by whether it says ReadOnly
+abbrev pub leaves_by : Bool → Exit
+leaves_by true = Quiet
+leaves_by false = Dropped
+
+one_way : (p q : Bool) → leaves_by p ≡ leaves_by q → p ≡ q
+one_way true true is = refl
+one_way false false is = refl
+one_way true false is = absurd cc
+one_way false true is = absurd cc
+
+module _ (after : List BranchId) (sent : List Msg) (q : Bool) where
+  leave_is : (b x : BranchId) (told : Bool) → exit_by (if told then Answer_read_only b else Drop b) x ≡ Some (leaves_by q) → (b ≡ x) × (told ≡ q)
+  leave_is b x true is = let at = only_at_is b x Quiet (leaves_by q) is in (at.0, one_way true q at.1)
+  leave_is b x false is = let at = only_at_is b x Dropped (leaves_by q) is in (at.0, one_way false q at.1)
+
+  left_so : (b x : BranchId) (t : List Event) → exit (with_leaver after sent b t) x ≡ Some (leaves_by q) → (exit t x ≡ Some (leaves_by q)) ⊎ (list_any (is_quiet x) sent ≡ q)
+  left_so b x t is = by (has_left after t b) is
     where
-      by : (left quiet : Bool) → list_any (is_quiet b) sent ≡ quiet → exit (if left then leave_event sent b ∷ t else t) x ≡ Some Quiet → (exit t x ≡ Some Quiet) ⊎ (list_any (is_quiet x) sent ≡ true)
-      by false quiet told it = inl it
-      by true true told it = elim (first_is (exit t x) (exit_by (leave_event sent b) x) Quiet it) [
+      by : (left : Bool) → exit (if left then leave_event sent b ∷ t else t) x ≡ Some (leaves_by q) → (exit t x ≡ Some (leaves_by q)) ⊎ (list_any (is_quiet x) sent ≡ q)
+      by false it = inl it
+      by true it = elim (first_is (exit t x) (exit_by (leave_event sent b) x) (leaves_by q) it) [
         | inl old ↦ inl old
-        | inr new ↦ inr (subst (λ c. list_any (is_quiet c) sent ≡ true) (only_at_is b x Quiet Quiet (subst (λ q. exit_by (if q then Answer_read_only b else Drop b) x ≡ Some Quiet) told new.1)).0 told)
-      ]
-      by true false told it = elim (first_is (exit t x) (exit_by (leave_event sent b) x) Quiet it) [
-        | inl old ↦ inl old
-        | inr new ↦ (let at = only_at_is b x Dropped Quiet (subst (λ q. exit_by (if q then Answer_read_only b else Drop b) x ≡ Some Quiet) told new.1) in absurd (cc (at.1)))
+        | inr new ↦ (let at = leave_is b x (list_any (is_quiet b) sent) new.1 in inr (subst (λ c. list_any (is_quiet c) sent ≡ q) at.0 at.1))
       ]
 
-  pub all_quiet : (bs : List BranchId) (x : BranchId) (t : List Event) → exit (with_leavers after sent bs t) x ≡ Some Quiet → (exit t x ≡ Some Quiet) ⊎ (list_any (is_quiet x) sent ≡ true)
-  all_quiet [] x t is = inl is
-  all_quiet (b ∷ bs) x t is = elim (all_quiet bs x (with_leaver after sent b t) is) [ inl old ↦ left_quiet b x t old | inr new ↦ inr new ]
+  -- who leaves so with others said so
+  pub all_left : (bs : List BranchId) (x : BranchId) (t : List Event) → exit (with_leavers after sent bs t) x ≡ Some (leaves_by q) → (exit t x ≡ Some (leaves_by q)) ⊎ (list_any (is_quiet x) sent ≡ q)
+  all_left [] x t is = inl is
+  all_left (b ∷ bs) x t is = elim (all_left bs x (with_leaver after sent b t) is) [ inl old ↦ left_so b x t old | inr new ↦ inr new ]
 
--- no record says so
-none_quiet : (o : Option Exit) → first o None ≡ Some Quiet → o ≡ Some Quiet
-none_quiet o is = sym (first_none o) ∙ is
+module _ (q : Bool) where
+  never_sealed : (n : ℕ) (p : Bool) → Sealed n ≡ leaves_by p → ⊥
+  never_sealed n true is = absurd cc
+  never_sealed n false is = absurd cc
+
+  never_decided : (n : ℕ) (p : Bool) → Decided n ≡ leaves_by p → ⊥
+  never_decided n true is = absurd cc
+  never_decided n false is = absurd cc
+
+  none_left : (o : Option Exit) → first o None ≡ Some (leaves_by q) → o ≡ Some (leaves_by q)
+  none_left o is = sym (first_none o) ∙ is
+
+  -- no record leaves one so
+  pub wrote_left : (n : ℕ) (t : List Event) (w : Option RedoRecord) (b : BranchId) → exit (with_event (wrote_event n w) t) b ≡ Some (leaves_by q) → exit t b ≡ Some (leaves_by q)
+  wrote_left n t None b is = is
+  wrote_left n t (Some (records.Sealed r)) b is =
+      elim (first_is (exit t b) (only_at r.me b (Sealed r.scn)) (leaves_by q) is) [ inl old ↦ old | inr new ↦ absurd (never_sealed r.scn q (only_at_is r.me b (Sealed r.scn) (leaves_by q) new.1).1) ]
+  wrote_left n t (Some (records.Decided r)) b is =
+      elim (first_is (exit t b) (only_at r.me b (Decided r.scn)) (leaves_by q) is) [ inl old ↦ old | inr new ↦ absurd (never_decided r.scn q (only_at_is r.me b (Decided r.scn) (leaves_by q) new.1).1) ]
+  wrote_left n t (Some (records.Ended c d)) b is = none_left (exit t b) is
+  wrote_left n t (Some (records.Forced c d given)) b is = none_left (exit t b) is
+  wrote_left n t (Some (records.Met c d mixed)) b is = none_left (exit t b) is
+  wrote_left n t (Some (records.Forgot c)) b is = none_left (exit t b) is
+  wrote_left n t (Some (records.Table table)) b is = none_left (exit t b) is
+  wrote_left n t (Some _) b is = is
+
+pub all_quiet : (after : List BranchId) (sent : List Msg) (bs : List BranchId) (x : BranchId) (t : List Event) → exit (with_leavers after sent bs t) x ≡ Some Quiet → (exit t x ≡ Some Quiet) ⊎ (list_any (is_quiet x) sent ≡ true)
+all_quiet after sent bs x t is = all_left after sent true bs x t is
 
 pub wrote_quiet : (n : ℕ) (t : List Event) (w : Option RedoRecord) (b : BranchId) → exit (with_event (wrote_event n w) t) b ≡ Some Quiet → exit t b ≡ Some Quiet
-wrote_quiet n t None b is = is
-wrote_quiet n t (Some (records.Sealed r)) b is =
-    elim (first_is (exit t b) (only_at r.me b (Sealed r.scn)) Quiet is) [ inl old ↦ old | inr new ↦ (let at = only_at_is r.me b (Sealed r.scn) Quiet new.1 in absurd (cc (at.1))) ]
-wrote_quiet n t (Some (records.Decided r)) b is =
-    elim (first_is (exit t b) (only_at r.me b (Decided r.scn)) Quiet is) [ inl old ↦ old | inr new ↦ (let at = only_at_is r.me b (Decided r.scn) Quiet new.1 in absurd (cc (at.1))) ]
-wrote_quiet n t (Some (records.Ended c d)) b is = none_quiet (exit t b) is
-wrote_quiet n t (Some (records.Forced c d given)) b is = none_quiet (exit t b) is
-wrote_quiet n t (Some (records.Met c d mixed)) b is = none_quiet (exit t b) is
-wrote_quiet n t (Some (records.Forgot c)) b is = none_quiet (exit t b) is
-wrote_quiet n t (Some (records.Table table)) b is = none_quiet (exit t b) is
-wrote_quiet n t (Some _) b is = is
+wrote_quiet n t w b is = wrote_left true n t w b is
 
 -- ---- acts
 

@@ -224,17 +224,7 @@ module _ (E : BranchId → Option ℕ) (A : BranchId → Option BranchId) (G Her
     leads_on (steps.Lets_reads_go {k = k} l comment b live begins step) ss news nodes ice now = leads_on step (record { roots = ss.roots; above = ss.above }) (lets_news (frost.Unasking E A G Here input said received) p input k l.me news) nodes ice now
     leads_on (steps.Counts_ack {k = k} s from kept came counts step) ss news nodes ice now = leads_on step (record { roots = ss.roots; above = ss.above }) (acked_news (frost.Unasking E A G Here input said received) p input k _ news) nodes ice now
     leads_on (steps.Acts {k = k} l b a why) ss news nodes ice now = acts_lead k ss nodes ice now a why
-    leads_on (steps.Does {k = k} s from (nexts.End d) kept why) ss news nodes ice now = tt
-    leads_on (steps.Does {k = k} s from (nexts.Meet d mixed) kept why) ss news nodes ice now = tt
-    leads_on (steps.Does {k = k} s from nexts.AckToward kept why) ss news nodes ice now = tt
-    leads_on (steps.Does {k = k} s from nexts.Forget kept why) ss news nodes ice now = tt
-    leads_on (steps.Does {k = k} s from nexts.SayForgotten kept why) ss news nodes ice now = tt
-    leads_on (steps.Does {k = k} s from nexts.SayAck kept why) ss news nodes ice now = tt
     leads_on (steps.Does {k = k} s from nexts.Rest kept why) ss news nodes ice now = tt
-    leads_on (steps.Makes_record {k = k} n s r d call (steps.Makes_table t free)) ss news nodes ice now = tt
-    leads_on (steps.Makes_record {k = k} n s r d call (steps.Makes_link l free)) ss news nodes ice now = tt
-    leads_on (steps.Makes_record {k = k} n s r d call (steps.Makes_synonym y free)) ss news nodes ice now = tt
     leads_on (steps.Makes_record {k = k} n s r d call (steps.Sets_recovery on)) ss news nodes ice now = tt
-    leads_on (steps.Gives_up_commit n b (Some l) gives has calls live) ss news nodes ice now = tt
     leads_on (steps.Gives_up_commit n b None gives has calls live) ss news nodes ice now = tt
     leads_on _ ss news nodes ice now = tt

@@ -1,10 +1,9 @@
 -- Each step of a node leaves the children, the weights and the changes of a live branch that rests.
 use Rattle.std.proofs.Common.{◌≡◌, ℕ, ◌+◌, ◌-◌, ◌<◌, ◌≤◌, List, [], ◌∷◌, ◌++◌, map, length, Option, Some, None, refl, sym, ap, subst, ◌∙◌, arith}
-use Rattle.std.proofs.lemmas.Bool.{cond_both}
 use Rattle.tran_ids.proofs.ListedLemmas.{item_is}
 use Rattle.commit_forget.specs.declared.next.Next.TheVariants as nexts
 use Rattle.session_tree.specs.Live.{children_of, new_edge, fresh_live}
-use Rattle.node_rules.specs.Data.{BranchId, Edge, Live, Act, Post, Vote, Place, Input}
+use Rattle.node_rules.specs.Data.{BranchId, Live, Act, Post, Vote, Place, Input}
 use Rattle.node_rules.specs.Data.acts
 use Rattle.node_rules.specs.declared.session.PendingCall.TheVariants as pending
 use Rattle.node_rules.specs.declared.work.Work.{Work}
@@ -15,7 +14,7 @@ use Rattle.node_rules.specs.Names.{passed_on}
 use Rattle.node_rules.specs.Statement.{ran, after_run, answer_of_run}
 use Rattle.node_rules.specs.Calls.{with_answer, called, next_child, strength_of, with_edge, waits_for_opened, hears_reply}
 use Rattle.node_rules.specs.Client.{new_root, fresh_root, gives_up}
-use Rattle.node_rules.specs.Prepare.{with_prepare_sent, has_voted, answers_first, ready, collecting, with_comment, voted, act_turn}
+use Rattle.node_rules.specs.Prepare.{ready, collecting, with_comment, voted, act_turn}
 use Rattle.node_rules.proofs.Steps as steps
 use Rattle.node_rules.proofs.Steps.{Step, Asked, Acting}
 use Rattle.node_rules.proofs.StandLemmas.{live_so}
@@ -24,22 +23,15 @@ use Rattle.node_rules.specs.LiveBranches.{EachLive, works_of}
 use Rattle.node_rules.proofs.LiveLemmas.{each_put, each_changed, each_left, each_begun, branch_parts, work_is}
 use Rattle.run_rules.specs.Births.{Born}
 use Rattle.run_base_laws.specs.InTurnLaws.{newest_exec}
-use Rattle.run_rules.proofs.ListLemmas.{map_after}
 use Rattle.run_base_laws.proofs.RootLemmas.{SessionsFit, root_alone, pends_so, begun_so}
 use Rattle.run_base_laws.proofs.RestStepLemmas.{going_of}
 use Rattle.run_base_laws.proofs.NeighborLemmas.{News}
 use Rattle.run_base_laws.proofs.NeighborStepLemmas.{begun_news, pends_news, lets_news, acked_news}
 use Rattle.run_base_laws.proofs.InTurnLemmas as turns
 use Rattle.run_base_laws.proofs.InTurnStepLemmas as drafts
+use Rattle.run_branch_laws.proofs.StillLemmas.{collected, heard_vote}
 use Rattle.link_session.proofs.OnceLemmas.{run_is_new}
 use Rattle.tree_laws.specs.RestLaws.{Rests}
-
--- what a change of edges leaves of each, it leaves of all
-pub collected : {X : Type 0} (f : Edge → X) → ((e : Edge) → f (with_prepare_sent e) ≡ f e) → (es : List Edge) → map f (map with_prepare_sent es) ≡ map f es
-collected f each es = map_after f with_prepare_sent f each es
-
-heard_vote : {X : Type 0} (f : Edge → X) (from : BranchId) (v : Vote) → ((e : Edge) → f (record e { vote = v }) ≡ f e) → (es : List Edge) → map f (map (has_voted from v) es) ≡ map f es
-heard_vote f from v each es = map_after f (has_voted from v) f (λ e. cond_both (answers_first from e) (record e { vote = v }) e (λ y. f y ≡ f e) (λ here. each e) (λ other. refl)) es
 
 -- A branch that rested as the turn began, and now.
 pub record Kept_still (z : Live) (v : Work) (l : Live) (w : Work) : Type 0 where
@@ -120,12 +112,7 @@ module _ (k0 : NodeState) (said : List Post) where
     acts_leave l site_below acts.Rest is = stays l is
     acts_leave l site_below acts.AskDown is = stays l is
     acts_leave l site_below acts.SayReady is = stays (ready l) (ready_calm l (works_of k.works l.me) is)
-    acts_leave l site_below acts.SayReadOnly is = left l.me
-    acts_leave l site_below acts.Seal is = left l.me
-    acts_leave l site_below (acts.SealAndPass i) is = left l.me
-    acts_leave l site_below acts.Decide is = left l.me
-    acts_leave l site_below acts.Finish is = left l.me
-    acts_leave l site_below acts.Abandon is = left l.me
+    acts_leave l site_below _ is = left l.me
 
   module _ (E : BranchId → Option ℕ) (A : BranchId → Option BranchId) (G Here : BranchId → Type 0) (input : Input) (received : turns.Received E A G Here input said) (p : Place) (place : (b : BranchId) → b.node ≡ p.number → Here b) where
     abbrev Nodes : NodeState → Type 0
@@ -199,12 +186,6 @@ module _ (k0 : NodeState) (said : List Post) where
     calms_on (steps.Drops_told {k = k} l live drops) ss news nodes now = left k now l.me
     calms_on (steps.Drops_asked {k = k} l from live came parent) ss news nodes now = left k now l.me
     calms_on (steps.Does s from nexts.Rest kept why) ss news nodes now = now
-    calms_on (steps.Does s from nexts.AckToward kept why) ss news nodes now = now
-    calms_on (steps.Does s from nexts.SayForgotten kept why) ss news nodes now = now
-    calms_on (steps.Does s from nexts.SayAck kept why) ss news nodes now = now
-    calms_on (steps.Does s from (nexts.End d) kept why) ss news nodes now = now
-    calms_on (steps.Does s from (nexts.Meet d mixed) kept why) ss news nodes now = now
-    calms_on (steps.Does s from nexts.Forget kept why) ss news nodes now = now
     calms_on (steps.Rolls_back {k = k} n x call has live) ss news nodes now = left k now x.live.me
     calms_on (steps.Gives_up {k = k} n x gives has calls live) ss news nodes now =
         put k now x.live x.live (gives_up x).work (work_is k x.live.me x live) (branch_parts k x.live.me x live).0 refl
@@ -212,5 +193,4 @@ module _ (k0 : NodeState) (said : List Post) where
         let above : x.live.parent ≡ Some rests.above = is.parent ∙ rests.is_parent in
         absurd (cc (none, above))))
     calms_on (steps.Gives_up_commit {k = k} n b (Some l) gives has calls live) ss news nodes now = left k now l.me
-    calms_on (steps.Gives_up_commit n b None gives has calls live) ss news nodes now = now
     calms_on _ ss news nodes now = now

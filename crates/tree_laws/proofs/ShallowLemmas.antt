@@ -141,17 +141,10 @@ high_on p input (steps.Acts {k = k} l b acts.Abandon why) now = gone k now l.me
 high_on p input (steps.Drops_told {k = k} l live drops) now = gone k now l.me
 high_on p input (steps.Drops_asked {k = k} l from live came parent) now = gone k now l.me
 high_on p input (steps.Does s from nexts.Rest kept why) now = now
-high_on p input (steps.Does s from nexts.AckToward kept why) now = now
-high_on p input (steps.Does s from nexts.SayForgotten kept why) now = now
-high_on p input (steps.Does s from nexts.SayAck kept why) now = now
-high_on p input (steps.Does s from (nexts.End d) kept why) now = now
-high_on p input (steps.Does s from (nexts.Meet d mixed) kept why) now = now
-high_on p input (steps.Does s from nexts.Forget kept why) now = now
 high_on p input (steps.Rolls_back {k = k} n x call has live) now = gone k now x.live.me
 high_on p input (steps.Gives_up {k = k} n x gives has calls live) now =
     put k now x.live (gives_up x).work (work_is k x.live.me x live) (waits_not x.live.depth x.live.edges (gives_up x).work (λ g link going waits. absurd cc) (found_high k now x live).child)
 high_on p input (steps.Gives_up_commit {k = k} n b (Some l) gives has calls live) now = gone k now l.me
-high_on p input (steps.Gives_up_commit n b None gives has calls live) now = now
 high_on p input _ now = now
 
 keeps_high : KeepsAlone Nodes

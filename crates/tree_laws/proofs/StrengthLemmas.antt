@@ -2,26 +2,23 @@
 use Rattle.std.proofs.Common.{◌≡◌, ℕ, List, [], ◌∷◌, ◌++◌, unwrap_or, Option, Some, None, refl, ap, ◌∙◌}
 use Rattle.std.specs.Prelude.{IfSome, option_to_list}
 use Rattle.std.specs.List.{AllByRecursion}
-use Rattle.session_tree.specs.Live.{new_edge}
 use Rattle.commit_forget.specs.declared.next.Next.TheVariants as nexts
 use Rattle.redo_record.specs.declared.record.Param.TheVariants as params
-use Rattle.node_rules.specs.Data.{Live, Act, Place, Input, RedoRecord, Stmt}
+use Rattle.node_rules.specs.Data.{Live, Place, Input, RedoRecord}
 use Rattle.node_rules.specs.Data.acts
 use Rattle.node_rules.specs.Data.records
-use Rattle.node_rules.specs.NodeState.{NodeState, TurnDraft, Stored, Branch, live_id, branch_at}
+use Rattle.node_rules.specs.NodeState.{NodeState, TurnDraft, Stored, live_id}
 use Rattle.node_rules.specs.Records.{nothing_stored, applied, stored_by}
 use Rattle.redo_record.specs.Durable.{durable_after}
 use Rattle.node_rules.specs.Turn.{start_of}
-use Rattle.node_rules.specs.Statement.{ran, after_run}
-use Rattle.node_rules.specs.Calls.{with_edge, hears_reply}
-use Rattle.node_rules.specs.Prepare.{ready, act_turn}
+use Rattle.node_rules.specs.Calls.{strength_of}
 use Rattle.node_rules.proofs.Steps as steps
-use Rattle.node_rules.proofs.Steps.{Step, Asked, Acting}
+use Rattle.node_rules.proofs.Steps.{Step}
 use Rattle.node_rules.proofs.StandLemmas.{live_so}
-use Rattle.node_rules.proofs.StepLemmas.{acting_so}
 use Rattle.run_rules.specs.Facts.{place_at}
 use Rattle.run_base_laws.proofs.NodeLemmas.{Keeps, node_keeps}
-use Rattle.run_base_laws.proofs.OwnLemmas.{all_found, all_with, all_without, all_last}
+use Rattle.run_base_laws.proofs.OwnLemmas.{all_found}
+use Rattle.run_base_laws.proofs.LiveStepLemmas.{LiveCases, acting_by, left_by, lives_on}
 use Rattle.run_base_laws.proofs.StoredLemmas.{with_wrote, step_stores, stored_with}
 use Rattle.tree_laws.specs.WeighLaws.{LivesHaveStrength}
 
@@ -53,36 +50,15 @@ wrote_strength s None none = refl
 wrote_strength s (Some r) none = applied_strength s r none
 
 module _ (p : Place) (input : Input) where
-  acts_none : (k : NodeState) (l : Live) (b : _) (a : Act) → IfSome (act_turn k l b a).wrote SetsNone
-  acts_none k l b acts.Rest = tt
-  acts_none k l b acts.AskDown = tt
-  acts_none k l b acts.SayReady = tt
-  acts_none k l b acts.SayReadOnly = tt
-  acts_none k l b acts.Seal = tt
-  acts_none k l b (acts.SealAndPass i) = tt
-  acts_none k l b acts.Decide = tt
-  acts_none k l b acts.Finish = tt
-  acts_none k l b acts.Abandon = tt
-
   -- no step writes a strength
   writes_none : {k : NodeState} {d : TurnDraft} → Step p input k d → IfSome d.wrote SetsNone
   writes_none (steps.Begins n s call rows range none step) = writes_none step
   writes_none (steps.Pends n l given call has live code step) = writes_none step
   writes_none (steps.Lets_reads_go l comment b live begins step) = writes_none step
   writes_none (steps.Counts_ack s from kept came counts step) = writes_none step
-  writes_none (steps.Acts {k = k} l b a why) = acts_none k l b a
-  writes_none (steps.Does s from (nexts.End d) kept why) = tt
-  writes_none (steps.Does s from (nexts.Meet d mixed) kept why) = tt
-  writes_none (steps.Does s from nexts.AckToward kept why) = tt
-  writes_none (steps.Does s from nexts.Forget kept why) = tt
-  writes_none (steps.Does s from nexts.SayForgotten kept why) = tt
-  writes_none (steps.Does s from nexts.SayAck kept why) = tt
+  writes_none (steps.Acts l b acts.Rest why) = tt
   writes_none (steps.Does s from nexts.Rest kept why) = tt
-  writes_none (steps.Makes_record n s r d call (steps.Makes_table t free)) = tt
-  writes_none (steps.Makes_record n s r d call (steps.Makes_link l free)) = tt
-  writes_none (steps.Makes_record n s r d call (steps.Makes_synonym y free)) = tt
   writes_none (steps.Makes_record n s r d call (steps.Sets_recovery on)) = tt
-  writes_none (steps.Gives_up_commit n b (Some l) gives has calls live) = tt
   writes_none (steps.Gives_up_commit n b None gives has calls live) = tt
   writes_none _ = tt
 
@@ -94,59 +70,24 @@ module _ (p : Place) (input : Input) where
   abbrev All : NodeState → Type 0
   All k = AllByRecursion Has k.lives
 
-  module _ (k : NodeState) (now : All k) where
-    found_has : (x : Branch) → branch_at k x.live.me ≡ Some x → Has x.live
-    found_has x found = all_found Has live_id k.lives x.live.me x.live now (live_so k x.live.me x found)
+  -- a branch that begins takes its node's
+  begun_has : (k : NodeState) → k.stored.durable.strength ≡ None → strength_of p k ≡ p.strength
+  begun_has k none = ap (λ o. unwrap_or o p.strength) none
 
-    asked_has : {x : Branch} {s : Stmt} {given : ℕ} → Asked k input x s given → Has x.live
-    asked_has (steps.By_call n x s call rows has code live) = found_has x live
-    asked_has (steps.By_exec x from call given advice s came live runs) = found_has x live
-
-    acting_has : {l : Live} {b : _} {a : Act} → Acting k input l b a → Has l
-    acting_has why = acting_so Has (λ l comment b so. so) (λ l from v so. so) (λ b l found. all_found Has live_id k.lives b l now found) why
-
-    acts_have : (l : Live) (b : _) (a : Act) → Has l → All (act_turn k l b a).after
-    acts_have l b acts.Rest so = all_with Has live_id k.lives l now so
-    acts_have l b acts.AskDown so = all_with Has live_id k.lives l now so
-    acts_have l b acts.SayReady so = all_with Has live_id k.lives (ready l) now so
-    acts_have l b acts.SayReadOnly so = all_without Has live_id k.lives l.me now
-    acts_have l b acts.Seal so = all_without Has live_id k.lives l.me now
-    acts_have l b (acts.SealAndPass i) so = all_without Has live_id k.lives l.me now
-    acts_have l b acts.Decide so = all_without Has live_id k.lives l.me now
-    acts_have l b acts.Finish so = all_without Has live_id k.lives l.me now
-    acts_have l b acts.Abandon so = all_without Has live_id k.lives l.me now
-
-    -- a branch that begins takes its node's
-    begun_has : (l : Live) → k.stored.durable.strength ≡ None → l.strength ≡ unwrap_or k.stored.durable.strength p.strength → AllByRecursion Has (k.lives ++ l ∷ [])
-    begun_has l none is = all_last Has live_id k.lives l now (is ∙ ap (λ o. unwrap_or o p.strength) none)
+  each : LiveCases p input (λ k. k.stored.durable.strength ≡ None) (λ d. Unit {0}) Has
+  each = record {
+    lasts = record { begun = λ k n s call rows free none. none; pends = λ k n l given call has none. none; lets = λ k b none. none; acked = λ k s from kept came none. none };
+    root = λ k n s call rows free none. begun_has k none;
+    child = λ k to parent edge root depth came new none. begun_has k none;
+    advised = λ l advice so. so;
+    runs = λ k x s t so. so;
+    opens = λ k x from strength g link opened c so. so;
+    replies = λ k x weight count a i e answered so. so;
+    acts = λ k l below a why c q all. left_by Has l a (λ says so. so) (acting_by Has (λ x comment b live begins so. so) (λ x from v b answers so. so) all why);
+  }
 
   lives_have : {k : NodeState} {d : TurnDraft} → Step p input k d → k.stored.durable.strength ≡ None → All k → All d.after
-  lives_have (steps.Begins {k = k} n s call rows range free step) none now = lives_have step none (begun_has k now _ none refl)
-  lives_have (steps.Pends n l given call has live code step) none now = lives_have step none now
-  lives_have (steps.Lets_reads_go l comment b live begins step) none now = lives_have step none now
-  lives_have (steps.Counts_ack s from kept came counts step) none now = lives_have step none now
-  lives_have (steps.Runs {k = k} x s given t asked way) none now = all_with Has live_id k.lives (after_run x.live (ran p k x.live.me s t)) now (asked_has k now asked)
-  lives_have (steps.Goes_nowhere {k = k} x s given r asked way) none now = all_with Has live_id k.lives x.live now (asked_has k now asked)
-  lives_have (steps.Calls {k = k} x s given i table asked way) none now = all_with Has live_id k.lives x.live now (asked_has k now asked)
-  lives_have (steps.Opens {k = k} x s given node link table asked way) none now = all_with Has live_id k.lives x.live now (asked_has k now asked)
-  lives_have (steps.Goes_on {k = k} x from strength g link opened) none now = all_with Has live_id k.lives (with_edge x (new_edge from link strength)).live now (found_has k now x opened.live)
-  lives_have (steps.Hears_reply {k = k} x weight count a i e answered) none now = all_with Has live_id k.lives (hears_reply x i weight count e).live now (found_has k now x answered.live)
-  lives_have (steps.Opens_branch {k = k} to parent edge root depth came new) none now = begun_has k now _ none refl
-  lives_have (steps.Acts {k = k} l b a why) none now = acts_have k now l b a (acting_has k now why)
-  lives_have (steps.Drops_told {k = k} l live drops) none now = all_without Has live_id k.lives l.me now
-  lives_have (steps.Drops_asked {k = k} l from live came parent) none now = all_without Has live_id k.lives l.me now
-  lives_have (steps.Does s from (nexts.End d) kept why) none now = now
-  lives_have (steps.Does s from (nexts.Meet d mixed) kept why) none now = now
-  lives_have (steps.Does s from nexts.AckToward kept why) none now = now
-  lives_have (steps.Does s from nexts.Forget kept why) none now = now
-  lives_have (steps.Does s from nexts.SayForgotten kept why) none now = now
-  lives_have (steps.Does s from nexts.SayAck kept why) none now = now
-  lives_have (steps.Does s from nexts.Rest kept why) none now = now
-  lives_have (steps.Rolls_back {k = k} n x call has live) none now = all_without Has live_id k.lives x.live.me now
-  lives_have (steps.Gives_up {k = k} n x gives has calls live) none now = all_with Has live_id k.lives x.live now (found_has k now x live)
-  lives_have (steps.Gives_up_commit {k = k} n b (Some l) gives has calls live) none now = all_without Has live_id k.lives l.me now
-  lives_have (steps.Gives_up_commit n b None gives has calls live) none now = now
-  lives_have _ none now = now
+  lives_have step none now = lives_on each step none tt now
 
 -- ---- nodes
 

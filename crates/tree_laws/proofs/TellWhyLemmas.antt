@@ -288,9 +288,7 @@ module _ (t : List Event) where
     tells_on (steps.Does s from nexts.SayForgotten kept why) near all = (tt, tt)
     tells_on (steps.Does {k = k} s from nexts.SayAck kept (steps.Acks_again n m came toward knows all_so)) near all =
         (Knows_it n (subst (IsKnown t s) knows (all_found (RowIs t) kept_row_id k.stored.durable.kept s.me s all kept).known), tt)
-    tells_on (steps.Does s from nexts.Rest kept why) near all = tt
     tells_on (steps.Rolls_back {k = k} n x call has live) near all = rolls_all k0 input _ x.live (live_there k near (direct_rollback n call) x.live.me (x.live, live_so k x.live.me x live)) refl
     tells_on (steps.Gives_up_commit {k = k} n b (Some l) gives has calls live) near all =
         rolls_all k0 input _ l (live_there k near (direct_give_up n gives) l.me (l, subst (λ c. live_at k c ≡ Some l) (sym (item_is live_id k.lives b l live)) live)) refl
-    tells_on (steps.Gives_up_commit n b None gives has calls live) near all = tt
     tells_on _ near all = tt

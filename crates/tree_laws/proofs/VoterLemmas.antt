@@ -30,7 +30,8 @@ use Rattle.tree_laws.specs.WeightLaws.{ToldWeight, TellsItsWeight}
 use Rattle.tree_laws.proofs.AskLemmas.{sent_wider, tells_asks, below_asks}
 use Rattle.tree_laws.proofs.AskRunLemmas.{collects_as_told}
 use Rattle.tree_laws.proofs.PrefixLemmas.{so_far, f_at}
-use Rattle.tree_laws.proofs.SealLemmas.{SealsSo, seals_so, IsSealOf}
+use Rattle.run_branch_laws.proofs.KeptRowLemmas.{IsSealOf}
+use Rattle.tree_laws.proofs.SealLemmas.{SealsSo, seals_so}
 use Rattle.tree_laws.proofs.SettleLemmas.{live_in, born_of}
 use Rattle.tree_laws.proofs.WeightRunLemmas.{replies_tell_weights, edges_hold_weights}
 use Rattle.tree_laws.proofs.WhyLemmas.{WroteWhy, why_on}

@@ -35,7 +35,8 @@ use Rattle.tree_laws.proofs.ForestLemmas as trees
 use Rattle.tree_laws.proofs.ForestRunLemmas.{run_known}
 use Rattle.tree_laws.proofs.PrefixLemmas.{so_far, f_at, e_at, one_on, more_on, births_join, fact_each, both_each}
 use Rattle.tree_laws.proofs.RecordRunLemmas.{records_are_as_told}
-use Rattle.tree_laws.proofs.SealLemmas.{later_unsealed, wrote_seal}
+use Rattle.run_branch_laws.proofs.KeptRowLemmas.{wrote_seal}
+use Rattle.tree_laws.proofs.SealLemmas.{later_unsealed}
 use Rattle.tree_laws.proofs.VoterLemmas.{mapped_at, edge_at_both, all_numbered, SealedHeard, SealedWeigh, SealsNow, seals_now, sealing_heard, sealing_weighs}
 use Rattle.tree_laws.proofs.WeightLemmas.{asked_way}
 use Rattle.tree_laws.proofs.AtPart.{at_part}

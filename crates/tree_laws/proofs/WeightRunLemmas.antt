@@ -8,11 +8,11 @@ use Rattle.node_rules.specs.Data.kinds
 use Rattle.node_rules.specs.declared.work.Work.{Work}
 use Rattle.node_rules.specs.Words.{numbered}
 use Rattle.node_rules.specs.Inputs.{Came}
-use Rattle.node_rules.specs.NodeState.{NodeState, TurnDraft, live_at}
-use Rattle.node_rules.specs.Turn.{start_of, draft_of}
+use Rattle.node_rules.specs.NodeState.{NodeState, live_at}
+use Rattle.node_rules.specs.Turn.{start_of}
 use Rattle.agreement.specs.Events.{Event}
 use Rattle.run_rules.specs.Data.{Packet, Turn, Happening, Command}
-use Rattle.run_rules.specs.Facts.{Facts, first_facts, place_at, node_at, facts_after, facts_of}
+use Rattle.run_rules.specs.Facts.{Facts, first_facts, node_at, facts_after, facts_of}
 use Rattle.run_rules.specs.Lawful.{IsPlace, MayTurn, MayHappen, IsLawful, History, IsLawfulRun, facts_at}
 use Rattle.run_base_laws.specs.RunEvents.{events_after}
 use Rattle.run_rules.specs.Births.{Born, births_after}
@@ -26,6 +26,7 @@ use Rattle.node_rules.proofs.LiveLemmas.{each_same, none_live, branch_parts}
 use Rattle.run_base_laws.proofs.RestRunLemmas.{NodeRests, heard_rests, RootsStand, roots_stand_on, first_rests}
 use Rattle.run_base_laws.proofs.InTurnRunLemmas as calls
 use Rattle.run_base_laws.proofs.InTurnRunLemmas.{CallsStand, heard_calls, calls_stand_on, first_calls}
+use Rattle.run_base_laws.proofs.OneTurn.{one_turn}
 use Rattle.run_branch_laws.proofs.FreezeRunLemmas as frozen
 use Rattle.run_branch_laws.proofs.FreezeRunLemmas.{FreezeStand, freeze_on, first_freeze}
 use Rattle.tree_laws.specs.WeightLaws.{ToldWeight, TellsItsWeight, RepliesTellWeights, HoldsWeights, EdgesHoldWeights}
@@ -98,17 +99,7 @@ start_weighs ms zs = (none_live _, none_live _)
 module _ (places : List Place) (asked : List Command) (each : (n : ℕ) (p : Place) → numbered places n ≡ Some p → IsPlace places n p) where
   module _ (f : Facts) (t : List Event) (bs : List Born) (stand : StandBorn places asked each f t bs) (roots : RootsStand places asked each f) (turns : CallsStand f) (ice : FreezeStand f) (asks : AskStand f bs) (now : WeightStand f) where
     module _ (u : Turn) (k : NodeState) (may : MayTurn places f u k) where
-      abbrev n : ℕ
-      n = u.node
-
-      abbrev p : Place
-      p = place_at places u.node
-
-      abbrev d : TurnDraft
-      d = draft_of p k u.input
-
-      abbrev said : List Post
-      said = said_in f
+      open one_turn places asked f u k use {n, p, d, said}
 
       abbrev more : List Post
       more = said ++ d.says

@@ -349,7 +349,6 @@ module _ (E : BranchId → Option ℕ) (A : BranchId → Option BranchId) (G Her
     tolds_on (steps.Does {k = k} s from nexts.Forget kept why) ss news nodes now = quiet k now _ (each_says IsNoReply s.me kinds.Forgotten (map (λ b. b.branch) (beyond s)) (λ n v is. is))
     tolds_on (steps.Does {k = k} s from nexts.SayForgotten kept why) ss news nodes now = quiet k now _ ((λ n v is. is), tt)
     tolds_on (steps.Does {k = k} s from nexts.SayAck kept why) ss news nodes now = quiet k now _ ((λ n v is. is), tt)
-    tolds_on (steps.Does {k = k} s from nexts.Rest kept why) ss news nodes now = quiet k now [] tt
     tolds_on (steps.Rolls_back {k = k} n x call has live) ss news nodes now = left k now x.live.me _ (rolled x.live)
     tolds_on (steps.Gives_up {k = k} n x gives has calls live) ss news nodes now =
         let parts = branch_parts k x.live.me x live in
@@ -358,13 +357,4 @@ module _ (E : BranchId → Option ℕ) (A : BranchId → Option BranchId) (G Her
         put k now [] x.live (gives_up x).work (work_is k x.live.me x live) (λ b other n v is. is)
         (record { told = λ below some none. absurd (below root); kept = was.kept; zero_calls = λ below. absurd (below root) })
     tolds_on (steps.Gives_up_commit {k = k} n b (Some l) gives has calls live) ss news nodes now = left k now l.me _ (rolled l)
-    tolds_on (steps.Gives_up_commit {k = k} n b None gives has calls live) ss news nodes now = quiet k now [] tt
-    tolds_on (steps.Rests {k = k}) ss news nodes now = quiet k now [] tt
-    tolds_on (steps.Refuses {k = k} n s r is) ss news nodes now = quiet k now [] tt
-    tolds_on (steps.Completes_at_once {k = k} n s d call completes none) ss news nodes now = quiet k now [] tt
-    tolds_on (steps.Makes_record {k = k} n s r d call makes) ss news nodes now = quiet k now [] tt
-    tolds_on (steps.Forces_given {k = k} n id m b call named) ss news nodes now = quiet k now [] tt
-    tolds_on (steps.Forces_commit {k = k} n id b call named) ss news nodes now = quiet k now [] tt
-    tolds_on (steps.Forces_rollback {k = k} n id b call named) ss news nodes now = quiet k now [] tt
-    tolds_on (steps.Hides {k = k} n mixed id s call found) ss news nodes now = quiet k now [] tt
-    tolds_on (steps.Advises {k = k} n a call) ss news nodes now = quiet k now [] tt
+    tolds_on {k = k} _ ss news nodes now = quiet k now [] tt

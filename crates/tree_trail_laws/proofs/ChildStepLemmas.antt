@@ -36,7 +36,7 @@ use Rattle.run_base_laws.proofs.KindSayLemmas.{OfDecisions, AllSay, one_says, ea
 use Rattle.run_rules.proofs.ListLemmas.{all_append}
 use Rattle.run_base_laws.proofs.NeighborLemmas.{News, reply_is}
 use Rattle.run_base_laws.proofs.NeighborStepLemmas.{begun_news, pends_news, lets_news, acked_news}
-use Rattle.tree_laws.proofs.RestLemmas.{collected}
+use Rattle.run_branch_laws.proofs.StillLemmas.{collected}
 
 -- ---- receivers of Execs
 
@@ -340,17 +340,7 @@ module _ (k0 : NodeState) (p : Place) (input : Input) (Unborn : BranchId → Typ
     grows_on (steps.Does {k = k} s from nexts.Forget kept why) news now = quiet k now _ (each_says IsStill s.me kinds.Forgotten (map (λ b. b.branch) (beyond s)) refl)
     grows_on (steps.Does {k = k} s from nexts.SayForgotten kept why) news now = quiet k now _ (refl, tt)
     grows_on (steps.Does {k = k} s from nexts.SayAck kept why) news now = quiet k now _ (refl, tt)
-    grows_on (steps.Does {k = k} s from nexts.Rest kept why) news now = quiet k now [] tt
     grows_on (steps.Rolls_back {k = k} n x call has live) news now = left k now _ (rolls_still k now x.live) x.live.me
     grows_on (steps.Gives_up {k = k} n x gives has calls live) news now = put k now [] tt x.live (branch k now x live)
     grows_on (steps.Gives_up_commit {k = k} n b (Some l) gives has calls live) news now = left k now _ (rolls_still k now l) l.me
-    grows_on (steps.Gives_up_commit {k = k} n b None gives has calls live) news now = quiet k now [] tt
-    grows_on (steps.Rests {k = k}) news now = quiet k now [] tt
-    grows_on (steps.Refuses {k = k} n s r is) news now = quiet k now [] tt
-    grows_on (steps.Completes_at_once {k = k} n s d call completes none) news now = quiet k now [] tt
-    grows_on (steps.Makes_record {k = k} n s r d call makes) news now = quiet k now [] tt
-    grows_on (steps.Forces_given {k = k} n id m b call named) news now = quiet k now [] tt
-    grows_on (steps.Forces_commit {k = k} n id b call named) news now = quiet k now [] tt
-    grows_on (steps.Forces_rollback {k = k} n id b call named) news now = quiet k now [] tt
-    grows_on (steps.Hides {k = k} n mixed id s call found) news now = quiet k now [] tt
-    grows_on (steps.Advises {k = k} n a call) news now = quiet k now [] tt
+    grows_on {k = k} _ news now = quiet k now [] tt

@@ -8,13 +8,12 @@ use Rattle.tran_ids.proofs.BranchLemmas.{same_from_equal}
 use Rattle.tran_ids.proofs.ListedLemmas.{item_is}
 use Rattle.agreement.specs.Events.{Exit, exit}
 use Rattle.session_tree.specs.Live.{is_branch}
-use Rattle.node_rules.specs.Data.{BranchId, Kind, Live, Input}
-use Rattle.node_rules.specs.Data.inputs
+use Rattle.node_rules.specs.Data.{BranchId, Kind, Live}
 use Rattle.node_rules.specs.Data.kinds
 use Rattle.node_rules.specs.Inputs.{Came}
 use Rattle.node_rules.specs.Words.{item_at}
 use Rattle.node_rules.specs.NodeState.{NodeState, live_id, live_at}
-use Rattle.node_rules.specs.Turn.{turn_of, heard, stamped}
+use Rattle.node_rules.specs.Turn.{turn_of, stamped}
 use Rattle.run_rules.specs.Births.{Born, births_of}
 use Rattle.run_base_laws.specs.BirthLaws.{Began, LiveIs}
 use Rattle.run_rules.specs.Branches.{Seen, Trail, seen_id, seen_at, is_among}
@@ -47,6 +46,7 @@ use Rattle.tree_trail_laws.proofs.LeftStepLemmas.{Why, By_record, By_quiet, By_a
 use Rattle.tree_trail_laws.proofs.LeftRecordLemmas.{wrote_exit, exit_live}
 use Rattle.tree_laws.proofs.AtTurn.{at_turn}
 use Rattle.tree_trail_laws.proofs.AtTrail.{at_trail}
+use Rattle.tree_trail_laws.proofs.HeardNodeLemmas.{heard_live, heard_fits}
 
 -- What is told of a branch that has left: where it is no root, that it is live no more, or its node has to stop.
 pub record IsToldLeft (bs : List Born) (f : Facts) (tr : Trail) (b : BranchId) : Type 0 where
@@ -165,18 +165,6 @@ module _ (t : History) (whole : IsLawfulRun t) (sees : SeesAll t) where
     fit : SessionsFit k
     fit = kept_alone SessionsFit sessions_keep s0 lawful0 u.node k may.1.up
 
-    heard_live : (input : Input) (b : BranchId) → live_at (heard k input) b ≡ live_at k b
-    heard_live (inputs.Message y) b = refl
-    heard_live (inputs.Call n o) b = refl
-    heard_live (inputs.GiveUp n) b = refl
-    heard_live inputs.Reco b = refl
-
-    heard_fits : (input : Input) → SessionsFit (heard k input)
-    heard_fits (inputs.Message y) = record { roots = fit.roots; above = fit.above }
-    heard_fits (inputs.Call n o) = fit
-    heard_fits (inputs.GiveUp n) = fit
-    heard_fits inputs.Reco = fit
-
     -- ---- one that was live as the turn began
 
     out_recorded : (s : Seen) → s.exit ≡ None → (x : Exit) → recorded_exit s.me u.wrote ≡ Some x → IsOut s
@@ -226,7 +214,7 @@ module _ (t : History) (whole : IsLawfulRun t) (sees : SeesAll t) where
           by true cut = inr (to_stop cut ∙ ap Some (sym it.own))
           by false cut =
               let none : live_at d.after b ≡ None = none_among d.after.lives b (subst (λ o. is_among b (lives_at o) ≡ false) (after_is cut) gone) in
-              inl (out_by cut (why_on u.input b z p below (serves t.places f0 u k may.1).step (heard_fits u.input) (heard_live u.input b ∙ found) none))
+              inl (out_by cut (why_on u.input b z p below (serves t.places f0 u k may.1).step (heard_fits k fit u.input) (heard_live k u.input b ∙ found) none))
 
       left_now : ((x : Exit) × (recorded_exit b u.wrote ≡ Some x)) ⊎ (is_among b (lives_at (node_at f1 u.node)) ≡ false) → Told b
       left_now how = record {

@@ -1,4 +1,5 @@
 pub mod MomentLemmas
+pub mod HeardNodeLemmas
 pub mod AtTrail
 pub mod PlanLemmas
 pub mod SeenLemmas

@@ -52,6 +52,7 @@ use Rattle.tree_trail_laws.proofs.ChildRunLemmas.{tells_at}
 use Rattle.tree_trail_laws.proofs.ChildTurnLemmas.{all_behind, Tells}
 use Rattle.tree_laws.proofs.AtTurn.{at_turn}
 use Rattle.tree_trail_laws.proofs.AtTrail.{at_trail}
+use Rattle.tree_trail_laws.proofs.HeardNodeLemmas.{heard_live, heard_fits}
 
 pub bool_cases : (q : Bool) → (P : Type 0) → (q ≡ true → P) → (q ≡ false → P) → P
 bool_cases true P at_true at_false = at_true refl
@@ -232,26 +233,14 @@ module _ (t : History) (whole : IsLawfulRun t) where
               | inr other ↦ untouched u.node d.after up l live below z it.0 me at it.2 z_below (λ m came. subst (λ b. same m.to b ≡ false) (sym me) (other m came)) (stays z z_live me_z z_below other)
             ]
           where
-            heard_live : (input : Input) (b : BranchId) → live_at (heard k input) b ≡ live_at k b
-            heard_live (inputs.Message m) b = refl
-            heard_live (inputs.Call n s) b = refl
-            heard_live (inputs.GiveUp n) b = refl
-            heard_live inputs.Reco b = refl
-
             fits : SessionsFit k
             fits = kept_alone SessionsFit sessions_keep s0 lawful0 u.node k may.1.up
-
-            heard_fits : (input : Input) → SessionsFit (heard k input)
-            heard_fits (inputs.Message m) = record { roots = fits.roots; above = fits.above }
-            heard_fits (inputs.Call n s) = fits
-            heard_fits (inputs.GiveUp n) = fits
-            heard_fits inputs.Reco = fits
 
             -- nothing comes to it
             stays : (z : Live) → live_at k z.me ≡ Some z → z.me ≡ l.me → z.parent ≢ None → ((m : Msg) → u.input ≡ inputs.Message m → same m.to l.me ≡ false) → l ≡ z
             stays z z_live me z_below other =
                 let not_to : (from : BranchId) (kind : Kind) → Came u.input from z.me kind → ⊥ = (λ from kind came. (let no_match = other _ came.is in let here : same z.me l.me ≡ true = same_from_equal z.me l.me me in absurd (cc (no_match, here)))) in
-                let after : live_at d.after z.me ≡ Some z = stays_on p u.input z.me not_to z (λ j fit at n concerns has. z_below (root_alone j fit n z.me has z at)) (serves t.places f0 u k may.1).step (heard_fits u.input) (heard_live u.input z.me ∙ z_live) in
+                let after : live_at d.after z.me ≡ Some z = stays_on p u.input z.me not_to z (λ j fit at n concerns has. z_below (root_alone j fit n z.me has z at)) (serves t.places f0 u k may.1).step (heard_fits k fits u.input) (heard_live k u.input z.me ∙ z_live) in
                 let both : Some z ≡ Some l = sym after ∙ subst (λ c. live_at d.after c ≡ Some l) (sym me) live in
                 let it : l ≡ z = cc in
                 it

@@ -75,12 +75,7 @@ module _ (p : Place) (input : Input) (b : BranchId) (not_to : (from : BranchId) 
   act_calls k l q acts.Rest y live = refl
   act_calls k l q acts.AskDown y live = refl
   act_calls k l q acts.SayReady y live = refl
-  act_calls k l q acts.SayReadOnly y live = left_calls k.lives k.works l.me b y live
-  act_calls k l q acts.Seal y live = left_calls k.lives k.works l.me b y live
-  act_calls k l q (acts.SealAndPass i) y live = left_calls k.lives k.works l.me b y live
-  act_calls k l q acts.Decide y live = left_calls k.lives k.works l.me b y live
-  act_calls k l q acts.Finish y live = left_calls k.lives k.works l.me b y live
-  act_calls k l q acts.Abandon y live = left_calls k.lives k.works l.me b y live
+  act_calls k l q _ y live = left_calls k.lives k.works l.me b y live
 
   pub calls_on : {k : NodeState} {d : TurnDraft} → Step p input k d → (y : Live) → live_at d.after b ≡ Some y → last_of d.after b ≡ last_of k b
   calls_on (steps.Begins n s call rows range none step) y live = calls_on step y live
@@ -97,16 +92,9 @@ module _ (p : Place) (input : Input) (b : BranchId) (not_to : (from : BranchId) 
   calls_on (steps.Drops_told {k = k} l found drops) y live = left_calls k.lives k.works l.me b y live
   calls_on (steps.Drops_asked {k = k} l from found came parent) y live = left_calls k.lives k.works l.me b y live
   calls_on (steps.Does s from nexts.Rest kept why) y live = refl
-  calls_on (steps.Does s from nexts.AckToward kept why) y live = refl
-  calls_on (steps.Does s from nexts.SayForgotten kept why) y live = refl
-  calls_on (steps.Does s from nexts.SayAck kept why) y live = refl
-  calls_on (steps.Does s from (nexts.End d) kept why) y live = refl
-  calls_on (steps.Does s from (nexts.Meet d mixed) kept why) y live = refl
-  calls_on (steps.Does s from nexts.Forget kept why) y live = refl
   calls_on (steps.Rolls_back {k = k} n x call has found) y live = left_calls k.lives k.works x.live.me b y live
   calls_on (steps.Gives_up {k = k} n x gives has calls found) y live = put_calls k.works _ b (found_same k x found)
   calls_on (steps.Gives_up_commit {k = k} n c (Some l) gives has calls found) y live = left_calls k.lives k.works l.me b y live
-  calls_on (steps.Gives_up_commit n c None gives has calls found) y live = refl
   calls_on _ y live = refl
 
 -- ---- an Exec that comes to its branch

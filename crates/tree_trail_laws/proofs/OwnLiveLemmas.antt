@@ -69,12 +69,7 @@ module _ (p : Place) (input : Input) (b : BranchId) where
   act_lives k l q acts.Rest y there live = put_lives k l y there live
   act_lives k l q acts.AskDown y there live = put_lives k l y there live
   act_lives k l q acts.SayReady y there live = put_lives k (ready l) y there live
-  act_lives k l q acts.SayReadOnly y there live = left_lives k l.me y live
-  act_lives k l q acts.Seal y there live = left_lives k l.me y live
-  act_lives k l q (acts.SealAndPass i) y there live = left_lives k l.me y live
-  act_lives k l q acts.Decide y there live = left_lives k l.me y live
-  act_lives k l q acts.Finish y there live = left_lives k l.me y live
-  act_lives k l q acts.Abandon y there live = left_lives k l.me y live
+  act_lives k l q _ y there live = left_lives k l.me y live
 
   begun_lives : (k : NodeState) (n : ℕ) (s : Stmt) → IsCall input n s → IsOfRows s → (session_at k.sessions n).root ≡ None → (l : Live) → IsOfThese (begun_by p k n None) l → IsOfThese k l
   begun_lives k n s call rows new l (inl there) = elim (found_last live_id k.lives (fresh_root p k (new_root p k n)) b there.0 there.1) [
@@ -134,16 +129,9 @@ module _ (p : Place) (input : Input) (b : BranchId) where
   lives_on (steps.Drops_told {k = k} x found drops) l live = inl (left_lives k x.me l live)
   lives_on (steps.Drops_asked {k = k} x from found came parent) l live = inl (left_lives k x.me l live)
   lives_on (steps.Does s from nexts.Rest kept why) l live = inl (l, live)
-  lives_on (steps.Does s from nexts.AckToward kept why) l live = inl (l, live)
-  lives_on (steps.Does s from nexts.SayForgotten kept why) l live = inl (l, live)
-  lives_on (steps.Does s from nexts.SayAck kept why) l live = inl (l, live)
-  lives_on (steps.Does s from (nexts.End d) kept why) l live = inl (l, live)
-  lives_on (steps.Does s from (nexts.Meet d mixed) kept why) l live = inl (l, live)
-  lives_on (steps.Does s from nexts.Forget kept why) l live = inl (l, live)
   lives_on (steps.Rolls_back {k = k} n x call has found) l live = inl (left_lives k x.live.me l live)
   lives_on (steps.Gives_up {k = k} n x gives has calls found) l live = inl (put_lives k x.live l (x.live, live_so k x.live.me x found) live)
   lives_on (steps.Gives_up_commit {k = k} n c (Some x) gives has calls found) l live = inl (left_lives k x.me l live)
-  lives_on (steps.Gives_up_commit n c None gives has calls found) l live = inl (l, live)
   lives_on _ l live = inl (l, live)
 
 -- ---- a transaction begins once in a turn

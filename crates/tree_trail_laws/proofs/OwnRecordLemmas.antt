@@ -1,5 +1,5 @@
 -- A seal and a decision have the changes that their branch's node keeps of it.
-use Rattle.std.proofs.Common.{◌≡◌, List, Some, None, refl, subst}
+use Rattle.std.proofs.Common.{◌≡◌, List, None, refl, subst}
 use Rattle.std.specs.Prelude.{IfSome}
 use Rattle.commit_forget.specs.declared.next.Next.TheVariants as nexts
 use Rattle.node_rules.specs.Data.{RedoRecord, Owned, Place, Input}
@@ -31,24 +31,8 @@ module _ (p : Place) (input : Input) where
   writes_own (steps.Acts l site_below acts.Seal why) = refl
   writes_own (steps.Acts l site_below (acts.SealAndPass i) why) = refl
   writes_own (steps.Acts l site_below acts.Decide why) = refl
-  writes_own (steps.Acts l site_below acts.Rest why) = tt
-  writes_own (steps.Acts l site_below acts.AskDown why) = tt
-  writes_own (steps.Acts l site_below acts.SayReadOnly why) = tt
-  writes_own (steps.Acts l site_below acts.SayReady why) = tt
-  writes_own (steps.Acts l site_below acts.Finish why) = tt
-  writes_own (steps.Acts l site_below acts.Abandon why) = tt
-  writes_own (steps.Does s from (nexts.End e) kept why) = tt
-  writes_own (steps.Does s from (nexts.Meet e mixed) kept why) = tt
-  writes_own (steps.Does s from nexts.Forget kept why) = tt
   writes_own (steps.Does s from nexts.Rest kept why) = tt
-  writes_own (steps.Does s from nexts.AckToward kept why) = tt
-  writes_own (steps.Does s from nexts.SayForgotten kept why) = tt
-  writes_own (steps.Does s from nexts.SayAck kept why) = tt
-  writes_own (steps.Makes_record n s r d call (steps.Makes_table x free)) = tt
-  writes_own (steps.Makes_record n s r d call (steps.Makes_link x free)) = tt
-  writes_own (steps.Makes_record n s r d call (steps.Makes_synonym x free)) = tt
   writes_own (steps.Makes_record n s r d call (steps.Sets_recovery on)) = tt
-  writes_own (steps.Gives_up_commit n b (Some l) gives has calls live) = tt
   writes_own (steps.Gives_up_commit n b None gives has calls live) = tt
   writes_own _ = tt
 

@@ -155,12 +155,7 @@ act_own : (k : NodeState) (l : Live) (q : Bool) (a : Act) → SameOwn k (act_tur
 act_own k l q acts.Rest b y live = refl
 act_own k l q acts.AskDown b y live = refl
 act_own k l q acts.SayReady b y live = refl
-act_own k l q acts.SayReadOnly b y live = left_own k l.me b y live
-act_own k l q acts.Seal b y live = left_own k l.me b y live
-act_own k l q (acts.SealAndPass i) b y live = left_own k l.me b y live
-act_own k l q acts.Decide b y live = left_own k l.me b y live
-act_own k l q acts.Finish b y live = left_own k l.me b y live
-act_own k l q acts.Abandon b y live = left_own k l.me b y live
+act_own k l q _ b y live = left_own k l.me b y live
 
 -- ---- a step
 

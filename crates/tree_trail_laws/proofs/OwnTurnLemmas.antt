@@ -51,6 +51,7 @@ use Rattle.tree_trail_laws.proofs.PlanLemmas.{find_more, find_last}
 use Rattle.tree_laws.proofs.AtTurn.{at_turn}
 use Rattle.tree_trail_laws.proofs.AtTrail.{at_trail}
 use Rattle.tree_trail_laws.proofs.LowerLivesLemmas.{bool_cases}
+use Rattle.tree_trail_laws.proofs.HeardNodeLemmas.{heard_fits}
 
 -- the greatest call number that a branch is told to have taken
 abbrev pub taken_of : Option Seen → ℕ
@@ -151,12 +152,6 @@ module _ (t : History) (whole : IsLawfulRun t) where
     heard_same (inputs.GiveUp n) = (refl, refl, refl)
     heard_same inputs.Reco = (refl, refl, refl)
 
-    pub heard_fits : (input : Input) → SessionsFit (heard k input)
-    heard_fits (inputs.Message m) = record { roots = fits.roots; above = fits.above }
-    heard_fits (inputs.Call n s) = fits
-    heard_fits (inputs.GiveUp n) = fits
-    heard_fits inputs.Reco = fits
-
     lives_back : (b : BranchId) (z : Live) → live_at k1 b ≡ Some z → live_at k b ≡ Some z
     lives_back b z live = ap (λ (ls : List Live). item_at live_id ls b) (sym (heard_same u.input).2) ∙ live
 
@@ -207,7 +202,7 @@ module _ (t : History) (whole : IsLawfulRun t) where
           let calls : inputs.Call m (Some root.statement) ≡ inputs.Call n (Some s) = sym root.call ∙ call in
           let same_session : m ≡ n = cc in
           let same : k1 ≡ k = ap (heard k) root.call in
-          let is_new = new_is p u.input k1 (heard_fits u.input) range b root in
+          let is_new = new_is p u.input k1 (heard_fits k fits u.input) range b root in
           let none : (session_at k.sessions m).root ≡ None = subst (λ j. (session_at j.sessions m).root ≡ None) same is_new.1 in
           let b_is : b ≡ new_root p k m = is_new.0 ∙ ap (λ j. new_root p j m) same in
           let names = roots.next u.node k may.1.up m (range m root.statement root.call) none in
@@ -225,7 +220,7 @@ module _ (t : History) (whole : IsLawfulRun t) where
 
       -- so the transaction of the session that calls is told
       pub roots_are : (j : NodeState) → From p u.input k1 j → RootsAre trb u.node u.input j
-      roots_are j from m s b call rows has = elim (from_one p u.input k1 (heard_fits u.input) range from) [
+      roots_are j from m s b call rows has = elim (from_one p u.input k1 (heard_fits k fits u.input) range from) [
         | inl is ↦ (
             let same : j ≡ k = is ∙ ap (heard k) call in
             let has_it : HasRoot k m b = subst (λ i. HasRoot i m b) same has in
@@ -238,7 +233,7 @@ module _ (t : History) (whole : IsLawfulRun t) where
             let same_session : new.0 ≡ m = cc in
             let root : NewRoot p u.input k1 c = record { at = k1; from = Itself k1; session = new.0; statement = new.1; call = new.2; rows = new.3; new = new.4; is = refl } in
             let told = root_told c root m s call in
-            let there : (session_at (begun_by p k1 new.0 None).sessions new.0).root ≡ Some c = root_there k1.sessions new.0 c (heard_fits u.input).roots (range new.0 new.1 new.2) in
+            let there : (session_at (begun_by p k1 new.0 None).sessions new.0).root ≡ Some c = root_there k1.sessions new.0 c (heard_fits k fits u.input).roots (range new.0 new.1 new.2) in
             let has_it : (session_at (begun_by p k1 new.0 None).sessions new.0).root ≡ Some b = subst (λ i. HasRoot (begun_by p k1 new.0 None) i b) (sym same_session) (subst (λ i. HasRoot i m b) new.5 has) in
             let both : Some c ≡ Some b = sym there ∙ has_it in
             (root_seen c, told.1, (let it : c ≡ b = cc in it))

@@ -17,7 +17,8 @@ use Rattle.run_base_laws.specs.RunEvents.{with_event, wrote_event, events_after,
 use Rattle.run_rules.specs.Trail.{trail_after}
 use Rattle.run_base_laws.proofs.LaterLemmas.{exit_made, turn_added, stop_added}
 use Rattle.tree_laws.proofs.PrefixLemmas.{f_at, e_at, more_on}
-use Rattle.tree_laws.proofs.SealLemmas.{IsSealOf, wrote_seal, later_unsealed}
+use Rattle.run_branch_laws.proofs.KeptRowLemmas.{IsSealOf, wrote_seal}
+use Rattle.tree_laws.proofs.SealLemmas.{later_unsealed}
 use Rattle.book_laws.specs.LeaveLaws.{LeavesOn, LeavesDuly}
 use Rattle.book_laws.proofs.LeaveLemmas.{branches_leave_duly}
 use Rattle.tree_laws.proofs.TimeLemmas.{Part, may_of, fact_at, keep_on}

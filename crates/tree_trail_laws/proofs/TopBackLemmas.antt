@@ -7,7 +7,6 @@ use Rattle.tran_ids.proofs.ListedLemmas.{item_is}
 use Rattle.agreement.specs.Events.{Exit, Quiet, Dropped}
 use Rattle.session_tree.specs.Live.{is_branch, children_of}
 use Rattle.node_rules.specs.Data.{BranchId, Edge, Kind, Live, Msg, Vote, Input}
-use Rattle.node_rules.specs.Data.inputs
 use Rattle.node_rules.specs.Data.kinds
 use Rattle.node_rules.specs.Data.phases
 use Rattle.node_rules.specs.Data.votes
@@ -60,6 +59,7 @@ use Rattle.tree_trail_laws.proofs.TopNodeLemmas.{RootGoes}
 use Rattle.tree_laws.proofs.TopStepLemmas.{Finishes, At_once, On_answer, Why, By_record, By_quiet, By_finish, By_abort, By_rollback, By_parent, By_ask, By_call, By_give_up, why_on}
 use Rattle.tree_laws.proofs.AtTurn.{at_turn}
 use Rattle.tree_trail_laws.proofs.AtTrail.{at_trail}
+use Rattle.tree_trail_laws.proofs.HeardNodeLemmas.{heard_live, heard_fits}
 
 -- a branch is live at its node, or the node has just been cut off
 abbrev pub IsBack : Facts → BranchId → Type 0
@@ -128,18 +128,6 @@ module _ (t : History) (whole : IsLawfulRun t) (hs : List Happening) (u : Turn) 
   sent_is : u.cut ≡ false → u.sent ≡ map (stamped d.after.clock) d.says
   unfolding turn_of
   sent_is cut = (subst (λ c. IsOwed p k u.input u.wrote u.sent c) cut may.1.owed).1
-
-  heard_live : (input : Input) (b : BranchId) → live_at (heard k input) b ≡ live_at k b
-  heard_live (inputs.Message y) b = refl
-  heard_live (inputs.Call n o) b = refl
-  heard_live (inputs.GiveUp n) b = refl
-  heard_live inputs.Reco b = refl
-
-  heard_fits : (input : Input) → SessionsFit (heard k input)
-  heard_fits (inputs.Message y) = record { roots = fit.roots; above = fit.above }
-  heard_fits (inputs.Call n o) = fit
-  heard_fits (inputs.GiveUp n) = fit
-  heard_fits inputs.Reco = fit
 
   -- ---- a root that was live
 
@@ -271,7 +259,7 @@ module _ (t : History) (whole : IsLawfulRun t) (hs : List Happening) (u : Turn) 
     why gone =
         subst (λ ss. Why u.input s.me z ss d.wrote d.says) (sessions_heard k u.input)
         (why_on u.input s.me z p (λ from sb comment came. before.prepared from s.me sb comment came z found)
-        (λ top phase. (live_told s0 lawful0 u.node k may.1.up z z_live).root top (ap way_of phase)) (serves t.places f0 u k may.1).step (heard_fits u.input) (heard_live u.input s.me ∙ found) gone)
+        (λ top phase. (live_told s0 lawful0 u.node k may.1.up z z_live).root top (ap way_of phase)) (serves t.places f0 u k may.1).step (heard_fits k fit u.input) (heard_live k u.input s.me ∙ found) gone)
 
     pub stays_back : (turned t.places f0 tr0 u s).exit ≡ None → IsBack f1 s.me
     stays_back none = by (live_at d.after s.me) refl

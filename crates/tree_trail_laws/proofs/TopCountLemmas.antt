@@ -4,8 +4,7 @@ use Rattle.std.specs.List.{AllByRecursion}
 use Rattle.std.specs.Prelude.{IfSome}
 use Rattle.std.proofs.lemmas.Bool.{eq-eqb, ne_eqb, and_from, and_left, and_right, cases_eq}
 use Rattle.tran_ids.proofs.NumberedLemmas.{set_or_before}
-use Rattle.node_rules.specs.Data.{BranchId, Stmt, Input}
-use Rattle.node_rules.specs.Data.inputs
+use Rattle.node_rules.specs.Data.{BranchId, Stmt}
 use Rattle.node_rules.specs.Data.stmts
 use Rattle.node_rules.specs.declared.session.Session.{Session}
 use Rattle.node_rules.specs.Words.{same, set_numbered}
@@ -13,7 +12,7 @@ use Rattle.node_rules.specs.Inputs.{IsCall, IsSession}
 use Rattle.node_rules.specs.NodeState.{NodeState, TurnDraft}
 use Rattle.node_rules.specs.Sessions.{session_at}
 use Rattle.node_rules.specs.Client.{new_root}
-use Rattle.node_rules.specs.Turn.{turn_of, heard, draft_of}
+use Rattle.node_rules.specs.Turn.{turn_of, draft_of}
 use Rattle.node_rules.proofs.Steps.{IsOfRows}
 use Rattle.node_rules.proofs.SessionLemmas.{seqs, seq_at, session_seq}
 use Rattle.node_rules.proofs.HeardLemmas.{sessions_heard}
@@ -34,7 +33,6 @@ use Rattle.run_base_laws.proofs.IdLemmas.{seq_set}
 use Rattle.run_base_laws.proofs.LawfulLemmas.{of_wrote}
 use Rattle.run_rules.proofs.ListLemmas.{all_weaker}
 use Rattle.run_base_laws.proofs.OwnLemmas.{all_found}
-use Rattle.run_base_laws.proofs.RootLemmas.{SessionsFit}
 use Rattle.tree_laws.proofs.PrefixLemmas.{so_far, f_at}
 use Rattle.tree_trail_laws.specs.SeenLaws.{SeesRoots}
 use Rattle.tree_trail_laws.proofs.MomentLemmas.{tr_at}
@@ -46,6 +44,7 @@ use Rattle.tree_trail_laws.proofs.TopBirthLemmas as births
 use Rattle.tree_trail_laws.proofs.TopBirthLemmas.{IsBorn, Counts, Booted}
 use Rattle.tree_laws.proofs.AtTurn.{at_turn}
 use Rattle.tree_trail_laws.proofs.AtTrail.{at_trail}
+use Rattle.tree_trail_laws.proofs.HeardNodeLemmas.{heard_fits}
 
 pub rows_so : (s : Stmt) → IsOfRows s → is_of_rows s ≡ true
 rows_so (stmts.Insert table columns given) rows = refl
@@ -133,14 +132,8 @@ module _ (t : History) (whole : IsLawfulRun t) where
       seq_of : seqs d.after.sessions ≡ seqs k.sessions → (session_at d.after.sessions session).seq ≡ (session_at k.sessions session).seq
       seq_of same = session_seq d.after.sessions session ∙ (ap (λ ms. seq_at ms session) same ∙ sym (session_seq k.sessions session))
 
-      heard_fits : (input : Input) → SessionsFit (heard k input)
-      heard_fits (inputs.Message m) = record { roots = (births.fit t whole hs u rest is sees counts born).roots; above = (births.fit t whole hs u rest is sees counts born).above }
-      heard_fits (inputs.Call n s) = births.fit t whole hs u rest is sees counts born
-      heard_fits (inputs.GiveUp n) = births.fit t whole hs u rest is sees counts born
-      heard_fits inputs.Reco = births.fit t whole hs u rest is sees counts born
-
       quiet_seq : ((n : ℕ) (s : Stmt) → IsCall u.input n s → is_of_rows s ≡ true → (session_at k.sessions n).root ≡ None → ⊥) → (session_at d.after.sessions session).seq ≡ (session_at k.sessions session).seq
-      quiet_seq nobody = elim (seqs_on p u.input (births.serving t whole hs u rest is sees counts born).step (heard_fits u.input)) [
+      quiet_seq nobody = elim (seqs_on p u.input (births.serving t whole hs u rest is sees counts born).step (heard_fits k (births.fit t whole hs u rest is sees counts born) u.input)) [
         | inl same ↦ seq_of (same ∙ ap seqs (sessions_heard k u.input))
         | inr begins ↦ absurd (nobody begins.session begins.statement begins.call (rows_so begins.statement begins.rows) (subst (λ (ss : List Session). (session_at ss begins.session).root ≡ None) (sessions_heard k u.input) begins.none))
       ]

@@ -61,6 +61,7 @@ use Rattle.tree_trail_laws.proofs.TopWhoLemmas.{Who, Message_to, Rows_of, Commit
 use Rattle.tree_trail_laws.proofs.TopToldLemmas as turns
 use Rattle.tree_laws.proofs.AtTurn.{at_turn}
 use Rattle.tree_trail_laws.proofs.AtTrail.{at_trail}
+use Rattle.tree_trail_laws.proofs.HeardNodeLemmas.{heard_live, heard_fits}
 
 module _ (t : History) (whole : IsLawfulRun t) (hs : List Happening) (u : Turn) (rest : List Happening) (is : hs ++ happenings.Turn u ∷ rest ≡ t.trace)
     (tops : TracesTops (f_at t hs) (tr_at t hs)) (sees : SeesRoots (f_at t hs) (tr_at t hs)) (counts : Counts t whole (f_at t hs) (tr_at t hs)) (born : AllByRecursion (λ s. IsBorn t whole hs s.me) (tr_at t hs).seen)
@@ -197,25 +198,13 @@ module _ (t : History) (whole : IsLawfulRun t) (hs : List Happening) (u : Turn) 
       by_nobody not_to not_root =
           let stayed : live_at d.after z.me ≡ Some z
           = stays_on p u.input z.me (λ from kind came. (let no_match = not_to _ came.is in let here : same z.me l.me ≡ true = same_from_equal z.me l.me me_z in absurd (cc (no_match, here)))) z
-          (λ j fits_j at_j n its root. not_root n its (sym (fits_j.roots.each n z.me root) ∙ session)) (serves t.places f0 u k may.1).step (heard_fits u.input) (heard_live u.input z.me ∙ z_live) in
+          (λ j fits_j at_j n its root. not_root n its (sym (fits_j.roots.each n z.me root) ∙ session)) (serves t.places f0 u k may.1).step (heard_fits k fit u.input) (heard_live k u.input z.me ∙ z_live) in
           let both : Some z ≡ Some l = sym stayed ∙ subst (λ c. live_at d.after c ≡ Some l) (sym me_z) live in
           let same_one : l ≡ z = cc in
           turns.untouched t whole hs u rest is tops sees counts born plans u.node d.after up l live top s me at (subst (λ (y : Live). IsTracedLive y s) (sym same_one) was) (λ working. none (ap (λ (y : Live). y.phase) (sym same_one) ∙ working)) silent
           (λ y came. subst (λ b. same y.to b ≡ false) (sym me) (not_to y came))
           (λ n its. and_right (is_live_at u.node s) (is_none s.parent && (s.me.session == n)) (and_right (is_none s.parent) (s.me.session == n) (ne_eqb s.me.session n (λ same_session. not_root n its (sym same_session ∙ ap (λ (b : BranchId). b.session) me)))))
           (λ n given call here same_session. absurd (not_root n (Is_commit given call) (sym same_session)))
-        where
-          heard_live : (input : Input) (b : BranchId) → live_at (heard k input) b ≡ live_at k b
-          heard_live (inputs.Message y) b = refl
-          heard_live (inputs.Call n o) b = refl
-          heard_live (inputs.GiveUp n) b = refl
-          heard_live inputs.Reco b = refl
-
-          heard_fits : (input : Input) → SessionsFit (heard k input)
-          heard_fits (inputs.Message y) = record { roots = fit.roots; above = fit.above }
-          heard_fits (inputs.Call n o) = fit
-          heard_fits (inputs.GiveUp n) = fit
-          heard_fits inputs.Reco = fit
 
       by_message : (y : Msg) → u.input ≡ inputs.Message y → y.to ≡ l.me → Mine
       by_message y came to =

@@ -85,12 +85,10 @@ module _ (ss : List Session) (k : NodeState) (l : Live) (other : l.phase ≢ pha
   acts_goes q acts.Rest = put_goes ss k.lives now l k.sessions but (λ m root commits. other)
   acts_goes q acts.AskDown = put_goes ss k.lives now l k.sessions but (λ m root commits. other)
   acts_goes q acts.SayReady = put_goes ss k.lives now (ready l) k.sessions but (λ m root commits working. absurd cc)
-  acts_goes q acts.SayReadOnly = gone_goes ss k.lives now l.me k.sessions but held
-  acts_goes q acts.Seal = gone_goes ss k.lives now l.me k.sessions but held
-  acts_goes q (acts.SealAndPass i) = gone_goes ss k.lives now l.me k.sessions but held
   acts_goes q acts.Decide = decided_goes (is_alone l)
   acts_goes q acts.Finish = ended_goes
   acts_goes q acts.Abandon = abandoned_goes l.parent
+  acts_goes q _ = gone_goes ss k.lives now l.me k.sessions but held
 
 -- ---- a root's own call
 

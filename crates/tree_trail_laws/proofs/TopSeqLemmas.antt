@@ -90,19 +90,9 @@ module _ (p : Place) (input : Input) where
   seqs_on (steps.Acts {k = k} l q acts.Decide why) fit = inl (ended_if_seqs k.sessions (is_alone l) l.me)
   seqs_on (steps.Acts {k = k} l q acts.Finish why) fit = inl (ended_seqs k.sessions l.me)
   seqs_on (steps.Acts {k = k} l q acts.Abandon why) fit = inl (abandoned_seqs k.sessions l l.parent)
-  seqs_on (steps.Acts l q acts.Rest why) fit = inl refl
-  seqs_on (steps.Acts l q acts.AskDown why) fit = inl refl
-  seqs_on (steps.Acts l q acts.SayReady why) fit = inl refl
-  seqs_on (steps.Acts l q acts.SayReadOnly why) fit = inl refl
-  seqs_on (steps.Acts l q acts.Seal why) fit = inl refl
-  seqs_on (steps.Acts l q (acts.SealAndPass i) why) fit = inl refl
   seqs_on (steps.Does {k = k} s from (nexts.End d) kept why) fit = inl (decided_seqs k.sessions s.me d)
   seqs_on (steps.Does {k = k} s from (nexts.Meet d mixed) kept why) fit = inl (decided_seqs k.sessions s.me d)
   seqs_on (steps.Does {k = k} s from nexts.Forget kept why) fit = inl (ended_seqs k.sessions s.me)
-  seqs_on (steps.Does s from nexts.Rest kept why) fit = inl refl
-  seqs_on (steps.Does s from nexts.AckToward kept why) fit = inl refl
-  seqs_on (steps.Does s from nexts.SayForgotten kept why) fit = inl refl
-  seqs_on (steps.Does s from nexts.SayAck kept why) fit = inl refl
   seqs_on (steps.Forces_given {k = k} n id m b call named) fit = inl (ended_seqs k.sessions b)
   seqs_on (steps.Forces_commit {k = k} n id b call named) fit = inl (ended_seqs k.sessions b)
   seqs_on (steps.Forces_rollback {k = k} n id b call named) fit = inl (ended_seqs k.sessions b)

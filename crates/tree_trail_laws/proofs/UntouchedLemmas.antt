@@ -1,5 +1,5 @@
 -- A live branch to which nothing comes stays as it was.
-use Rattle.std.proofs.Common.{◌≡◌, ℕ, Bool, true, false, List, [], ◌∷◌, ◌++◌, Option, Some, None, refl, sym, subst, ◌∙◌}
+use Rattle.std.proofs.Common.{◌≡◌, ℕ, Bool, true, false, List, [], ◌∷◌, ◌++◌, Option, Some, refl, sym, subst, ◌∙◌}
 use Rattle.tran_ids.proofs.BranchLemmas.{equal_from_same}
 use Rattle.tran_ids.proofs.ListedLemmas.{item_is, put_leaves, drop_leaves}
 use Rattle.commit_forget.specs.declared.next.Next.TheVariants as nexts
@@ -81,12 +81,7 @@ module _ (p : Place) (input : Input) (b : BranchId) (not_to : (from : BranchId) 
     act_leaves l q acts.Rest other = put l other
     act_leaves l q acts.AskDown other = put l other
     act_leaves l q acts.SayReady other = put (ready l) other
-    act_leaves l q acts.SayReadOnly other = left l.me other
-    act_leaves l q acts.Seal other = left l.me other
-    act_leaves l q (acts.SealAndPass i) other = left l.me other
-    act_leaves l q acts.Decide other = left l.me other
-    act_leaves l q acts.Finish other = left l.me other
-    act_leaves l q acts.Abandon other = left l.me other
+    act_leaves l q _ other = left l.me other
 
   pub stays_on : {k : NodeState} {d : TurnDraft} → Step p input k d → SessionsFit k → live_at k b ≡ Some z → live_at d.after b ≡ Some z
   stays_on (steps.Begins {k = k} n s call rows range none step) ss live = stays_on step (begun_so k ss p n) (more k ss live (fresh_root p k (new_root p k n)))
@@ -106,14 +101,7 @@ module _ (p : Place) (input : Input) (b : BranchId) (not_to : (from : BranchId) 
   stays_on (steps.Drops_told {k = k} l found drops) ss live = left k ss live l.me (drops_not k ss live l drops)
   stays_on (steps.Drops_asked {k = k} l from found came parent) ss live = left k ss live l.me (λ me. came_not l.me me from kinds.Ask came)
   stays_on (steps.Does s from nexts.Rest kept why) ss live = live
-  stays_on (steps.Does s from nexts.AckToward kept why) ss live = live
-  stays_on (steps.Does s from nexts.SayForgotten kept why) ss live = live
-  stays_on (steps.Does s from nexts.SayAck kept why) ss live = live
-  stays_on (steps.Does s from (nexts.End d) kept why) ss live = live
-  stays_on (steps.Does s from (nexts.Meet d mixed) kept why) ss live = live
-  stays_on (steps.Does s from nexts.Forget kept why) ss live = live
   stays_on (steps.Rolls_back {k = k} n x call has found) ss live = left k ss live x.live.me (root_not k ss live n x.live.me (Is_rollback call) has)
   stays_on (steps.Gives_up {k = k} n x gives has calls found) ss live = put k ss live x.live (root_not k ss live n x.live.me (Gives_up gives) has)
   stays_on (steps.Gives_up_commit {k = k} n c (Some l) gives has calls found) ss live = left k ss live l.me (λ me. root_not k ss live n c (Gives_up gives) has (sym (item_is live_id k.lives c l found) ∙ me))
-  stays_on (steps.Gives_up_commit n c None gives has calls found) ss live = live
   stays_on _ ss live = live
