@@ -12,6 +12,7 @@ ghost use Rattle.commit_course_laws.specs.CompleteLaws.{LawfulCommitsAreComplete
 ghost use Rattle.commit_course_laws.specs.CommandCalls.{HoldIsKept, CommandsFindNoCall, CommandsFindNothingInFlight};
 ghost use Rattle.run_claims.specs.CommitCourse.{CommitsFlow, CommitsEnd, QuietCommitsAreComplete};
 ghost use Rattle.commit_course_laws.specs.TriedCourse.{TheTriedCourse};
+ghost use Rattle.commit_course_laws.specs.TriedQuiet.{TheTriedQuiet};
 
 /// An undisturbed COMMIT of a lawful run is complete when nothing is in flight any more: its call has one answer, Commit
 /// complete; each sealed branch of its transaction has ended with commit; and no node knows anything of its branches.
@@ -60,4 +61,9 @@ pub fn quiet_commits_are_complete()
 /// message of it is lost, its call is given up.
 pub fn the_tried_course()
     ensures { TheTriedCourse }
+{}
+
+/// A quiet COMMIT exists: the run of that script has one, and it is done.
+pub fn the_tried_quiet()
+    ensures { TheTriedQuiet }
 {}
