@@ -1,4 +1,4 @@
--- The COMMIT of the tried script is quiet. What is asked of it is tested, each test once and by computation; what a test tells
+-- The COMMITs of the tried scripts are quiet. What is asked of it is tested, each test once and by computation; what a test tells
 -- follows by lemmas.
 use Rattle.std.proofs.Common.{◌≡◌, ℕ, ◌==◌, ◌&&◌, not, Bool, true, false, List, [], ◌∷◌, ◌++◌, option_map, Option, Some, None, is_some, is_none, refl, sym, ap, subst, ◌∙◌, append-nil}
 use Rattle.std.specs.Prelude.{replicate}
@@ -7,7 +7,7 @@ use Rattle.std.specs.List.{AllByRecursion, list_all}
 use Rattle.std.proofs.lemmas.Bool.{and_parts, eqb-true}
 use Rattle.std.proofs.lemmas.List.{append_assoc}
 use Rattle.tran_ids.proofs.BranchLemmas.{equal_from_same}
-use Rattle.node_rules.specs.Data.{BranchId, Input, Live, Place}
+use Rattle.node_rules.specs.Data.{BranchId, Input, Live, Place, Stmt}
 use Rattle.node_rules.specs.Data.inputs
 use Rattle.node_rules.specs.Data.stmts
 use Rattle.node_rules.specs.NodeState.{NodeState, TurnOutput, live_at}
@@ -19,13 +19,14 @@ use Rattle.net_bag.specs.Net.{lost, first_flying}
 use Rattle.run_rules.specs.Births.{births_from}
 use Rattle.run_rules.specs.Branches.{is_among}
 use Rattle.run_rules.specs.Cuts.{Cut_by, By_nothing, By_strike, By_point, cut_by}
-use Rattle.run_rules.specs.Data.{Command, Happening, Packet, Took, Turn}
+use Rattle.run_rules.specs.Data.{Command, Happening, Packet, Turn}
 use Rattle.run_rules.specs.Data.commands
 use Rattle.run_rules.specs.Data.happenings
 use Rattle.run_rules.specs.Disks.{struck, after_append}
-use Rattle.run_rules.specs.Due.{Pends, due_of, turn_at, happens, comes_next, step_on, runs_on, happened, turn_by}
+use Rattle.run_rules.specs.Due.{Pends, Ends, due_of, turn_at, happens, comes_next, step_on, runs_on, happened, turn_by}
 use Rattle.run_rules.specs.Facts.{Facts, command_at, node_at, place_at}
-use Rattle.run_rules.specs.Lawful.{History}
+use Rattle.run_rules.specs.Commands.{commits_first}
+use Rattle.run_rules.specs.Lawful.{AreOfAScript, History}
 use Rattle.run_rules.specs.Past.{next, past}
 use Rattle.run_rules.specs.Reported.{IsBetweenCommands}
 use Rattle.run_rules.specs.RunReport.{Past, start}
@@ -33,15 +34,14 @@ use Rattle.run_rules.proofs.FactLemmas.{facts_are}
 use Rattle.run_branch_laws.specs.TriedRun as tried
 use Rattle.run_branch_laws.proofs.RunLemmas.{is_the_run, leaves_what_is_played}
 use Rattle.tree_laws.proofs.Trying.{trying}
-use Rattle.run_claims.specs.CommitCourse.{GoesWell, QuietCommit, Of_commit, QuietCommitsAreComplete}
+use Rattle.run_claims.specs.CommitCourse.{past_by, GoesWell, IsUnderWay, Of_commit, Of_create, QuietCommit}
 use Rattle.run_claims.specs.Undisturbed.{Commit, LostNone, HasNotStopped, NoneComesIn, is_lost, is_disturbed, facts_by, branches_by}
 use Rattle.commit_length_laws.proofs.FewLemmas.{deliveries_stay_below}
-use Rattle.commit_course_laws.specs.TriedCourse.{script, after, due_after}
-use Rattle.commit_course_laws.specs.TriedQuiet.{TheTriedQuiet}
+use Rattle.commit_course_laws.specs.TriedCourse.{script}
+use Rattle.commit_course_laws.specs.TriedQuiet.{made, creating, HasQuietCommit, TheTriedQuiet}
 use Rattle.commit_course_laws.proofs.CompleteLemmas.{every_undisturbed_commit_is_complete}
 use Rattle.commit_course_laws.proofs.QuietLemmas.{quiet_commits_follow}
-use Rattle.commit_course_laws.proofs.TriedCourseLemmas.{the_tried_course}
-use Rattle.commit_course_laws.proofs.TriedScriptLemmas.{may_be_asked}
+use Rattle.commit_course_laws.proofs.TriedScriptLemmas.{commit_is_asked, create_is_asked}
 
 -- ---- tests, and what they tell
 
@@ -147,9 +147,13 @@ calm_so bs (happenings.Lost k) is = tt
 calm_so bs (happenings.Stopped n) is = tt
 calm_so bs (happenings.Started n boot) is = tt
 
+-- whether no message of these branches was lost
+abbrev lost_none : List BranchId → Packet → Bool
+lost_none bs x = not (is_among x.msg.from bs && is_lost x.fate)
+
 -- whether nothing has disturbed these branches
 abbrev stays_calm : Facts → List Happening → List BranchId → Bool
-stays_calm f hs bs = list_all (λ (x : Packet). not (is_among x.msg.from bs && is_lost x.fate)) f.net.packets && (list_all (stays_up f) bs && list_all (none_comes bs) hs)
+stays_calm f hs bs = list_all (lost_none bs) f.net.packets && (list_all (stays_up f) bs && list_all (none_comes bs) hs)
 
 -- ---- the run up to a moment, and from there
 
@@ -161,55 +165,46 @@ module _ (places : List Place) (asked : List Command) where
       ap (λ hs. option_to_list (comes_next places asked p) ++ hs) (happened_join xs ys (step_on places asked p))
       ∙ sym (append_assoc (option_to_list (comes_next places asked p)) (happened places asked xs (step_on places asked p)) (happened places asked ys (runs_on places asked xs (step_on places asked p))))
 
--- the run of the script, and its part before the call of the COMMIT
-abbrev run_for : ℕ → List Happening
-run_for n = happened tried.places script (replicate n 0) (start tried.places)
-
--- what happens from the call on, after it
-abbrev during : List Happening
-during = happened tried.places script (replicate 5 0) (step_on tried.places script (after 15))
-
-past_for : (n : ℕ) → past tried.places script (start tried.places) (run_for n) ≡ after n
-past_for n = leaves_what_is_played tried.places script (replicate n 0) (start tried.places)
-
-facts_for : (n : ℕ) → facts_by tried.places script (run_for n) ≡ (after n).facts
-facts_for n = sym (facts_are tried.places script (start tried.places) (run_for n)) ∙ ap (λ (p : Past). p.facts) (past_for n)
-
--- ---- the tests
-
-call_is_due : due_after 15 ≡ Pends (record { command = 6; node = 1; session = 1; statement = Some (stmts.Commit None); follows = None })
-unfolding trying passes point_of lost struck after_append cut_by next due_of runs_on
-call_is_due = refl
-
-command_is : (after 15).facts.command ≡ 6
-unfolding trying passes point_of lost struck after_append cut_by next due_of runs_on
-command_is = refl
-
-call_is_whole : is_whole (comes_next tried.places script (after 15)) ≡ true
-unfolding trying passes point_of lost struck after_append cut_by next due_of runs_on
-call_is_whole = refl
-
-root_is_there : has_root tried.a (node_at (after 15).facts 1) ≡ true
-unfolding trying passes point_of lost struck after_append cut_by next due_of runs_on
-root_is_there = refl
-
-rest_goes_well : list_all goes_well during ≡ true
-unfolding trying passes point_of lost struck after_append cut_by next due_of runs_on happened
-rest_goes_well = refl
-
-nothing_disturbs : stays_calm (after 21).facts (run_for 21) (branches_by tried.places script (run_for 21) tried.a) ≡ true
-unfolding trying passes point_of lost struck after_append cut_by next due_of runs_on happened births_from
-nothing_disturbs = refl
-
--- ---- the COMMIT
+-- so many happenings are called for: those before the call of the COMMIT, the call, and those after it
+abbrev until : ℕ → List ℕ
+until n = replicate 15 0 ++ 0 ∷ replicate n 0
 
 -- its call
 abbrev its_call : Input
 its_call = inputs.Call 1 (Some (stmts.Commit None))
 
+-- The tests of a script whose sixth command commits the transaction, where another call may follow the COMMIT.
+module _ (asked : List Command) where
+  -- the run so far
+  abbrev run_for : List ℕ → List Happening
+  run_for xs = happened tried.places asked xs (start tried.places)
+
+  abbrev past_after : List ℕ → Past
+  past_after xs = runs_on tried.places asked xs (start tried.places)
+
+  -- before the call
+  abbrev before : Past
+  before = past_after (replicate 15 0)
+
+  -- what happens after the call
+  abbrev during : ℕ → List Happening
+  during n = happened tried.places asked (replicate n 0) (step_on tried.places asked before)
+
+  record Passes (follows : Option Stmt) (n : ℕ) : Type 0 where
+    due : due_of asked before ≡ Pends (record { command = 6; node = 1; session = 1; statement = Some (stmts.Commit None); follows = follows })
+    command : before.facts.command ≡ 6
+    off : before.run_report.hold ≡ false
+    still : first_flying before.facts.net ≡ None
+    root : has_root tried.a (node_at before.facts 1) ≡ true
+    whole : is_whole (comes_next tried.places asked before) ≡ true
+    well : list_all goes_well (during n) ≡ true
+    done : due_of asked (past_after (until n)) ≡ Ends
+    calm : stays_calm (past_after (until n)).facts (run_for (until n)) (branches_by tried.places asked (run_for (until n)) tried.a) ≡ true
+
+-- ---- what passes them has a quiet COMMIT
+
 -- the turn of a call that is due
-called_so : (p : Past) (o : Option NodeState) → is_whole (turn_at tried.places p.run_report 1 its_call None o) ≡ true
-    → IsCalled (turn_at tried.places p.run_report 1 its_call None o)
+called_so : (p : Past) (o : Option NodeState) → is_whole (turn_at tried.places p.run_report 1 its_call None o) ≡ true → IsCalled (turn_at tried.places p.run_report 1 its_call None o)
 called_so p None whole = absurd cc
 called_so p (Some k) whole = by (turn_of (place_at tried.places 1) k its_call) (cut_by p.run_report 1 k its_call (turn_of (place_at tried.places 1) k its_call)) whole
   where
@@ -218,65 +213,101 @@ called_so p (Some k) whole = by (turn_of (place_at tried.places 1) k its_call) (
     by o (By_strike stands) is = absurd cc
     by o (By_point root numbers stands) is = absurd cc
 
-call_comes : IsCalled (comes_next tried.places script (after 15))
-call_comes =
-    let is : comes_next tried.places script (after 15) ≡ turn_at tried.places (after 15).run_report 1 its_call None (node_at (after 15).facts 1) = ap (happens tried.places (after 15)) call_is_due in
-    subst IsCalled (sym is) (called_so (after 15) (node_at (after 15).facts 1) (ap is_whole (sym is) ∙ call_is_whole))
+module _ (asked : List Command) (of : AreOfAScript tried.places asked) (follows : Option Stmt) (n : ℕ) (passes_all : Passes asked follows n) where
+  open passes_all use {due, command, off, still, root, whole, well, done, calm as undisturbed}
 
-root_there : HasRoot tried.a (node_at (after 15).facts 1)
-root_there = root_so tried.a (node_at (after 15).facts 1) root_is_there
+  abbrev t : History
+  t = record { places = tried.places; commands = asked; of_a_script = of; trace = run_for asked (until n) }
 
-run_is : run_for 15 ++ happenings.Turn call_comes.turn ∷ during ≡ run_for 21
-unfolding happened
-run_is = sym (happened_join tried.places script (replicate 15 0) (0 ∷ replicate 5 0) (start tried.places) ∙ ap (λ o. run_for 15 ++ (option_to_list o ++ during)) call_comes.comes)
+  past_is : (xs : List ℕ) → past tried.places asked (start tried.places) (run_for asked xs) ≡ past_after asked xs
+  past_is xs = leaves_what_is_played tried.places asked xs (start tried.places)
 
-abbrev committing : History
-committing = record { places = tried.places; commands = script; of_a_script = may_be_asked; trace = run_for 21 }
+  facts_is : (xs : List ℕ) → facts_by tried.places asked (run_for asked xs) ≡ (past_after asked xs).facts
+  facts_is xs = sym (facts_are tried.places asked (start tried.places) (run_for asked xs)) ∙ ap (λ (p : Past). p.facts) (past_is xs)
 
-abbrev commit : Commit tried.places script (run_for 21)
-commit = record {
-  before = run_for 15;
-  call = call_comes.turn;
-  during = during;
-  is = run_is;
-  session = 1;
-  comment = None;
-  asks = call_comes.asks;
-  kept = root_there.kept;
-  up = ap (node_at (facts_by tried.places script (run_for 15))) call_comes.here ∙ (ap (λ (f : Facts). node_at f 1) (facts_for 15) ∙ root_there.up);
-  root = tried.a;
-  of = root_there.of;
-  live = root_there.live;
-  there = root_there.there;
-}
+  called : IsCalled (comes_next tried.places asked (before asked))
+  called =
+      let is : comes_next tried.places asked (before asked) ≡ turn_at tried.places (before asked).run_report 1 its_call None (node_at (before asked).facts 1) = ap (happens tried.places (before asked)) due in
+      subst IsCalled (sym is) (called_so (before asked) (node_at (before asked).facts 1) (ap is_whole (sym is) ∙ whole))
 
-abbrev branches : List BranchId
-branches = branches_by tried.places script (run_for 21) tried.a
+  rooted : HasRoot tried.a (node_at (before asked).facts 1)
+  rooted = root_so tried.a (node_at (before asked).facts 1) root
 
-quiet : QuietCommit committing (run_for 21) [] commit
-quiet =
-    let parts = and_parts (list_all (λ (x : Packet). not (is_among x.msg.from branches && is_lost x.fate)) (after 21).facts.net.packets) (list_all (stays_up (after 21).facts) branches && list_all (none_comes branches) (run_for 21)) nothing_disturbs in
-    let others = and_parts (list_all (stays_up (after 21).facts) branches) (list_all (none_comes branches) (run_for 21)) parts.1 in
-    record {
-      goes = Of_commit (record {
-        within = append-nil (run_for 21);
-        own = ap (λ (f : Facts). command_at script f.command) (facts_for 15) ∙ (ap (command_at script) command_is ∙ ap (λ n. commands.At n 1 (Some (stmts.Commit None))) (sym call_comes.here));
-        off = ap (λ (p : Past). p.run_report.hold) (past_for 15) ∙ the_tried_course.off;
-        whole = call_comes.whole;
-        well = all_so goes_well GoesWell well_so during rest_goes_well;
-      });
-      done = subst (λ p. IsBetweenCommands (due_of script p)) (sym (past_for 21)) (subst IsBetweenCommands (sym the_tried_course.done) tt);
-      goes_on = root_there.goes_on;
-      still = ap (λ (f : Facts). first_flying f.net) (facts_for 15) ∙ the_tried_course.still;
-      lost = subst (λ (f : Facts). LostNone branches f.net.packets) (sym (facts_for 21)) (all_so (λ (x : Packet). not (is_among x.msg.from branches && is_lost x.fate)) (λ (x : Packet). (is_among x.msg.from branches && is_lost x.fate) ≡ false) (λ x is. not_true (is_among x.msg.from branches && is_lost x.fate) is) (after 21).facts.net.packets parts.0);
-      stopped = subst (λ (f : Facts). AllByRecursion (HasNotStopped f) branches) (sym (facts_for 21)) (all_so (stays_up (after 21).facts) (HasNotStopped (after 21).facts) (λ b is. boot_so _ b.boot is) branches others.0);
-      calm = all_so (none_comes branches) (NoneComesIn branches) (calm_so branches) (run_for 21) others.1;
-    }
+  run_is : run_for asked (replicate 15 0) ++ happenings.Turn called.turn ∷ during asked n ≡ t.trace
+  unfolding happened
+  run_is = sym (happened_join tried.places asked (replicate 15 0) (0 ∷ replicate n 0) (start tried.places) ∙ ap (λ o. run_for asked (replicate 15 0) ++ (option_to_list o ++ during asked n)) called.comes)
 
-done_by_law : QuietCommitsAreComplete
-done_by_law = quiet_commits_follow every_undisturbed_commit_is_complete deliveries_stay_below
+  abbrev commit : Commit tried.places asked t.trace
+  commit = record {
+    before = run_for asked (replicate 15 0);
+    call = called.turn;
+    during = during asked n;
+    is = run_is;
+    session = 1;
+    comment = None;
+    asks = called.asks;
+    kept = rooted.kept;
+    up = ap (node_at (facts_by tried.places asked (run_for asked (replicate 15 0)))) called.here ∙ (ap (λ (f : Facts). node_at f 1) (facts_is (replicate 15 0)) ∙ rooted.up);
+    root = tried.a;
+    of = rooted.of;
+    live = rooted.live;
+    there = rooted.there;
+  }
+
+  own : (s : Stmt) → command_at asked 6 ≡ commands.At 1 1 (Some s) → command_at asked (facts_by tried.places asked commit.before).command ≡ commands.At commit.call.node 1 (Some s)
+  own s is = ap (λ (f : Facts). command_at asked f.command) (facts_is (replicate 15 0)) ∙ (ap (command_at asked) command ∙ (is ∙ ap (λ m. commands.At m 1 (Some s)) (sym called.here)))
+
+  hold_is : (past_by tried.places asked commit.before).run_report.hold ≡ false
+  hold_is = ap (λ (p : Past). p.run_report.hold) (past_is (replicate 15 0)) ∙ off
+
+  goes_so : AllByRecursion GoesWell commit.during
+  goes_so = all_so goes_well GoesWell well_so commit.during well
+
+  commit_goes : command_at asked 6 ≡ commands.At 1 1 (Some (stmts.Commit None)) → IsUnderWay t t.trace [] commit
+  commit_goes is = Of_commit (record { within = append-nil t.trace; own = own (stmts.Commit None) is; off = hold_is; whole = called.whole; well = goes_so })
+
+  create_goes : (s : Stmt) → commits_first s ≡ true → command_at asked 6 ≡ commands.At 1 1 (Some s) → IsUnderWay t t.trace [] commit
+  create_goes s creates is = Of_create s (record { within = append-nil t.trace; creates = creates; own = own s is; off = hold_is; whole = called.whole; well = goes_so })
+
+  abbrev branches : List BranchId
+  branches = branches_by tried.places asked t.trace tried.a
+
+  abbrev end : Facts
+  end = (past_after asked (until n)).facts
+
+  quiet_so : IsUnderWay t t.trace [] commit → QuietCommit t t.trace [] commit
+  quiet_so goes =
+      let parts = and_parts (list_all (lost_none branches) end.net.packets) (list_all (stays_up end) branches && list_all (none_comes branches) t.trace) undisturbed in
+      let others = and_parts (list_all (stays_up end) branches) (list_all (none_comes branches) t.trace) parts.1 in
+      record {
+        goes = goes;
+        done = subst (λ p. IsBetweenCommands (due_of asked p)) (sym (past_is (until n))) (subst IsBetweenCommands (sym done) tt);
+        goes_on = rooted.goes_on;
+        still = ap (λ (f : Facts). first_flying f.net) (facts_is (replicate 15 0)) ∙ still;
+        lost = subst (λ (f : Facts). LostNone branches f.net.packets) (sym (facts_is (until n)))
+            (all_so (lost_none branches) (λ (x : Packet). (is_among x.msg.from branches && is_lost x.fate) ≡ false) (λ x is. not_true (is_among x.msg.from branches && is_lost x.fate) is) end.net.packets parts.0);
+        stopped = subst (λ (f : Facts). AllByRecursion (HasNotStopped f) branches) (sym (facts_is (until n))) (all_so (stays_up end) (HasNotStopped end) (λ b is. boot_so _ b.boot is) branches others.0);
+        calm = all_so (none_comes branches) (NoneComesIn branches) (calm_so branches) t.trace others.1;
+      }
+
+  has_quiet : IsUnderWay t t.trace [] commit → HasQuietCommit asked
+  has_quiet goes =
+      let run = is_the_run tried.places asked (until n) (start tried.places) in
+      let quiet = quiet_so goes in
+      record { history = t; asks = refl; run = run; commit = commit; root = refl; quiet = quiet; done = quiet_commits_follow every_undisturbed_commit_is_complete deliveries_stay_below t run t.trace [] commit quiet }
+
+-- ---- the tried scripts
+
+commit_passes : Passes script None 5
+unfolding trying passes point_of lost struck after_append cut_by next due_of runs_on happened births_from
+commit_passes = record { due = refl; command = refl; off = refl; still = refl; root = refl; whole = refl; well = refl; done = refl; calm = refl }
+
+create_passes : Passes creating (Some made) 6
+unfolding trying passes point_of lost struck after_append cut_by next due_of runs_on happened births_from
+create_passes = record { due = refl; command = refl; off = refl; still = refl; root = refl; whole = refl; well = refl; done = refl; calm = refl }
 
 pub the_tried_quiet : TheTriedQuiet
-the_tried_quiet =
-    let run = is_the_run tried.places script (replicate 21 0) (start tried.places) in
-    record { history = committing; asked = refl; run = run; commit = commit; root = refl; quiet = quiet; done = done_by_law committing run (run_for 21) [] commit quiet }
+the_tried_quiet = record {
+  commits = has_quiet script commit_is_asked None 5 commit_passes (commit_goes script commit_is_asked None 5 commit_passes refl);
+  creates = has_quiet creating create_is_asked (Some made) 6 create_passes (create_goes creating create_is_asked (Some made) 6 create_passes made refl refl);
+}

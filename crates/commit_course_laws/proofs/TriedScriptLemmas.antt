@@ -1,11 +1,12 @@
--- The tried script is one that a reader of scripts gives: two nodes in their places, and commands over them.
-use Rattle.std.proofs.Common.{◌≡◌, ℕ, zero, suc, ◌<◌, ◌≤◌, ◌^◌, List, [], ◌∷◌, Option, Some, None, codes, refl, subst, arith}
-use Rattle.node_rules.specs.Data.{Column, Place, Stmt}
+-- The tried scripts are such as a reader of scripts gives: two nodes in their places, and commands over them.
+use Rattle.std.proofs.Common.{◌≡◌, ℕ, zero, suc, ◌<◌, ◌≤◌, ◌^◌, List, [], ◌∷◌, ◌++◌, Option, Some, None, codes, refl, subst, arith}
+use Rattle.node_rules.specs.Data.{Place, Stmt}
 use Rattle.node_rules.specs.Data.stmts
 use Rattle.node_rules.specs.Words.{numbered}
 use Rattle.run_rules.specs.Lawful.{AreOfAScript, IsCommandOver, IsNode, IsPlace}
 use Rattle.run_branch_laws.specs.TriedRun as tried
-use Rattle.commit_course_laws.specs.TriedCourse.{asks, script}
+use Rattle.commit_course_laws.specs.TriedCourse.{asks, changes, script}
+use Rattle.commit_course_laws.specs.TriedQuiet.{made, creating}
 
 place_is : (n : ℕ) → IsPlace tried.places n (tried.place_of n)
 place_is n = record {
@@ -51,10 +52,17 @@ module _ (n : ℕ) (node : IsNode 2 n) where
   row_made : (link : Option (List ℕ)) → IsCommandOver 2 (asks n (tried.insert (record { name = codes "T"; link = link })))
   row_made link = (node, session_1, elim [ zero ↦ λ d low. ((let fits : 1 < 2 ^ 63 = omega arith in record { sfits = fits }), λ k e none. absurd (omega (arith, none))) | suc k ↦ λ d low. absurd (omega (arith, low)) ])
 
-pub may_be_asked : AreOfAScript tried.places script
-may_be_asked = record {
+-- the changes, and a last command
+asked_with : (s : Stmt) → IsCommandOver 2 (asks 1 s) → AreOfAScript tried.places (changes ++ asks 1 s ∷ [])
+asked_with s last = record {
   few = (let low : 2 ≤ 16 = omega arith in low);
   named = refl;
   each = places_are;
-  proper = (table_made 1 node_a, (table_made 2 node_b, ((node_a, session_1 1 node_a, (refl, refl)), (row_made 1 node_a (Some (codes "B")), (row_made 1 node_a None, ((node_a, session_1 1 node_a, tt), tt))))));
+  proper = (table_made 1 node_a, (table_made 2 node_b, ((node_a, session_1 1 node_a, (refl, refl)), (row_made 1 node_a (Some (codes "B")), (row_made 1 node_a None, (last, tt))))));
 }
+
+pub commit_is_asked : AreOfAScript tried.places script
+commit_is_asked = asked_with (stmts.Commit None) (node_a, session_1 1 node_a, tt)
+
+pub create_is_asked : AreOfAScript tried.places creating
+create_is_asked = asked_with made (node_a, session_1 1 node_a, (refl, refl))

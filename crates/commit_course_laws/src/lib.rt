@@ -63,7 +63,7 @@ pub fn the_tried_course()
     ensures { TheTriedCourse }
 {}
 
-/// A quiet COMMIT exists: the run of that script has one, and it is done.
+/// Quiet COMMITs exist: that script's COMMIT is one, and so is the COMMIT of a CREATE in its place. Both are done.
 pub fn the_tried_quiet()
     ensures { TheTriedQuiet }
 {}
