@@ -1,5 +1,5 @@
--- The COMMITs of the tried scripts are quiet. What is asked of it is tested, each test once and by computation; what a test tells
--- follows by lemmas.
+-- The COMMITs of the tried scripts are quiet. What is asked of one is tested, each test once and by computation, and lemmas say
+-- what the tests tell.
 use Rattle.std.proofs.Common.{◌≡◌, ℕ, ◌==◌, ◌&&◌, not, Bool, true, false, List, [], ◌∷◌, ◌++◌, option_map, Option, Some, None, is_some, is_none, refl, sym, ap, subst, ◌∙◌, append-nil}
 use Rattle.std.specs.Prelude.{replicate}
 use Rattle.std.specs.Option.{option_to_list}
