@@ -38,7 +38,7 @@ use Rattle.run_claims.specs.CommitCourse.{past_by, GoesWell, IsUnderWay, Of_comm
 use Rattle.run_claims.specs.Undisturbed.{Commit, LostNone, HasNotStopped, NoneComesIn, is_lost, is_disturbed, facts_by, branches_by}
 use Rattle.commit_length_laws.proofs.FewLemmas.{deliveries_stay_below}
 use Rattle.commit_course_laws.specs.TriedCourse.{script}
-use Rattle.commit_course_laws.specs.TriedQuiet.{made, creating, HasQuietCommit, TheTriedQuiet}
+use Rattle.commit_course_laws.specs.TriedQuiet.{made, creating, HasQuietCommit, QuietCommitsExist}
 use Rattle.commit_course_laws.proofs.CompleteLemmas.{every_undisturbed_commit_is_complete}
 use Rattle.commit_course_laws.proofs.QuietLemmas.{quiet_commits_follow}
 use Rattle.commit_course_laws.proofs.TriedScriptLemmas.{commit_is_asked, create_is_asked}
@@ -306,8 +306,8 @@ create_passes : Passes creating (Some made) 6
 unfolding trying passes point_of lost struck after_append cut_by next due_of runs_on happened births_from
 create_passes = record { due = refl; command = refl; off = refl; still = refl; root = refl; whole = refl; well = refl; done = refl; calm = refl }
 
-pub the_tried_quiet : TheTriedQuiet
-the_tried_quiet = record {
+pub quiet_commits_exist : QuietCommitsExist
+quiet_commits_exist = record {
   commits = has_quiet script commit_is_asked None 5 commit_passes (commit_goes script commit_is_asked None 5 commit_passes refl);
   creates = has_quiet creating create_is_asked (Some made) 6 create_passes (create_goes creating create_is_asked (Some made) 6 create_passes made refl refl);
 }

@@ -31,6 +31,6 @@ pub record HasQuietCommit (asked : List Command) : Type 0 where
   pub done : IsDone history history.trace commit
 
 -- Both scripts have one.
-pub record TheTriedQuiet : Type 0 where
+pub record QuietCommitsExist : Type 0 where
   pub commits : HasQuietCommit script
   pub creates : HasQuietCommit creating
