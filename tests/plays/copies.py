@@ -22,8 +22,7 @@ PARTS = ("session_tree", "link_session", "prepare_phase", "commit_forget", "cras
 # what stands in a lib.rt beside laws begins so
 DECLARATIONS = ("//!", "#![", "mod ", "pub mod ", "pub use ")
 
-# a type that a file declares, and what it does
-TYPE = re.compile(r"^pub (?:struct|enum) ", re.MULTILINE)
+# what a file that declares a type has beside it
 IMPL = re.compile(r"^ghost use .*?;\n|^impl .*?^}\n", re.MULTILINE | re.DOTALL)
 
 CRATE = re.compile(r"^rt: chose --jobs \d+ for (\w+)$", re.MULTILINE)
@@ -93,15 +92,16 @@ def drop_laws(top):
 
 def drop_code(top, lemmas=False):
     """Leaves the types and definitions of the parts, their lemmas too if they are wanted, and no code: no module that cites
-    definitions of its crate, but for the types that it declares."""
+    definitions of its crate, but for a type that they name."""
     for crate in (top / "crates" / name for name in PARTS):
         lib = crate / "src" / "lib.rt"
         lines = [line for line in lib.read_text().splitlines() if line.startswith(DECLARATIONS)]
+        definitions = "".join(file.read_text() for file in crate.glob("specs/*.antt"))
         for file in crate.glob("src/*.rt"):
             text = file.read_text()
             if file == lib or f"ghost use Rattle.{crate.name}.specs." not in text:
                 continue
-            if TYPE.search(text):
+            if f"specs.declared.{file.stem}." in definitions:
                 file.write_text(IMPL.sub("", text))
                 continue
             declared = re.compile(rf"mod {file.stem};|pub use {file.stem}::")
