@@ -22,6 +22,9 @@ PARTS = ("session_tree", "link_session", "prepare_phase", "commit_forget", "cras
 # what stands in a lib.rt beside laws begins so
 DECLARATIONS = ("//!", "#![", "mod ", "pub mod ", "pub use ")
 
+# what a file that declares a type has beside it
+IMPL = re.compile(r"^ghost use .*?;\n|^impl .*?^}\n", re.MULTILINE | re.DOTALL)
+
 CRATE = re.compile(r"^rt: chose --jobs \d+ for (\w+)$", re.MULTILINE)
 # an error begins a line, and the lines below it that begin with blanks belong to it
 ERROR = re.compile(r"^\./(\w+)/(\S+?):(\d+):\d+: error: (.*(?:\n  .*)*)", re.MULTILINE)
@@ -89,15 +92,21 @@ def drop_laws(top):
 
 def drop_code(top, lemmas=False):
     """Leaves the types and definitions of the parts, their lemmas too if they are wanted, and no code: no module that cites
-    definitions of its crate."""
+    definitions of its crate, but for a type that they name."""
     for crate in (top / "crates" / name for name in PARTS):
         lib = crate / "src" / "lib.rt"
         lines = [line for line in lib.read_text().splitlines() if line.startswith(DECLARATIONS)]
+        definitions = "".join(file.read_text() for file in crate.glob("specs/*.antt"))
         for file in crate.glob("src/*.rt"):
-            if f"ghost use Rattle.{crate.name}.specs." in file.read_text() and file != lib:
-                declared = re.compile(rf"mod {file.stem};|pub use {file.stem}::")
-                lines = [line for line in lines if not declared.match(line)]
-                file.unlink()
+            text = file.read_text()
+            if file == lib or f"ghost use Rattle.{crate.name}.specs." not in text:
+                continue
+            if f"specs.declared.{file.stem}." in definitions:
+                file.write_text(IMPL.sub("", text))
+                continue
+            declared = re.compile(rf"mod {file.stem};|pub use {file.stem}::")
+            lines = [line for line in lines if not declared.match(line)]
+            file.unlink()
         lib.write_text("\n".join(lines) + "\n")
         proofs = crate / "proofs"
         for path in [path for path in proofs.glob("*") if path.is_dir()] if lemmas else [proofs]:

@@ -6,7 +6,17 @@ from typing import NamedTuple
 from copies import check_crate
 
 # no crate of laws over the definitions of a run stands beside these and those below them
-HIGHEST = ("tree_cover_laws", "run_cause_laws", "commit_course_laws", "commit_obey_laws", "commit_answer_laws")
+HIGHEST = (
+    "node_purge_laws",
+    "start_laws",
+    "view_laws",
+    "tree_cover_laws",
+    "answer_laws",
+    "answer_once_laws",
+    "commit_answer_laws",
+    "commit_course_laws",
+    "settle_laws",
+)
 # the line that names a lemma or a local part of one, with its statement
 NAME = re.compile(r"^( *)(?:pub |abbrev |unfoldable )*(\w+) : ")
 

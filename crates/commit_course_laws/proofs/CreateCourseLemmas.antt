@@ -18,7 +18,7 @@ use Rattle.run_rules.specs.Data.{Happening, Turn}
 use Rattle.run_rules.specs.Data.commands
 use Rattle.run_rules.specs.Data.happenings
 use Rattle.run_rules.specs.Due.{due_of, IsTheRun}
-use Rattle.run_rules.specs.Facts.{Facts, command_at, node_at, outcome_at, place_at, served}
+use Rattle.run_rules.specs.Facts.{Facts, command_at, node_at, outcome_at, place_at, served, facts_of}
 use Rattle.run_rules.specs.Lawful.{History, IsLawfulRun}
 use Rattle.run_rules.specs.Lines.{spent}
 use Rattle.run_rules.specs.Past.{is_call, next, past}
@@ -43,16 +43,22 @@ use Rattle.commit_course_laws.proofs.FlowLemmas.{IsWholeTurn, IsItsCall, Comes, 
 use Rattle.commit_course_laws.proofs.CourseLemmas.{CommandGoes, p, there, upto, due, facts_before, its, shapes, settled, stands, alone, first, first_none, first_run, past_is, end_is, facts_end}
 use Rattle.commit_course_laws.proofs.AnsweredLemmas.{IsNoCall}
 use Rattle.commit_course_laws.proofs.EarlierLemmas.{all_front}
-use Rattle.commit_course_laws.proofs.SoonerLemmas.{StaysCalm, complete_sooner, few_sooner, counted, not_spent}
+use Rattle.commit_course_laws.proofs.SoonerLemmas.{StaysCalm, complete_sooner, few_sooner, counted, not_spent, answers_join}
 use Rattle.commit_course_laws.proofs.CreateFlowLemmas.{IsOf, IsCreateCall, Stage, Commits, Follows, Created, Refused, said}
 use Rattle.commit_course_laws.proofs.CreateStepLemmas.{turn_stage, create_stage, Runs, runs_turn, ComesNext, Goes_on, Second, what_comes, what_is_over}
 
 -- a stage tells of the CREATE what follows from it
 more_stage : (node session : ℕ) (s : Stmt) (A B : Type 0) → (A → B) → (told : List Answer) (t : RunReport) → Stage node session s A told t → Stage node session s B told t
 more_stage node session s A B f told t (Commits c at follows all none unsaid) = Commits c at follows all none unsaid
-more_stage node session s A B f told t (Follows c is create all) = Follows c is create all
+more_stage node session s A B f told t (Follows c is create all answered) = Follows c is create all answered
 more_stage node session s A B f told t (Created it none alone) = Created (f it) none alone
 more_stage node session s A B f told t (Refused a others is incomplete none alone) = Refused a others is incomplete none alone
+
+-- some answers, and no other than one, are that one
+one_alone : (xs ys : List Answer) (x : Answer) → xs ++ ys ≡ x ∷ [] → (xs ≡ [] → ⊥) → xs ≡ x ∷ []
+one_alone [] ys x is some = absurd (some refl)
+one_alone (y ∷ []) ys x is some = (let both : y ∷ ys ≡ x ∷ [] = is in let same : y ≡ x = cc in ap (λ z. z ∷ []) same)
+one_alone (y ∷ z ∷ zs) ys x is some = absurd cc
 
 -- a turn that comes is whole
 whole_next : (node session : ℕ) (q : Past) (h : Happening) → ComesNext node session q h → IsWholeTurn h
@@ -159,7 +165,7 @@ module _ (complete : UndisturbedCommitsAreComplete) (law : DeliveriesStayBelow) 
   answers_said f u uncut other =
       ap (λ q. if q then [] else answers_in t.places f n m (happenings.Turn u)) other ∙ ap (λ q. if q then [] else said n m s f.command u (outcome_at t.places f u)) uncut
 
-  -- The CREATE has come in these.
+  -- The CREATE has come in these, after its COMMIT was answered.
   record Came (hs : List Happening) : Type 0 where
     before : List Happening
     turn : Turn
@@ -168,9 +174,10 @@ module _ (complete : UndisturbedCommitsAreComplete) (law : DeliveriesStayBelow) 
     here : turn.node ≡ n
     asks : IsCall turn.input m s
     whole : turn.cut ≡ false
+    answered : told before ≡ [] → ⊥
 
   came_on : (hs : List Happening) (h : Happening) → Came hs → Came (hs ++ h ∷ [])
-  came_on hs h it = record { before = it.before; turn = it.turn; rest = it.rest ++ h ∷ []; is = sym (append_assoc it.before (happenings.Turn it.turn ∷ it.rest) (h ∷ [])) ∙ ap (λ xs. xs ++ h ∷ []) it.is; here = it.here; asks = it.asks; whole = it.whole }
+  came_on hs h it = record { before = it.before; turn = it.turn; rest = it.rest ++ h ∷ []; is = sym (append_assoc it.before (happenings.Turn it.turn ∷ it.rest) (h ∷ [])) ∙ ap (λ xs. xs ++ h ∷ []) it.is; here = it.here; asks = it.asks; whole = it.whole; answered = it.answered }
 
   -- ---- its command, so far
 
@@ -243,7 +250,7 @@ module _ (complete : UndisturbedCommitsAreComplete) (law : DeliveriesStayBelow) 
       where
         by : Stage n m s (Came mid) (told mid) (at_past mid).run_report → told mid ≡ commit_complete ∷ [] → ⊥
         by (Commits y at second all alone unsaid) is_said = (let both : [] ≡ commit_complete ∷ [] = sym unsaid ∙ is_said in cc)
-        by (Follows y at create all) is_said = cc (at, none)
+        by (Follows y at create all some) is_said = cc (at, none)
         by (Created it gone alone) is_said = (subst (AllByRecursion IsNoCall) calls gone).0
         by (Refused a others at incomplete gone alone) is_said = (subst (AllByRecursion IsNoCall) calls gone).0
 
@@ -264,9 +271,9 @@ module _ (complete : UndisturbedCommitsAreComplete) (law : DeliveriesStayBelow) 
 
     -- the CREATE's
     create_turn : (u : Turn) (x : Call) → (at_past mid).run_report.next_call ≡ Some x → u.node ≡ x.node → u.input ≡ inputs.Call x.session x.statement → (k : NodeState) → node_at (at_past mid).facts x.node ≡ Some k → u.cut ≡ false
-        → IsCreateCall n m s x → AllByRecursion (IsItsCall n m) (at_past mid).run_report.calls → Status (mid ++ happenings.Turn u ∷ [])
+        → IsCreateCall n m s x → AllByRecursion (IsItsCall n m) (at_past mid).run_report.calls → (told mid ≡ [] → ⊥) → Status (mid ++ happenings.Turn u ∷ [])
     unfolding next turn_of
-    create_turn u x at u_node u_input k up whole create all =
+    create_turn u x at u_node u_input k up whole create all some =
         let q : Past = at_past mid in
         let h : Happening = happenings.Turn u in
         let here : u.node ≡ n = u_node ∙ create.here in
@@ -279,7 +286,7 @@ module _ (complete : UndisturbedCommitsAreComplete) (law : DeliveriesStayBelow) 
         = ap (filter (λ (y : Finished). y.session == m)) answer.1 ∙ ap (λ b. if b then (record { session = m; answer = answer.0 }) ∷ [] else []) (eq-eqb m m refl) in
         let stage : Stage n m s (Came (mid ++ h ∷ [])) (told (mid ++ h ∷ [])) (next t.places t.commands q h).run_report
         = create_stage n m s q.facts.command (node_at q.facts u.node) q.run_report u (outcome_at t.places q.facts u) (Came (mid ++ h ∷ [])) (told (mid ++ h ∷ []))
-        (record { before = mid; turn = u; rest = []; is = refl; here = here; asks = input; whole = whole }) whole here (ap is_call input) all o outcome (λ none. (let both : [] ≡ (record { session = m; answer = answer.0 }) ∷ [] = sym none ∙ ended in cc)) in
+        (record { before = mid; turn = u; rest = []; is = refl; here = here; asks = input; whole = whole; answered = some }) whole here (ap is_call input) all o outcome (λ none. (let both : [] ≡ (record { session = m; answer = answer.0 }) ∷ [] = sym none ∙ ended in cc)) in
         record {
           runs = subst Runs (sym (past_more mid h)) (runs_turn n m t.places t.commands q u now.runs.off now.runs.stands whole);
           stage = subst (λ (z : Past). Stage n m s (Came (mid ++ h ∷ [])) (told (mid ++ h ∷ [])) z.run_report) (sym (past_more mid h)) stage;
@@ -296,10 +303,10 @@ module _ (complete : UndisturbedCommitsAreComplete) (law : DeliveriesStayBelow) 
       where
         by : Stage n m s (Came mid) (told mid) (at_past mid).run_report → Status (mid ++ happenings.Turn u ∷ [])
         by (Commits y found second all none unsaid) = absurd (cc (at, none))
-        by (Follows y is_next create all) =
+        by (Follows y is_next create all some) =
             let both : Some y ≡ Some x = sym is_next ∙ at in
             let same : y ≡ x = cc in
-            create_turn u x at here input k up whole (subst (IsCreateCall n m s) same create) all
+            create_turn u x at here input k up whole (subst (IsCreateCall n m s) same create) all some
         by (Created it gone none) = absurd (cc (at, none))
         by (Refused a others first_is incomplete gone none) = absurd (cc (at, none))
 
@@ -339,8 +346,21 @@ module _ (complete : UndisturbedCommitsAreComplete) (law : DeliveriesStayBelow) 
     where
       by : Stage n m s (Came c.during) (told c.during) (at_past c.during).run_report → told c.during ≡ commit_complete ∷ [] → CreateHasCome t front c s
       by (Commits y found second all none unsaid) is_said = (let both : [] ≡ commit_complete ∷ [] = sym unsaid ∙ is_said in absurd cc)
-      by (Follows y is_next create all) is_said = (let none = over.1 in absurd (cc (is_next, none)))
-      by (Created it gone none) is_said = record { before = it.before; turn = it.turn; later = it.rest; is = it.is; here = it.here; asks = it.asks; whole = it.whole }
+      by (Follows y is_next create all some) is_said = (let none = over.1 in absurd (cc (is_next, none)))
+      by (Created it gone none) is_said =
+          let more : List Answer = commit_answers_from t.places t.commands (facts_of t.places t.commands q0.facts (happenings.Turn c.call ∷ it.before)) n m (happenings.Turn it.turn ∷ it.rest) in
+          let parts : told it.before ++ more ≡ commit_complete ∷ []
+          = sym (answers_join t.places t.commands q0.facts n m (happenings.Turn c.call ∷ it.before) (happenings.Turn it.turn ∷ it.rest)) ∙ (ap told it.is ∙ is_said) in
+          record {
+            before = it.before;
+            turn = it.turn;
+            later = it.rest;
+            is = it.is;
+            here = it.here;
+            asks = it.asks;
+            whole = it.whole;
+            answered = ap (λ f. commit_answers_from t.places t.commands f n m (happenings.Turn c.call ∷ it.before)) (sym (facts_before t run front later c g)) ∙ one_alone (told it.before) more commit_complete parts it.answered;
+          }
       by (Refused a others first_is incomplete gone none) is_said =
           let both : a ∷ others ≡ commit_complete ∷ [] = sym first_is ∙ is_said in
           let same : a ≡ commit_complete = cc in

@@ -66,13 +66,13 @@ module _ (node session : ℕ) where
     -- The COMMIT is pending; it is complete, and the CREATE comes next; the CREATE has come; or the COMMIT was refused.
     pub data Stage (came : Type 0) (told : List Answer) (t : RunReport) : Type 0 where
       Commits : (c : Call) → call_at t node session ≡ Some c → c.follows ≡ Some s → AllByRecursion (IsOf c.command) t.calls → t.next_call ≡ None → told ≡ [] → Stage came told t
-      Follows : (c : Call) → t.next_call ≡ Some c → IsCreateCall c → AllByRecursion (IsItsCall node session) t.calls → Stage came told t
+      Follows : (c : Call) → t.next_call ≡ Some c → IsCreateCall c → AllByRecursion (IsItsCall node session) t.calls → (told ≡ [] → ⊥) → Stage came told t
       Created : came → HasNone t → t.next_call ≡ None → Stage came told t
       Refused : (a : Answer) (others : List Answer) → told ≡ a ∷ others → is_complete a ≡ false → HasNone t → t.next_call ≡ None → Stage came told t
 
     pub same_stage : (came : Type 0) (told : List Answer) (t u : RunReport) → u.calls ≡ t.calls → u.next_call ≡ t.next_call → Stage came told t → Stage came told u
     same_stage came told t u calls next (Commits c at follows all none unsaid) = Commits c (ap (find (is_call_at node session)) calls ∙ at) follows (subst (AllByRecursion (IsOf c.command)) (sym calls) all) (next ∙ none) unsaid
-    same_stage came told t u calls next (Follows c is create all) = Follows c (next ∙ is) create (subst (AllByRecursion (IsItsCall node session)) (sym calls) all)
+    same_stage came told t u calls next (Follows c is create all answered) = Follows c (next ∙ is) create (subst (AllByRecursion (IsItsCall node session)) (sym calls) all) answered
     same_stage came told t u calls next (Created it none alone) = Created it (subst (AllByRecursion IsNoCall) (sym calls) none) (next ∙ alone)
     same_stage came told t u calls next (Refused a others is incomplete none alone) = Refused a others is incomplete (subst (AllByRecursion IsNoCall) (sym calls) none) (next ∙ alone)
 
@@ -115,7 +115,7 @@ module _ (node session : ℕ) where
             let v : RunReport = call_follows t new in
             let at : is_call_at node session new ≡ true = ap (λ q. q && (c.session == session)) (eq-eqb c.node node here) ∙ eq-eqb c.session session its in
             let changed : AllByRecursion (IsItsCall node session) v.calls = all_changed new (at, refl) t.calls all in
-            Follows new (next_kept node v fs changed) (record { here = here; its = its; own = refl }) (finished_so (IsItsCall node session) (λ x y so. (so.0, refl)) running node v fs changed)
+            Follows new (next_kept node v fs changed) (record { here = here; its = its; own = refl }) (finished_so (IsItsCall node session) (λ x y so. (so.0, refl)) running node v fs changed) (λ none. cc)
         pending_ends t f fs here its all none false complete =
             let w : RunReport = without_call t c.node c.session in
             let v : RunReport = call_ends running t c f in

@@ -40,7 +40,7 @@ module _ (node session : ℕ) (s : Stmt) (running : ℕ) (k : Option NodeState) 
       = commits_on node session s running came v u o c (ap (find (is_call_at node session)) before.calls ∙ at) follows (subst (AllByRecursion (IsOf node session c.command)) (sym before.calls) all) (before.next_call none) in
       subst (λ xs. Stage node session s came (xs ++ said node session s running u o) (report_turned running k t u o)) (sym unsaid)
       (same_stage node session s came (said node session s running u o) (ends_calls running v u u.cut o) (report_turned running k t u o) refl refl (subst (λ q. Stage node session s came (said node session s running u o) (ends_calls running v u q o)) (sym uncut) ends))
-  turn_stage came told uncut alone (Follows c is create all) = absurd (cc (alone, is))
+  turn_stage came told uncut alone (Follows c is create all answered) = absurd (cc (alone, is))
   turn_stage came told uncut alone (Created it none still) =
       Created it (turn_so IsNoCall (λ c x so. so) running k t u o none) (one_turn node session running k t u o (record { calls = of_none (IsItsCall node session) t.calls none; alone = still })).alone
   turn_stage came told uncut alone (Refused a others is incomplete none still) =

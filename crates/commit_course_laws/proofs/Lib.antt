@@ -12,3 +12,5 @@ pub mod CreateStepLemmas
 pub mod CreateCourseLemmas
 pub mod QuietLemmas
 mod TriedCourseLemmas
+mod TriedScriptLemmas
+mod TriedQuietLemmas

@@ -20,7 +20,7 @@ use Rattle.run_rules.specs.RunReport.{Past, RunReport}
 use Rattle.run_rules.proofs.ListLemmas.{all_weaker}
 use Rattle.tree_laws.proofs.PrefixLemmas.{so_far, births_join, facts_join}
 use Rattle.tree_laws.proofs.TimeLemmas.{part_lawful}
-use Rattle.run_claims.specs.Undisturbed.{Commit, Undisturbed, CommitIsComplete, UndisturbedCommitsAreComplete, IsInCourse, LostNone, HasNotStopped, NoneComesIn, facts_by, branches_in, branches_by, answers_in, answers_from, commit_answers_from}
+use Rattle.run_claims.specs.Undisturbed.{Commit, Undisturbed, CommitIsComplete, UndisturbedCommitsAreComplete, IsInCourse, LostNone, HasNotStopped, NoneComesIn, facts_by, branches_in, branches_by, answers_in, answers_from, commit_answers_in, commit_answers_from}
 use Rattle.commit_length_laws.specs.FewLaws.{DeliveriesStayBelow, deliveries_in}
 use Rattle.commit_course_laws.proofs.FlowLemmas.{IsWholeTurn, IsNoCreate}
 use Rattle.answer_origin_laws.proofs.WayLemmas.{turn_way}
@@ -55,6 +55,15 @@ pub not_spent : (n m : ℕ) → n ≡ m → m < 4096 → spent n ≡ false
 not_spent n m is low = grind (arith, nat_tests, is, low)
 
 -- ---- answers
+
+-- those of two parts of a run, one after the other
+pub answers_join : (places : List Place) (asked : List Command) (f : Facts) (node session : ℕ) (xs ys : List Happening)
+    → commit_answers_from places asked f node session (xs ++ ys) ≡ commit_answers_from places asked f node session xs ++ commit_answers_from places asked (facts_of places asked f xs) node session ys
+unfolding facts_of
+answers_join places asked f node session [] ys = refl
+answers_join places asked f node session (x ∷ xs) ys =
+    ap (λ zs. commit_answers_in places f node session x ++ zs) (answers_join places asked (facts_after places asked f x) node session xs ys)
+    ∙ sym (append_assoc (commit_answers_in places f node session x) (commit_answers_from places asked (facts_after places asked f x) node session xs) (commit_answers_from places asked (facts_of places asked (facts_after places asked f x) xs) node session ys))
 
 -- where no CREATE comes all answers are those of the COMMIT
 pub same_answers : (places : List Place) (asked : List Command) (f : Facts) (node session : ℕ) (hs : List Happening) → AllByRecursion IsNoCreate hs → commit_answers_from places asked f node session hs ≡ answers_from places asked f node session hs

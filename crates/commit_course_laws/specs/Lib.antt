@@ -1,3 +1,4 @@
 pub mod CompleteLaws
 pub mod CommandCalls
 pub mod TriedCourse
+pub mod TriedQuiet

@@ -12,6 +12,7 @@ ghost use Rattle.commit_course_laws.specs.CompleteLaws.{LawfulCommitsAreComplete
 ghost use Rattle.commit_course_laws.specs.CommandCalls.{HoldIsKept, CommandsFindNoCall, CommandsFindNothingInFlight};
 ghost use Rattle.run_claims.specs.CommitCourse.{CommitsFlow, CommitsEnd, QuietCommitsAreComplete};
 ghost use Rattle.commit_course_laws.specs.TriedCourse.{TheTriedCourse};
+ghost use Rattle.commit_course_laws.specs.TriedQuiet.{QuietCommitsExist};
 
 /// An undisturbed COMMIT of a lawful run is complete when nothing is in flight any more: its call has one answer, Commit
 /// complete; each sealed branch of its transaction has ended with commit; and no node knows anything of its branches.
@@ -60,4 +61,9 @@ pub fn quiet_commits_are_complete()
 /// message of it is lost, its call is given up.
 pub fn the_tried_course()
     ensures { TheTriedCourse }
+{}
+
+/// Quiet COMMITs exist: that script's COMMIT is one, and so is the COMMIT of a CREATE in its place. Both are done.
+pub fn quiet_commits_exist()
+    ensures { QuietCommitsExist }
 {}

@@ -23,7 +23,7 @@ use Rattle.run_rules.specs.Lines.{spent}
 use Rattle.run_rules.specs.Past.{past}
 use Rattle.run_claims.specs.Places.{node_line, reported_of}
 use Rattle.run_rules.specs.RunReport.{Past, start}
-use Rattle.run_claims.specs.Undisturbed.{Commit, Undisturbed, CommitIsComplete, LostNone, HasNotStopped, NoneComesIn, facts_by, branches_by, answers_from}
+use Rattle.run_claims.specs.Undisturbed.{Commit, Undisturbed, CommitIsComplete, LostNone, HasNotStopped, NoneComesIn, facts_by, branches_by, answers_from, commit_answers_from}
 
 -- what these happenings leave, with what is told of them
 abbrev pub past_by : List Place → List Command → List Happening → Past
@@ -111,7 +111,7 @@ pub record QuietCommit (t : History) (front later : List Happening) (c : Commit 
   pub stopped : AllByRecursion (HasNotStopped (facts_by t.places t.commands front)) (branches_by t.places t.commands front c.root)
   pub calm : AllByRecursion (NoneComesIn (branches_by t.places t.commands front c.root)) front
 
--- a CREATE itself comes in a whole turn of its command, after its COMMIT was called
+-- A CREATE itself comes in a whole turn of its command, after its COMMIT was answered.
 pub record CreateHasCome (t : History) (front : List Happening) (c : Commit t.places t.commands front) (s : Stmt) : Type 0 where
   pub before : List Happening
   pub turn : Turn
@@ -120,6 +120,7 @@ pub record CreateHasCome (t : History) (front : List Happening) (c : Commit t.pl
   pub here : turn.node ≡ c.call.node
   pub asks : IsCall turn.input c.session s
   pub whole : turn.cut ≡ false
+  pub answered : commit_answers_from t.places t.commands (facts_by t.places t.commands c.before) c.call.node c.session (happenings.Turn c.call ∷ before) ≡ commit_complete ∷ []
 
 -- A COMMIT is undisturbed, and it is complete when its command is done. The report says so where the command is COMMIT; where
 -- it is a CREATE, the CREATE itself has come.
