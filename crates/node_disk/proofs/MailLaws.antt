@@ -1,5 +1,5 @@
 -- Messages that are short enough for their counts.
-use Rattle.std.proofs.Common.{◌≡◌, ◌<◌, ◌≤◌, ◌^◌, ◌||◌, not, ℕ, true, List, [], ◌∷◌, ◌++◌, length, refl, arith}
+use Rattle.std.proofs.Common.{◌≡◌, ◌<◌, ◌≤◌, ◌^◌, ℕ, true, false, List, [], ◌∷◌, ◌++◌, length, refl, sym, ◌∙◌, arith}
 use Rattle.std.specs.Prelude.{nat_lt}
 use Rattle.std.specs.List.{All, AllByRecursion, list_all}
 use Rattle.std.proofs.lemmas.Bool.{and_parts}
@@ -27,8 +27,11 @@ each_short : (texts : List (List ℕ)) → AllByRecursion utf8_format.Fits texts
 each_short [] all = refl
 each_short (t ∷ ts) all = grind (arith, nat_tests, all.0.0, each_short ts all.1)
 
-pub texts_not : (texts : List (List ℕ)) → (nat_lt 4294967295 (length texts) || not (list_all (λ text. nat_lt (length text) 65536) texts)) ≡ true → texts_format.Fits texts → ⊥
-texts_not texts over fits = grind (arith, nat_tests, fits.0, each_short texts fits.1, over)
+pub texts_many : (texts : List (List ℕ)) → 4294967295 < length texts → texts_format.Fits texts → ⊥
+texts_many texts many fits = omega (arith, many, fits.0)
+
+pub texts_long : (texts : List (List ℕ)) → list_all (λ text. nat_lt (length text) 65536) texts ≡ false → texts_format.Fits texts → ⊥
+texts_long texts long fits = let both : true ≡ false = sym (each_short texts fits.1) ∙ long in absurd cc
 
 pub rows_so : (rows : List Row) → list_all (λ row. nat_lt (length row.cells) 256) rows ≡ true → All HasCount rows
 rows_so [] narrow = All-nil HasCount
@@ -41,8 +44,8 @@ each_narrow : (rows : List Row) → All HasCount rows → list_all (λ row. nat_
 each_narrow [] all = refl
 each_narrow (r ∷ rs) all = grind (arith, nat_tests, All-head HasCount r rs all, each_narrow rs (All-tail HasCount r rs all))
 
-pub rows_not : (rows : List Row) → (nat_lt 4294967295 (length rows) || not (list_all (λ row. nat_lt (length row.cells) 256) rows)) ≡ true → length rows < 2 ^ 32 → All HasCount rows → ⊥
-rows_not rows over few narrow = grind (arith, nat_tests, few, each_narrow rows narrow, over)
+pub rows_wide : (rows : List Row) → list_all (λ row. nat_lt (length row.cells) 256) rows ≡ false → length rows < 2 ^ 32 → All HasCount rows → ⊥
+rows_wide rows wide few narrow = let both : true ≡ false = sym (each_narrow rows narrow) ∙ wide in absurd cc
 
 pub mailed_last : (sent : List Mailed) (mail : Mailed) → AllByRecursion IsMailed sent → IsMailed mail → AllByRecursion IsMailed (sent ++ mail ∷ [])
 mailed_last [] mail all last = (last, tt)

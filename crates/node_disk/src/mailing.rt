@@ -36,26 +36,32 @@ fn are_narrow(rows: &[Row]) -> bool
 }
 
 // Fails where there are too many texts, or one of them is too long.
-#[tactic(auto, using(crate::proofs::MailLaws::texts_so, crate::proofs::MailLaws::texts_not))]
+#[tactic(auto, using(crate::proofs::MailLaws::texts_so, crate::proofs::MailLaws::texts_many, crate::proofs::MailLaws::texts_long))]
 fn texts_fit(texts: &[Bytes]) -> Result<(), AllocError>
     requires { AllByRecursion IsUtf8 texts.now }
     ensures fits { OnOk result (texts_format.Fits texts.now) }
     ensures many { OnErr result (texts_format.Fits texts.now → ⊥) }
 {
-    if texts.len() > COUNT_LIMIT || !are_short(texts) {
+    if texts.len() > COUNT_LIMIT {
+        return Err(AllocError);
+    }
+    if !are_short(texts) {
         return Err(AllocError);
     }
     Ok(())
 }
 
 // Fails where there are too many rows, or one of them has too many cells.
-#[tactic(auto, using(crate::proofs::MailLaws::rows_so, crate::proofs::MailLaws::rows_not))]
+#[tactic(auto, using(crate::proofs::MailLaws::rows_so, crate::proofs::MailLaws::rows_wide))]
 fn rows_fit(rows: &[Row]) -> Result<(), AllocError>
     ensures few { OnOk result (length rows.now < 2 ^ 32) }
     ensures narrow { OnOk result (All HasCount rows.now) }
     ensures many { OnErr result (length rows.now < 2 ^ 32 → All HasCount rows.now → ⊥) }
 {
-    if rows.len() > COUNT_LIMIT || !are_narrow(rows) {
+    if rows.len() > COUNT_LIMIT {
+        return Err(AllocError);
+    }
+    if !are_narrow(rows) {
         return Err(AllocError);
     }
     Ok(())
