@@ -34,7 +34,7 @@ use Rattle.run_base_laws.proofs.RootLemmas.{session_or_before}
 use Rattle.run_ready_laws.proofs.CallEndLemmas.{none_of}
 use Rattle.answer_origin_laws.proofs.LineKeepLemmas.{next_number}
 use Rattle.answer_laws.proofs.SentDownLemmas.{IsLevel, SendsNoneDown, level_none, other_none, exec_none, last_more, last_now, answer_level}
-use Rattle.answer_laws.specs.StatementEnds.{goes_down, last_sent_down}
+use Rattle.answer_laws.specs.StatementEnds.{calls_below, last_sent_down}
 
 -- ---- a branch
 
@@ -143,7 +143,7 @@ module _ (node : ℕ) (said : List Post) where
 
   -- whose messages go down from the node
   abbrev pub DownFrom : List Post → Type 0
-  DownFrom says = AllByRecursion (λ (m : Post). goes_down m.kind ≡ true → m.from.node ≡ node) says
+  DownFrom says = AllByRecursion (λ (m : Post). calls_below m.kind ≡ true → m.from.node ≡ node) says
 
   pub level_from : (says : List Post) → AllSay IsLevel says → DownFrom says
   level_from [] all = tt

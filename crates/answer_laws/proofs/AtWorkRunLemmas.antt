@@ -39,7 +39,7 @@ use Rattle.tree_laws.proofs.PrefixLemmas.{so_far, f_at, one_on, keep_prefix}
 use Rattle.answer_laws.proofs.AtWorkLemmas.{IsAtWork, IsPlaced, IsSentLast, DownFrom, sent_more}
 use Rattle.answer_laws.proofs.AtWorkStepLemmas.{AtWork, Leaves, works_on}
 use Rattle.answer_laws.proofs.SentDownLemmas.{SendsNoneDown}
-use Rattle.answer_laws.specs.StatementEnds.{StatementPends, goes_down, is_sent_down}
+use Rattle.answer_laws.specs.StatementEnds.{StatementPends, calls_below, is_sent_down}
 
 -- each live branch of a node is at work
 abbrev pub NodeWorks : List Post → NodeState → Type 0
@@ -51,9 +51,9 @@ begun ms rs = none_live _
 
 -- a branch of another node sends nothing down
 from_elsewhere : (node : ℕ) (said says : List Post) (b : BranchId) → b.node ≢ node → DownFrom node said says → SendsNoneDown b says
-from_elsewhere node said says b other from = all_weaker (λ (m : Post). goes_down m.kind ≡ true → m.from.node ≡ node) (λ m. is_sent_down b m ≡ false) (λ m here. by m here (same m.from b) (goes_down m.kind) refl refl) says from
+from_elsewhere node said says b other from = all_weaker (λ (m : Post). calls_below m.kind ≡ true → m.from.node ≡ node) (λ m. is_sent_down b m ≡ false) (λ m here. by m here (same m.from b) (calls_below m.kind) refl refl) says from
   where
-    by : (m : Post) → (goes_down m.kind ≡ true → m.from.node ≡ node) → (q r : Bool) → same m.from b ≡ q → goes_down m.kind ≡ r → (q && r) ≡ false
+    by : (m : Post) → (calls_below m.kind ≡ true → m.from.node ≡ node) → (q r : Bool) → same m.from b ≡ q → calls_below m.kind ≡ r → (q && r) ≡ false
     by m here true true is down = absurd (other (ap (λ (c : BranchId). c.node) (sym (equal_from_same m.from b is)) ∙ here down))
     by m here true false is down = refl
     by m here false r is down = refl

@@ -13,4 +13,4 @@ pub mod LinkRunLemmas
 pub mod PendingCallLemmas
 pub mod AnswerPlaceLemmas
 mod TriedAnswersLemmas
-mod TriedEndsLemmas
+mod TriedStatementEndsLemmas

@@ -32,7 +32,7 @@ use Rattle.answer_origin_laws.proofs.CallTurnLemmas.{all_so, pending_calls_came}
 use Rattle.answer_origin_laws.proofs.UptoLemmas.{facts_there, may_at, next_is, one_more, stand_at}
 use Rattle.tree_trail_laws.proofs.CallLemmas.{call_free}
 use Rattle.answer_laws.specs.EndLaws.{EndsFor, Is_own, Was_commit, EndsFew, Ends_none, Ends_one, Ends_forced}
-use Rattle.answer_laws.specs.PendingCalls.{IsUnderWay, EndsInTurn, Becomes, Stays_under_way, Its_node_is_down, Is_ended, PendingCallsEnd}
+use Rattle.answer_laws.specs.PendingCalls.{CallIsUnderWay, EndsInTurn, Becomes, Stays_under_way, Its_node_is_down, Is_ended, PendingCallsEnd}
 use Rattle.answer_laws.proofs.LinkRunLemmas.{statements_wait_for_their_links}
 use Rattle.answer_laws.proofs.EndRunLemmas.{causes_end_statements, few_at}
 
@@ -116,7 +116,7 @@ module _ (t : History) (run : IsTheRunOf t) where
         heard : pends_at k.sessions s ≡ (called_at told.calls n s && not fresh)
         heard = stands.heard n k up s
 
-        under_way_pends : (c : Call) → IsUnderWay t i n s c → pends_at k.sessions s ≡ true
+        under_way_pends : (c : Call) → CallIsUnderWay t i n s c → pends_at k.sessions s ≡ true
         under_way_pends c way =
             heard ∙ and_from (called_at told.calls n s) (not fresh) (there_called n s told.calls c way.pending) (old fresh refl)
           where
@@ -124,20 +124,20 @@ module _ (t : History) (run : IsTheRunOf t) where
             old true is = absurd (way.has_come (yet_to_come c way.pending is))
             old false is = refl
 
-        pends_under_way : pends_at k.sessions s ≡ true → (c : Call) × IsUnderWay t i n s c
+        pends_under_way : pends_at k.sessions s ≡ true → (c : Call) × CallIsUnderWay t i n s c
         pends_under_way pends = by (call_at told n s) refl
           where
             parts : (called_at told.calls n s ≡ true) × (not fresh ≡ true)
             parts = and_parts (called_at told.calls n s) (not fresh) (sym heard ∙ pends)
 
-            by : (o : Option Call) → call_at told n s ≡ o → (c : Call) × IsUnderWay t i n s c
+            by : (o : Option Call) → call_at told n s ≡ o → (c : Call) × CallIsUnderWay t i n s c
             by None none = absurd (let no : called_at told.calls n s ≡ false = none_called n s told.calls none in let yes = parts.0 in cc (no, yes))
             by (Some c) at = (c, record { pending = at; has_come = λ yet. (let is : fresh ≡ true = is_fresh_then c at yet in let no : not fresh ≡ false = ap not is in let yes = parts.1 in absurd (cc (no, yes))) })
 
   -- ---- one happening more
 
   -- it is the same call still
-  same_call : (i n s : ℕ) (c d : Call) → call_at (past_upto t i).run_report n s ≡ Some c → IsUnderWay t (i + 1) n s d → c ≡ d
+  same_call : (i n s : ℕ) (c d : Call) → call_at (past_upto t i).run_report n s ≡ Some c → CallIsUnderWay t (i + 1) n s d → c ≡ d
   same_call i n s c d at later = by (pending_calls_came t run (i + 1) n s d later.pending)
     where
       by : IsYetToCome (past_upto t (i + 1)) d ⊎ CameBefore t (i + 1) n s d → c ≡ d
@@ -161,9 +161,9 @@ module _ (t : History) (run : IsTheRunOf t) where
     goes_on : (j : NodeState) → node_at (facts_after t.places t.commands (f i) h) n ≡ Some j → pends_at j.sessions s ≡ true → Becomes t i n s c h
     goes_on j now pends =
         let still = pends_under_way (i + 1) n s j (node_after ∙ now) pends in
-        Stays_under_way (subst (IsUnderWay t (i + 1) n s) (sym (same_call i n s c still.0 at still.1)) still.1)
+        Stays_under_way (subst (CallIsUnderWay t (i + 1) n s) (sym (same_call i n s c still.0 at still.1)) still.1)
 
-    same_node : node_at (facts_after t.places t.commands (f i) h) n ≡ node_at (f i) n → IsUnderWay t i n s c → Becomes t i n s c h
+    same_node : node_at (facts_after t.places t.commands (f i) h) n ≡ node_at (f i) n → CallIsUnderWay t i n s c → Becomes t i n s c h
     same_node same way = goes_on k (same ∙ up) (under_way_pends i n s k up c way)
 
     falls : node_at (facts_after t.places t.commands (f i) h) n ≡ None → Becomes t i n s c h
@@ -229,7 +229,7 @@ module _ (t : History) (run : IsTheRunOf t) where
       subst (λ m. node_at (f i) m ≡ Some k → call_at (told i) m s ≡ Some c → Becomes t i m s c (happenings.Turn u)) here
       (λ up_here at_here. turn_becomes i u there s c k up_here at_here waits u.cut refl (is_ended s (turn_of (place_at t.places u.node) k u.input).ended) refl) up at
 
-  becomes : (i : ℕ) (h : Happening) → slice_get t.trace i ≡ Some h → (n s : ℕ) (c : Call) (k : NodeState) → node_at (f i) n ≡ Some k → IsUnderWay t i n s c → Becomes t i n s c h
+  becomes : (i : ℕ) (h : Happening) → slice_get t.trace i ≡ Some h → (n s : ℕ) (c : Call) (k : NodeState) → node_at (f i) n ≡ Some k → CallIsUnderWay t i n s c → Becomes t i n s c h
   unfolding facts_after
   becomes i (happenings.Turn u) there n s c k up way = elim (cases_eq u.node n) [
     | inl here ↦ turn_here_becomes i u there n s c k here up way.pending (ap (λ q. q || made_by u.input s) (under_way_pends i n s k up c way))
@@ -260,7 +260,7 @@ module _ (t : History) (run : IsTheRunOf t) where
       or_second true b is = refl
       or_second false b is = is
 
-  uncalled : (i : ℕ) (u : Turn) → slice_get t.trace i ≡ Some (happenings.Turn u) → (s : ℕ) (c : Call) → IsUnderWay t i u.node s c → (q : Option Stmt) → u.input ≢ inputs.Call s q
+  uncalled : (i : ℕ) (u : Turn) → slice_get t.trace i ≡ Some (happenings.Turn u) → (s : ℕ) (c : Call) → CallIsUnderWay t i u.node s c → (q : Option Stmt) → u.input ≢ inputs.Call s q
   uncalled i u there s c way q call =
       let may = may_at t run i (happenings.Turn u) there in
       let free : (session_at may.0.sessions s).call ≡ pending.NoCall = (call_free (f i) may.0 u.node u.input u.took s q call may.1.comes).1 in

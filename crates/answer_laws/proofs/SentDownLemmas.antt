@@ -13,11 +13,11 @@ use Rattle.node_rules.specs.Words.{same}
 use Rattle.node_rules.proofs.Steps as steps
 use Rattle.node_rules.proofs.Steps.{Says}
 use Rattle.run_base_laws.proofs.KindSayLemmas.{OfDecisions, AllSay, told_says, askings_say}
-use Rattle.answer_laws.specs.StatementEnds.{goes_down, is_sent_down, last_sent_down}
+use Rattle.answer_laws.specs.StatementEnds.{calls_below, is_sent_down, last_sent_down}
 
 -- a message that takes no statement down
 abbrev pub IsLevel : Kind → Type 0
-IsLevel kind = goes_down kind ≡ false
+IsLevel kind = calls_below kind ≡ false
 
 -- a branch sends nothing down by these
 abbrev pub SendsNoneDown : BranchId → List Post → Type 0
@@ -27,12 +27,12 @@ pub level_none : (b : BranchId) (ms : List Post) → AllSay IsLevel ms → Sends
 level_none b [] all = tt
 level_none b (m ∷ ms) all = (by (same m.from b) all.0, level_none b ms all.1)
   where
-    by : (q : Bool) → goes_down m.kind ≡ false → (q && goes_down m.kind) ≡ false
+    by : (q : Bool) → calls_below m.kind ≡ false → (q && calls_below m.kind) ≡ false
     by true level = level
     by false level = refl
 
 pub other_none : (b c to : BranchId) (kind : Kind) → same c b ≡ false → SendsNoneDown b (post c to kind)
-other_none b c to kind other = (ap (λ q. q && goes_down kind) other, tt)
+other_none b c to kind other = (ap (λ q. q && calls_below kind) other, tt)
 
 pub exec_none : (ss : List Session) (y : Branch) (i : ℕ) (s : Stmt) (given : ℕ) (o : Option BranchId) (b : BranchId) → same y.live.me b ≡ false → SendsNoneDown b (exec_to ss y i s given o)
 exec_none ss y i s given None b other = tt
@@ -51,10 +51,10 @@ pub last_more : (b : BranchId) (said says : List Post) → SendsNoneDown b says 
 last_more b said says none = last_append b None said says ∙ last_stays b (last_sent_down b None said) says none
 
 -- or another one is
-pub last_now : (b to : BranchId) (kind : Kind) (said : List Post) → goes_down kind ≡ true → last_sent_down b None (said ++ post b to kind) ≡ Some (record { from = b; to = to; kind = kind })
+pub last_now : (b to : BranchId) (kind : Kind) (said : List Post) → calls_below kind ≡ true → last_sent_down b None (said ++ post b to kind) ≡ Some (record { from = b; to = to; kind = kind })
 last_now b to kind said down =
     last_append b None said (post b to kind)
-    ∙ (ap (λ q. if q && goes_down kind then Some (record { from = b; to = to; kind = kind }) else last_sent_down b None said) (same_from_equal b b refl)
+    ∙ (ap (λ q. if q && calls_below kind then Some (record { from = b; to = to; kind = kind }) else last_sent_down b None said) (same_from_equal b b refl)
     ∙ ap (λ q. if q then Some (record { from = b; to = to; kind = kind }) else last_sent_down b None said) down)
 
 -- ---- messages that take nothing down

@@ -3,4 +3,4 @@ pub mod EndLaws
 pub mod LinkLaws
 pub mod PendingCalls
 pub mod TriedAnswers
-pub mod TriedEnds
+pub mod TriedStatementEnds

@@ -21,7 +21,7 @@ use Rattle.answer_laws.specs.LinkLaws.{StatementsHaveTheirLinks}
 use Rattle.answer_laws.specs.StatementEnds.{CauseEndsStatement}
 
 -- A call of a session is under way after so many happenings: it is pending, and has come to its node.
-pub record IsUnderWay (t : History) (i node session : ℕ) (c : Call) : Type 0 where
+pub record CallIsUnderWay (t : History) (i node session : ℕ) (c : Call) : Type 0 where
   pub pending : call_at (past_upto t i).run_report node session ≡ Some c
   pub has_come : IsYetToCome (past_upto t i) c → ⊥
 
@@ -37,22 +37,22 @@ pub record EndsInTurn (t : History) (i node session : ℕ) (h : Happening) : Typ
   pub answer : Answer
   pub ends : slice_get (turn_of (place_at t.places node) kept turn.input).ended number ≡ Some (record { session = session; answer = answer })
   pub cause : EndsFor (facts_upto t i) kept turn.input (record { session = session; answer = answer })
-  pub over : (d : Call) → IsUnderWay t (i + 1) node session d → ⊥
+  pub over : (d : Call) → CallIsUnderWay t (i + 1) node session d → ⊥
 
 -- What a happening makes of a call that is under way, or that comes in it.
 pub data Becomes (t : History) (i node session : ℕ) (c : Call) (h : Happening) : Type 0 where
-  Stays_under_way : IsUnderWay t (i + 1) node session c → Becomes t i node session c h
+  Stays_under_way : CallIsUnderWay t (i + 1) node session c → Becomes t i node session c h
   Its_node_is_down : node_at (facts_upto t (i + 1)) node ≡ None → Becomes t i node session c h  -- it stopped, or its turn was cut, and its stop comes next
   Is_ended : EndsInTurn t i node session h → Becomes t i node session c h
 
 -- each call that is under way at a node that is up, or comes to it, becomes one of these
 abbrev pub CallsBecome : History → Type 0
-CallsBecome t = (i : ℕ) (h : Happening) → slice_get t.trace i ≡ Some h → (node session : ℕ) (c : Call) (k : NodeState) → node_at (facts_upto t i) node ≡ Some k → IsUnderWay t i node session c ⊎ TurnOf t i node session c
+CallsBecome t = (i : ℕ) (h : Happening) → slice_get t.trace i ≡ Some h → (node session : ℕ) (c : Call) (k : NodeState) → node_at (facts_upto t i) node ≡ Some k → CallIsUnderWay t i node session c ⊎ TurnOf t i node session c
     → Becomes t i node session c h
 
 -- and no other call comes to the session of one that is under way
 abbrev pub NoneComesMeanwhile : History → Type 0
-NoneComesMeanwhile t = (i : ℕ) (u : Turn) → slice_get t.trace i ≡ Some (happenings.Turn u) → (session : ℕ) (c : Call) → IsUnderWay t i u.node session c → (s : Option Stmt) → u.input ≢ inputs.Call session s
+NoneComesMeanwhile t = (i : ℕ) (u : Turn) → slice_get t.trace i ≡ Some (happenings.Turn u) → (session : ℕ) (c : Call) → CallIsUnderWay t i u.node session c → (s : Option Stmt) → u.input ≢ inputs.Call session s
 
 -- no call is pending at a node that is down, once its stop has come
 abbrev pub DownHasNone : History → Type 0

@@ -27,14 +27,14 @@ use Rattle.run_base_laws.specs.InTurnLaws.{said_in}
 -- ---- what a branch sent down the session tree
 
 -- whether a message takes a statement to a child: an Exec, or the Open before the first
-abbrev pub goes_down : Kind → Bool
-goes_down (kinds.Open edge root depth) = true
-goes_down (kinds.Exec call given advice s) = true
-goes_down _ = false
+abbrev pub calls_below : Kind → Bool
+calls_below (kinds.Open edge root depth) = true
+calls_below (kinds.Exec call given advice s) = true
+calls_below _ = false
 
 -- whether it is such a message of this branch
 abbrev pub is_sent_down : BranchId → Post → Bool
-is_sent_down b m = same m.from b && goes_down m.kind
+is_sent_down b m = same m.from b && calls_below m.kind
 
 -- the last such message among these, or else this one from before them
 abbrev pub last_sent_down : BranchId → Option Post → List Post → Option Post

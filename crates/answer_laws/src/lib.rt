@@ -8,7 +8,7 @@ ghost use Rattle.answer_laws.specs.LinkLaws.{StatementsWaitForTheirLinks};
 ghost use Rattle.answer_laws.specs.PendingCalls.{PendingCallsEnd};
 ghost use Rattle.answer_laws.specs.StatementEnds.{CausesEndStatements, StatementsEndForCause};
 ghost use Rattle.answer_laws.specs.TriedAnswers.{TheTriedAnswers};
-ghost use Rattle.answer_laws.specs.TriedEnds.{TheTriedEnds};
+ghost use Rattle.answer_laws.specs.TriedStatementEnds.{TheTriedStatementEnds};
 
 use answer_origin_laws::turns_find_calls_come;
 
@@ -44,8 +44,8 @@ pub fn pending_calls_end()
 
 /// This is about something: as the count of the tried script waits, the Reply to an earlier statement comes once more and changes
 /// nothing, and its own Reply, DTX-08 in it, and its give-up each end it.
-pub fn the_tried_ends()
-    ensures { TheTriedEnds }
+pub fn the_tried_statement_ends()
+    ensures { TheTriedStatementEnds }
 {}
 
 /// A COMMIT that is pending at a node is the last call of its session.

@@ -17,7 +17,7 @@ use Rattle.run_rules.specs.Runs.{Asking, asks_branch, asks_by}
 use Rattle.run_rules.specs.Trail.{trail_after, trail_of}
 use Rattle.tree_laws.proofs.PrefixLemmas.{f_at}
 use Rattle.tree_trail_laws.proofs.MomentLemmas.{tr_at}
-use Rattle.view_laws.specs.GivenColumns.{Given, nothing_given, advice_in, advice_after, comment_in, comment_after, given_after, given_of}
+use Rattle.view_laws.specs.GivenColumns.{Given, nothing_given, advice_brought, advice_after, comment_brought, comment_after, given_after, given_of}
 use Rattle.view_laws.proofs.GotLemmas.{ExecCame}
 
 -- ---- one happening after the other
@@ -67,7 +67,7 @@ module _ (tr : Trail) (b : BranchId) (now : Option Advice) where
   pub none_gives : (input : Input) → (ExecCame input b → ⊥) → advice_after tr b now input ≡ now
   none_gives (inputs.Message m) not = by (same m.to b) refl m.kind refl
     where
-      by : (q : Bool) → same m.to b ≡ q → (kind : Kind) → m.kind ≡ kind → (if q && is_some (asks_by tr m.to kind) then advice_in kind else now) ≡ now
+      by : (q : Bool) → same m.to b ≡ q → (kind : Kind) → m.kind ≡ kind → (if q && is_some (asks_by tr m.to kind) then advice_brought kind else now) ≡ now
       by false other kind is = refl
       by true here (kinds.Exec call given advice s) is =
           absurd (not (
@@ -100,7 +100,7 @@ module _ (tr : Trail) (b : BranchId) (now : Option Advice) where
   pub unseen_gives : (input : Input) → seen_at tr b ≡ None → advice_after tr b now input ≡ now
   unseen_gives (inputs.Message m) none = by (same m.to b) refl m.kind
     where
-      by : (q : Bool) → same m.to b ≡ q → (kind : Kind) → (if q && is_some (asks_by tr m.to kind) then advice_in kind else now) ≡ now
+      by : (q : Bool) → same m.to b ≡ q → (kind : Kind) → (if q && is_some (asks_by tr m.to kind) then advice_brought kind else now) ≡ now
       by false other kind = refl
       by true here (kinds.Exec call given advice s) =
           let unseen : seen_at tr m.to ≡ None = ap (seen_at tr) (equal_from_same m.to b here) ∙ none in ap (λ o. if is_some (asks_branch call s o) then advice else now) unseen
@@ -115,14 +115,14 @@ module _ (tr after : Trail) (root : BranchId) (now : List ℕ) (input : Input) w
   pub planned_keeps : plan_at tr root ≢ None → comment_after tr after root now input ≡ now
   planned_keeps some = by (plan_at tr root) some
     where
-      by : (o : Option CommitPlan) → o ≢ None → (if is_none o && is_some (plan_at after root) then comment_in input else now) ≡ now
+      by : (o : Option CommitPlan) → o ≢ None → (if is_none o && is_some (plan_at after root) then comment_brought input else now) ≡ now
       by None some = absurd (some refl)
       by (Some x) some = refl
 
   pub plan_gives : plan_at tr root ≡ None → (x : CommitPlan) → plan_at after root ≡ Some x → (n : ℕ) (given : Option (List ℕ)) → IsCall input n (stmts.Commit given) → unwrap_or given [] ≡ comment_after tr after root now input
   plan_gives none x some n given call =
-      sym (ap (λ o. if is_none o && is_some (plan_at after root) then comment_in input else now) none ∙ (ap (λ o. if is_some o then comment_in input else now) some ∙ (ap comment_in call ∙ by given)))
+      sym (ap (λ o. if is_none o && is_some (plan_at after root) then comment_brought input else now) none ∙ (ap (λ o. if is_some o then comment_brought input else now) some ∙ (ap comment_brought call ∙ by given)))
     where
-      by : (given : Option (List ℕ)) → comment_in (inputs.Call n (Some (stmts.Commit given))) ≡ unwrap_or given []
+      by : (given : Option (List ℕ)) → comment_brought (inputs.Call n (Some (stmts.Commit given))) ≡ unwrap_or given []
       by None = refl
       by (Some comment) = refl

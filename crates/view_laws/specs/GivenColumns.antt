@@ -28,13 +28,13 @@ nothing_given = record { advice = λ b. None; advised = λ n session. None; comm
 -- ---- advice
 
 -- the advice that an Exec brings
-abbrev pub advice_in : Kind → Option Advice
-advice_in (kinds.Exec call given advice s) = advice
-advice_in _ = None
+abbrev pub advice_brought : Kind → Option Advice
+advice_brought (kinds.Exec call given advice s) = advice
+advice_brought _ = None
 
 -- a branch has the advice of the last Exec that it took, which is one whose number comes to it for the first time
 abbrev pub advice_after : Trail → BranchId → Option Advice → Input → Option Advice
-advice_after tr b now (inputs.Message m) = if same m.to b && is_some (asks_by tr m.to m.kind) then advice_in m.kind else now
+advice_after tr b now (inputs.Message m) = if same m.to b && is_some (asks_by tr m.to m.kind) then advice_brought m.kind else now
 advice_after tr b now _ = now
 
 -- a session has the advice that its last ALTER SESSION ADVISE set
@@ -45,13 +45,13 @@ advised_after n session now node _ = now
 -- ---- comments
 
 -- the comment that a client's COMMIT brings
-abbrev pub comment_in : Input → List ℕ
-comment_in (inputs.Call session (Some (stmts.Commit (Some comment)))) = comment
-comment_in _ = []
+abbrev pub comment_brought : Input → List ℕ
+comment_brought (inputs.Call session (Some (stmts.Commit (Some comment)))) = comment
+comment_brought _ = []
 
 -- a transaction has the comment of the COMMIT with which its plan came
 abbrev pub comment_after : Trail → Trail → BranchId → List ℕ → Input → List ℕ
-comment_after tr after root now input = if is_none (plan_at tr root) && is_some (plan_at after root) then comment_in input else now
+comment_after tr after root now input = if is_none (plan_at tr root) && is_some (plan_at after root) then comment_brought input else now
 
 -- ---- each happening
 

@@ -59,7 +59,7 @@ abbrev pub ends_with : Answer → Option (List Finished)
 ends_with a = Some ((record { session = 1; answer = a }) ∷ [])
 
 -- The count waits for its own Reply alone: the other one changes nothing, and each of the causes ends it.
-pub record TheTriedEnds : Type 0 where
+pub record TheTriedStatementEnds : Type 0 where
   pub waits : its_call (after 27) ≡ Some pending.Statement
   pub sent : last_sent_down root None (said_in (after 27)) ≡ Some (record { from = root; to = child; kind = kinds.Exec 2 61 None (count (codes "U")) })
   pub still : its_call (after 28) ≡ Some pending.Statement  -- the first Reply has come once more
