@@ -11,7 +11,8 @@ A slip is a file tests/plays/slips/NAME.edit, and without a NAME all of them are
     old: TEXT           stands in that file exactly once
     new: TEXT           stands there in its place; further pairs may follow
 
-Several lines `old:` in a row, or several lines `new:`, are the lines of one text.
+Several lines `old:` in a row, or several lines `new:`, are the lines of one text. A slip of `slips/laws` may carry steps of
+proofs and code of the crates below with it, where these fail by their form alone; its file says which.
 
 The crates are copied to a temporary folder with their folders out, so that only what changed is checked again. There
 each slip is made, the crate plays is checked, and the slip is unmade. One line a slip tells which plays fail first.
