@@ -2,8 +2,7 @@
 -- pending there, by STOP or in a turn that was cut. And where a node stops, each call that is pending there is told so. So a
 -- COMMIT of which the client is told DTX-01 has no other answer: who wants to know what became of its transaction reads the
 -- book. (Database Administrator's Guide, "Managing Distributed Transactions": in-doubt transactions after a failure.)
-use Rattle.std.specs.Prelude.{◌≡◌, ℕ, ◌==◌, Bool, true, slice_get, Option, Some, None}
-use Rattle.std.specs.List.{list_any}
+use Rattle.std.specs.Prelude.{◌≡◌, ℕ, true, slice_get, Option, Some, None}
 use Rattle.node_rules.specs.Data.{Stmt}
 use Rattle.run_rules.specs.Calls.{call_at}
 use Rattle.run_rules.specs.Data.commands
@@ -12,16 +11,12 @@ use Rattle.run_rules.specs.Facts.{command_at, node_at}
 use Rattle.run_rules.specs.Lawful.{History}
 use Rattle.run_rules.specs.Lines.{is_down, line}
 use Rattle.run_rules.specs.RunReport.{Call}
-use Rattle.run_claims.specs.Places.{past_upto, reported_of}
-
--- whether a call of a command is pending after so many happenings
-abbrev pub is_pending : History → ℕ → ℕ → Bool
-is_pending t moment command = list_any (λ (c : Call). c.command == command) (past_upto t moment).run_report.calls
+use Rattle.run_claims.specs.Places.{command_pends, past_upto, reported_of}
 
 -- Why a client is told by its command that this node is down.
 pub data IsDown (t : History) (command node : ℕ) : Type 0 where
   Was_down : (moment : ℕ) → slice_get t.trace moment ≡ Some (happenings.Begun command) → node_at (past_upto t moment).facts node ≡ None → IsDown t command node
-  Has_stopped : (moment : ℕ) → slice_get t.trace moment ≡ Some (happenings.Stopped node) → is_pending t moment command ≡ true → IsDown t command node
+  Has_stopped : (moment : ℕ) → slice_get t.trace moment ≡ Some (happenings.Stopped node) → command_pends t moment command ≡ true → IsDown t command node
 
 -- each line that says so of a client's command has that cause
 abbrev pub DownLinesAreTrue : History → Type 0
