@@ -1,7 +1,7 @@
 -- DTX-01 where a client called a node: the node was down as the command began, or it stopped while the call of the command was
--- pending there, by STOP or in a turn that was cut. And where a node stops, each call that is pending there is told so. So a
--- COMMIT of which the client is told DTX-01 has no other answer: who wants to know what became of its transaction reads the
--- book. (Database Administrator's Guide, "Managing Distributed Transactions": in-doubt transactions after a failure.)
+-- pending there, by STOP or in a turn that was cut. And where a node stops, each call that is pending there is told so. A COMMIT
+-- that ends like this gets no other answer. The book then shows what became of its transaction. (Database Administrator's Guide,
+-- "Managing Distributed Transactions": in-doubt transactions after a failure.)
 use Rattle.std.specs.Prelude.{◌≡◌, ℕ, ◌==◌, Bool, true, slice_get, Option, Some, None}
 use Rattle.std.specs.List.{list_any}
 use Rattle.node_rules.specs.Data.{Stmt}

@@ -12,13 +12,14 @@ use Rattle.run_rules.specs.Data.happenings
 use Rattle.run_rules.specs.Data.notices
 use Rattle.run_rules.specs.Data.said
 use Rattle.run_rules.specs.Due.{comes_next, IsTheRun}
-use Rattle.run_rules.specs.Facts.{Facts, command_at, facts_after, facts_of, is_up, node_at, outcome_at}
+use Rattle.run_rules.specs.Facts.{Facts, command_at, facts_after, is_up, node_at, outcome_at}
 use Rattle.run_rules.specs.Lawful.{History, IsLawful, IsLawfulRun, MayHappen}
 use Rattle.run_rules.specs.Lines.{is_down, line, over_line, page_lines, all_lines}
 use Rattle.run_rules.specs.Past.{failed_start, next, past}
 use Rattle.run_rules.specs.RunReport.{Call, Past, start}
 use Rattle.run_rules.specs.Scripts.{IsTheRunOf}
 use Rattle.run_rules.specs.Shown.{shown}
+use Rattle.run_rules.proofs.FactLemmas.{facts_next}
 use Rattle.run_rules.proofs.ListLemmas.{all_append, all_weaker}
 use Rattle.run_claims.specs.Places.{past_upto}
 use Rattle.run_base_laws.proofs.PastLemmas.{past_on}
@@ -49,21 +50,6 @@ first_part (y ∷ xs) (suc i) (suc j) x is less = (let more = first_part xs i j 
 -- ---- runs, one happening after the other
 
 module _ (places : List Place) (asked : List Command) where
-  next_facts : (p : Past) (h : Happening) → (next places asked p h).facts ≡ facts_after places asked p.facts h
-  unfolding next facts_after
-  next_facts p (happenings.Turn u) = refl
-  next_facts p (happenings.Begun c) = refl
-  next_facts p (happenings.Cut a b) = refl
-  next_facts p (happenings.Join a b) = refl
-  next_facts p (happenings.Lost k) = refl
-  next_facts p (happenings.Stopped n) = refl
-  next_facts p (happenings.Started n boot) = refl
-
-  pub past_facts : (p : Past) (hs : List Happening) → (past places asked p hs).facts ≡ facts_of places asked p.facts hs
-  unfolding past facts_of
-  past_facts p [] = refl
-  past_facts p (h ∷ hs) = past_facts (next places asked p h) hs ∙ ap (λ f. facts_of places asked f hs) (next_facts p h)
-
   -- a run that is lawful and due, up to some happening and from there
   abbrev IsDue : Past → List Happening → Type 0
   IsDue p hs = IsTheRun places asked p hs × IsLawful places asked p.facts hs
@@ -72,14 +58,14 @@ module _ (places : List Place) (asked : List Command) where
   unfolding past IsTheRun IsLawful
   first_due p [] rest is = ((tt, tt), is)
   first_due p (h ∷ hs) rest is =
-      let more = first_due (next places asked p h) hs rest (is.0.1, subst (λ f. IsLawful places asked f (hs ++ rest)) (sym (next_facts p h)) is.1.1) in
-      (((is.0.0, more.0.0), (is.1.0, subst (λ f. IsLawful places asked f hs) (next_facts p h) more.0.1)), more.1)
+      let more = first_due (next places asked p h) hs rest (is.0.1, subst (λ f. IsLawful places asked f (hs ++ rest)) (sym (facts_next places asked p h)) is.1.1) in
+      (((is.0.0, more.0.0), (is.1.0, subst (λ f. IsLawful places asked f hs) (facts_next places asked p h) more.0.1)), more.1)
 
   -- what each happening keeps
   keeps : (K : Past → Type 0) → ((p : Past) (h : Happening) → comes_next places asked p ≡ Some h → MayHappen places asked p.facts h → K p → K (next places asked p h)) → (p : Past) (hs : List Happening) → IsDue p hs → K p → K (past places asked p hs)
   unfolding past IsTheRun IsLawful
   keeps K on p [] is now = now
-  keeps K on p (h ∷ hs) is now = keeps K on (next places asked p h) hs (is.0.1, subst (λ f. IsLawful places asked f hs) (sym (next_facts p h)) is.1.1) (on p h is.0.0 is.1.0 now)
+  keeps K on p (h ∷ hs) is now = keeps K on (next places asked p h) hs (is.0.1, subst (λ f. IsLawful places asked f hs) (sym (facts_next places asked p h)) is.1.1) (on p h is.0.0 is.1.0 now)
 
   -- ---- pending calls are of commands that began
 
@@ -206,7 +192,7 @@ module _ (t : History) (due : IsTheRunOf t) (whole : IsLawfulRun t) (i c : ℕ) 
         let first : Stands t.places t.commands c s (lines_upto t i) plain_too q = begun_stands two.1.1.0.1 low in
         let last : Stands t.places t.commands c s (lines_upto t i) plain_too (past t.places t.commands q part.0)
         = keeps t.places t.commands (Stands t.places t.commands c s (lines_upto t i) plain_too) (stands_on t.places t.commands c s (lines_upto t i) plain_too) q part.0
-        (two.1.0.1, subst (λ f. IsLawful t.places t.commands f part.0) (sym (next_facts t.places t.commands p (happenings.Begun c))) two.1.1.1) first in
+        (two.1.0.1, subst (λ f. IsLawful t.places t.commands f part.0) (sym (facts_next t.places t.commands p (happenings.Begun c))) two.1.1.1) first in
         let it = has_line t.places t.commands c s (lines_upto t i) plain_too (past t.places t.commands q part.0) last in
         let same : past_upto t j ≡ past t.places t.commands q part.0 = ap (past t.places t.commands (start t.places)) part.2 ∙ past_on t.places t.commands (start t.places) (take i t.trace) (happenings.Begun c ∷ part.0) in
         subst (λ (r : Past). Has t.places t.commands c s (lines_upto t i) plain_too (all_lines r.facts r.run_report)) (sym same) it

@@ -26,6 +26,7 @@ use Rattle.run_rules.specs.Lawful.{History, IsLawfulRun}
 use Rattle.run_rules.specs.RunReport.{start}
 use Rattle.run_rules.specs.Scripts.{IsTheRunOf}
 use Rattle.run_rules.specs.Shown.{shown}
+use Rattle.run_rules.proofs.FactLemmas.{facts_are}
 use Rattle.run_claims.specs.Places.{past_upto}
 use Rattle.run_rules.proofs.ListLemmas.{all_append, all_map, all_filter}
 use Rattle.run_base_laws.specs.IdLaws.{AreOwn}
@@ -49,7 +50,7 @@ use Rattle.view_laws.proofs.ShownLemmas.{HasRow, pending_is, neighbors_are, has_
 use Rattle.view_laws.proofs.SortLemmas.{sorted_rows, rows_flat, strict, ascend_filter, apart_by, found_each, count_mapped, found_among, count_joined}
 use Rattle.view_laws.proofs.AdvisedLemmas.{advice_goes_on}
 use Rattle.view_laws.proofs.GivenLemmas.{g_at}
-use Rattle.view_laws.proofs.PrintLemmas.{split_at, past_facts, pending_printed, neighbors_printed}
+use Rattle.view_laws.proofs.PrintLemmas.{split_at, pending_printed, neighbors_printed}
 use Rattle.view_laws.proofs.LiveLemmas.{live_rows, live_stays, seen_rows}
 
 -- ---- Acks are not shown
@@ -279,7 +280,7 @@ module _ (t : History) (due : IsTheRunOf t) (whole : IsLawfulRun t) (i c : ℕ) 
   at = split_at t.trace i (happenings.Begun c) begins
 
   same_facts : (past_upto t i).facts ≡ facts_upto t i
-  same_facts = past_facts t.places t.commands (start t.places) (take i t.trace)
+  same_facts = facts_are t.places t.commands (start t.places) (take i t.trace)
 
   node_up : (o : Option NodeState) → is_some o ≡ true → (k : NodeState) × (o ≡ Some k)
   node_up None up = absurd cc
