@@ -223,6 +223,7 @@ class Writer:
                 "SHOW BOOK",
                 "SHOW NET",
                 f"SHOW DISK {self.node()}",
+                f"SHOW UNDO {self.node()}",
             ]
         )
 

@@ -44,6 +44,7 @@ FORMS = (
     "SHOW BOOK",
     "SHOW NET",
     "SHOW DISK node",
+    "SHOW UNDO node",
 )
 HEAD = "AT node SESSION session"
 RANGES = {"num": (0, LIMIT), "count": (1, LIMIT), "session": (1, 64)}

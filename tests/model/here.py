@@ -7,8 +7,8 @@ EXTENT = 4096
 MOST_CHANGED = 8_388_608
 
 
-def extents(length):
-    return -(-length // EXTENT)
+def extents(undo):
+    return -(-len(undo) // EXTENT)
 
 
 def view(memory, live, table):
@@ -93,8 +93,8 @@ def change(node, live, table, rows, changes, done):
     length = live.length + sum(len(change.bytes()) for change in changes)
     if length > MOST_CHANGED:
         raise Refused("DTX-16: changes of one branch too large")
-    held = memory.undo.get(live.id, 0)
-    undo = held + memory.undo_length({table.name: rows}, changes)
+    held = memory.undo.get(live.id, b"")
+    undo = held + memory.undo_of({table.name: rows}, changes)
     needed = extents(undo) - extents(held)
     if needed > node.undo - sum(map(extents, memory.undo.values())):
         raise Refused(f"ORA-30036: unable to extend segment by {needed} in undo tablespace 'UNDOTBS1'")

@@ -61,7 +61,7 @@ class Memory:
     kept: dict[BranchId, Kept] = field(default_factory=dict)
     lives: dict[BranchId, Live] = field(default_factory=dict)
     locks: dict[tuple, Lock] = field(default_factory=dict)
-    undo: dict[BranchId, int] = field(default_factory=dict)  # lengths in bytes
+    undo: dict[BranchId, bytes] = field(default_factory=dict)
     sessions: dict[int, Session] = field(default_factory=dict)
     opened: dict[tuple, BranchId] = field(default_factory=dict)  # by parent and edge
     next_session: int = FIRST_REMOTE_SESSION
@@ -133,7 +133,7 @@ class Memory:
         self.keep(record)
         for change in record.changes:
             self.lock(record.id, change.table, [change.key], True)
-        self.undo[record.id] = self.undo_length({}, record.changes)
+        self.undo[record.id] = self.undo_of({}, record.changes)
 
     def apply_Decided(self, record):
         decision = Decision(True, record.scn)
@@ -182,14 +182,14 @@ class Memory:
 
     # ---- undo
 
-    def undo_length(self, views, changes):
-        """The bytes of the undo of changes, made one after the other over views by table, else over the committed rows."""
-        views, length = {table: dict(rows) for table, rows in views.items()}, 0
+    def undo_of(self, views, changes):
+        """The undo of changes, made one after the other over views by table, else over the committed rows."""
+        views, undo = {table: dict(rows) for table, rows in views.items()}, []
         for change in changes:
             rows = views.setdefault(change.table, dict(self.tables[change.table].rows))
-            length += len(Change(change.table, change.key, rows.get(change.key)).bytes())
+            undo.append(Change(change.table, change.key, rows.get(change.key)).bytes())
             put(rows, change)
-        return length
+        return b"".join(undo)
 
 
 class Node:

@@ -106,7 +106,7 @@ class Writer:
             return self.make_node()
         if form == 14 and self.bad():
             return self.pick(FIXED).rstrip(";")
-        return self.joined(word("SHOW"), word(self.pick(["PENDING", "NEIGHBORS", "DISK"])), self.node())
+        return self.joined(word("SHOW"), word(self.pick(["PENDING", "NEIGHBORS", "DISK", "UNDO"])), self.node())
 
     def script(self):
         count = self.pick([0, 1, 2, 4, 16, 17, 18]) if self.chance(0.2) else self.pick([1, 2, 3])

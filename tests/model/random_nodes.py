@@ -235,7 +235,8 @@ class Writer(Running):
 
     def look(self):
         node = (self.pick(self.kept())[0] if self.kept() and self.chance(0.7) else self.node()).name
-        self.give(self.pick([f"SHOW PENDING {node}", f"SHOW NEIGHBORS {node}", "SHOW NET", "SHOW BOOK", f"RECO {node}"]))
+        shown = [f"SHOW PENDING {node}", f"SHOW NEIGHBORS {node}", f"SHOW UNDO {node}", "SHOW NET", "SHOW BOOK"]
+        self.give(self.pick([*shown, f"RECO {node}"]))
 
     def odd(self):
         node, number = self.node(), self.random.randint(0, len(self.world.network.messages) + 1)
@@ -264,5 +265,6 @@ class Writer(Running):
         for node in self.world.nodes:
             self.give(f"SHOW PENDING {node.name}")
             self.give(f"SHOW NEIGHBORS {node.name}")
+            self.give(f"SHOW UNDO {node.name}")
             self.give(f"SHOW DISK {node.name}")
             self.at(node, 5, "SELECT * FROM T")

@@ -168,7 +168,7 @@ class Writer:
             return self.pick(ODD_COMMANDS)
         if self.chance(0.5):
             return self.switch(self.pick(["STOP", "STOP", "START"]), self.pick(self.names))
-        return self.pick([self.show_book, self.show_disk, self.idle])()
+        return self.pick([self.show_book, self.show_disk, self.show_undo, self.idle])()
 
     def switch(self, word, name):
         self.stopped = self.stopped | {name} if word == "STOP" else self.stopped - {name}
@@ -201,6 +201,9 @@ class Writer:
     def show_disk(self):
         return f"{self.spelled('SHOW')}{self.blank()}{self.spelled('DISK')}{self.blank()}{self.node()}"
 
+    def show_undo(self):
+        return f"{self.spelled('SHOW')}{self.blank()}{self.spelled('UNDO')}{self.blank()}{self.node()}"
+
     def made(self, name):
         undo = self.pick(["1", "2", "3", "0064", "1024"]) if not self.bad(0.1) else self.pick(["0", "1025", "x"])
         options = [self.spelled("UNDO"), undo] * self.chance(0.6)
@@ -209,7 +212,7 @@ class Writer:
     def script(self):
         asked = [self.made(name) for name in self.names]
         asked += [self.command() for _ in range(self.random.randint(1, 120))]
-        asked += [self.show_book(), self.show_disk()]
+        asked += [self.show_book(), self.show_disk(), self.show_undo()]
         script = "".join(f"{command};{self.blank()}" for command in asked)
         return (self.damaged(script) if self.bad(0.5) else script).encode()
 

@@ -5,6 +5,7 @@ from across import on_exec, on_open, on_opened, on_reply
 from client import call, carry_out, give_up
 from disk import Crash, Struck
 from forced import neighbors, pending
+from here import extents
 from messages import Network
 from node import Call, Node
 from phases import (
@@ -213,6 +214,8 @@ class World:
         if what == "DISK":
             return disk_lines(self.node(place, must_be_up=False).disk.bytes)
         memory = self.node(place).memory
+        if what == "UNDO":
+            return undo_lines(memory.undo)
         return (pending if what == "PENDING" else neighbors)(memory, self.names)
 
     # ---- commands that answer ok where they may be carried out
@@ -290,6 +293,18 @@ class World:
         raise Refused(f"DTX-11: message {number} cannot be delivered")
 
 
+def byte_lines(found):
+    return [b"%08x %s" % (place, found[place : place + 32].hex().encode()) for place in range(0, len(found), 32)]
+
+
 def disk_lines(disk):
-    lines = [b"%08x %s" % (place, disk[place : place + 32].hex().encode()) for place in range(0, len(disk), 32)]
-    return lines or [b"empty"]
+    return byte_lines(disk) or [b"empty"]
+
+
+def undo_lines(undo):
+    """The undo of each branch that has some, and the extents that it holds."""
+    lines = []
+    for branch, held in sorted(undo.items()):
+        if held:
+            lines += [f"{branch.local()} {extents(held)}".encode(), *byte_lines(held)]
+    return lines or [b"no undo"]

@@ -27,6 +27,7 @@ UNFOLDED = (
     (f"{RULES}.Turn", "turn_of start_of status_of"),
     (f"{RULES}.Points", "passes point_of"),
     ("Rattle.pending_view.specs.Views", "pending_rows neighbor_rows"),
+    ("Rattle.undo_view.specs.Views", "undo_rows"),
     ("Rattle.net_bag.specs.Net", "sent_on delivered lost cut_over joined stopped started"),
     (f"{LAWS}.Disks", "struck after_append"),
     (f"{LAWS}.Cuts", "cut_by"),

@@ -40,6 +40,7 @@ FORMS = (
     ("SHOW BOOK", "commands.ShowBook"),
     ("SHOW NET", "commands.ShowNet"),
     ("SHOW DISK node", "commands.ShowDisk"),
+    ("SHOW UNDO node", "commands.ShowUndo"),
 )
 
 

@@ -17,12 +17,12 @@ use Rattle.run_rules.specs.Lines.{page_lines}
 use Rattle.run_rules.specs.Past.{failed_start, start_refused, is_stop_of, ends_calls, report_after}
 use Rattle.run_rules.specs.RunReport.{Past, RunReport, node_name}
 use Rattle.run_rules.specs.Scripts.{IsTheRunOf}
-use Rattle.run_claims.specs.Places.{past_upto}
+use Rattle.run_claims.specs.Places.{command_pends, past_upto}
 use Rattle.answer_origin_laws.proofs.CallTurnLemmas.{all_so}
 use Rattle.answer_origin_laws.proofs.ComeLemmas.{before_end, before_so, due_there}
 use Rattle.answer_origin_laws.proofs.UptoLemmas.{none_more}
 use Rattle.answer_done_laws.proofs.LineStayLemmas.{finished_grows, stopped_grows, input_follow}
-use Rattle.answer_once_laws.specs.OnceLaws.{EndsPendingCall, By_node, Node_is_down, IsAnswer, Ends_pending_call, Is_fine, Is_refused, Is_shown, IsNotice, Point_is_reached, Node_stopped, Messages_are_left, AreNotices, AnswersOnce, At_once, Ends_later, waiting, said_of, is_pending, EndsInThisCommand, LaterAnswersStandWhereCallsEnd, EveryCommandIsAnsweredOnce}
+use Rattle.answer_once_laws.specs.OnceLaws.{EndsPendingCall, By_node, Node_is_down, IsAnswer, Ends_pending_call, Is_fine, Is_refused, Is_shown, IsNotice, Point_is_reached, Node_stopped, Messages_are_left, AreNotices, AnswersOnce, At_once, Ends_later, waiting, said_of, EndsInThisCommand, LaterAnswersStandWhereCallsEnd, EveryCommandIsAnsweredOnce}
 use Rattle.answer_once_laws.proofs.CallListLemmas.{pends}
 use Rattle.answer_once_laws.proofs.OnceBeginLemmas.{said_page, calls_kept}
 use Rattle.answer_once_laws.proofs.OnceLemmas.{after_is, begins_so, once_at, each_is_answered_once, all_are_answered_once}
@@ -136,7 +136,7 @@ module _ (t : History) (run : IsTheRunOf t) (i : ℕ) where
 
   -- ---- a call that ends
 
-  module _ (c : ℕ) (first : 1 ≤ c) (less : c < f.command) (pending : is_pending t i c ≡ true) (over : is_pending t (i + 1) c ≡ false) where
+  module _ (c : ℕ) (first : 1 ≤ c) (less : c < f.command) (pending : command_pends t i c ≡ true) (over : command_pends t (i + 1) c ≡ false) where
     abbrev q : Past
     q = past_upto t (i + 1)
 
@@ -176,7 +176,7 @@ module _ (t : History) (run : IsTheRunOf t) (i : ℕ) where
         by true is at low = let same : c ≡ b = eqb-true c b is in absurd (omega (arith, same, at, low))
 
     ends_by : (o : Option Happening) → slice_get t.trace i ≡ o → EndsInThisCommand t i c
-    ends_by None none = absurd (let same : is_pending t (i + 1) c ≡ is_pending t i c = ap (λ (x : Past). pends c x.run_report.calls) (none_more t i none) in cc (same, pending, over))
+    ends_by None none = absurd (let same : command_pends t (i + 1) c ≡ command_pends t i c = ap (λ (x : Past). pends c x.run_report.calls) (none_more t i none) in cc (same, pending, over))
     ends_by (Some (happenings.Begun b)) there = absurd (no_begin b there)
     ends_by (Some (happenings.Turn u)) there = ends_here (happenings.Turn u) there tt
     ends_by (Some (happenings.Stopped n)) there = ends_here (happenings.Stopped n) there tt

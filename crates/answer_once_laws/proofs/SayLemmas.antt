@@ -129,6 +129,7 @@ module _ (t : History) (f : Facts) (told : RunReport) (r c : ℕ) (past : AllByR
   says_so commands.ShowBook named = at_once commands.ShowBook named _ refl refl (Is_shown f refl)
   says_so commands.ShowNet named = at_once commands.ShowNet named _ refl refl (Is_shown f refl)
   says_so (commands.ShowDisk n) named = at_once (commands.ShowDisk n) named _ refl refl (Is_shown f refl)
+  says_so (commands.ShowUndo n) named = up_or (commands.ShowUndo n) named n _ refl refl (Is_shown f refl)
   says_so (commands.Node name strength links undo) named = at_once (commands.Node name strength links undo) named ok refl refl Is_fine
   says_so (commands.Cut a b) named = at_once (commands.Cut a b) named ok refl refl Is_fine
   says_so (commands.Join a b) named = at_once (commands.Join a b) named ok refl refl Is_fine

@@ -2,7 +2,7 @@
 -- pending call ended, and notices of what happened beside. (Database Administrator's Guide, "Distributed Transactions
 -- Concepts": the session that waits for its call.)
 use Rattle.std.specs.Prelude.{◌≡◌, ◌≢◌, ◌⊎◌, ℕ, ◌+◌, ◌<◌, ◌≤◌, ◌==◌, Bool, true, false, List, [], ◌∷◌, ◌++◌, map, filter, length, codes}
-use Rattle.std.specs.List.{AllByRecursion, list_any}
+use Rattle.std.specs.List.{AllByRecursion}
 use Rattle.node_rules.specs.Data.{Answer, Place}
 use Rattle.node_rules.specs.Words.{one}
 use Rattle.node_rules.specs.Ids.{decimal}
@@ -19,7 +19,7 @@ use Rattle.run_rules.specs.Reported.{IsBetweenCommands, past_of}
 use Rattle.run_rules.specs.RunReport.{node_name}
 use Rattle.run_rules.specs.Scripts.{IsTheRunOf}
 use Rattle.run_rules.specs.Shown.{shown}
-use Rattle.run_claims.specs.Places.{past_upto, reported_of}
+use Rattle.run_claims.specs.Places.{command_pends, past_upto, reported_of}
 
 -- ---- what a line says
 
@@ -35,6 +35,7 @@ is_show (commands.ShowNeighbors n) = true
 is_show commands.ShowBook = true
 is_show commands.ShowNet = true
 is_show (commands.ShowDisk n) = true
+is_show (commands.ShowUndo n) = true
 is_show _ = false
 
 -- An answer of a command: what ends its call; `ok`; a refusal of the run itself, by its DTX number, but for DTX-05; what SHOW shows.
@@ -75,10 +76,6 @@ report_upto t i = all_lines (past_upto t i).facts (past_upto t i).run_report
 abbrev pub said_of : ℕ → List AnswerLine → List Said
 said_of command xs = map (λ (l : AnswerLine). l.said) (filter (λ (l : AnswerLine). l.command == command) xs)
 
--- whether a call of a command is pending
-abbrev pub is_pending : History → ℕ → ℕ → Bool
-is_pending t i command = list_any (λ c. c.command == command) (past_upto t i).run_report.calls
-
 -- a command was done: another one runs, or nothing of it is due any more
 abbrev pub WasDone : History → ℕ → ℕ → Type 0
 WasDone t i command =
@@ -86,7 +83,7 @@ WasDone t i command =
 
 -- After each happening each command that was done is answered once.
 abbrev pub EachIsAnsweredOnce : History → Type 0
-EachIsAnsweredOnce t = (i command : ℕ) → WasDone t i command → AnswersOnce t.places (command_at t.commands command) (is_pending t i command) (said_of command (report_upto t i))
+EachIsAnsweredOnce t = (i command : ℕ) → WasDone t i command → AnswersOnce t.places (command_at t.commands command) (command_pends t i command) (said_of command (report_upto t i))
 
 -- So it is of all commands in the whole report, where the script was run to its end.
 abbrev pub AllAreAnsweredOnce : History → Type 0
@@ -115,7 +112,7 @@ pub record EndsInThisCommand (t : History) (i command : ℕ) : Type 0 where
 
 -- So the answer that comes later stands with the command in whose course the call ended.
 abbrev pub LaterAnswersStandWhereCallsEnd : History → Type 0
-LaterAnswersStandWhereCallsEnd t = (i command : ℕ) → 1 ≤ command → command < (past_upto t i).facts.command → is_pending t i command ≡ true → is_pending t (i + 1) command ≡ false → EndsInThisCommand t i command
+LaterAnswersStandWhereCallsEnd t = (i command : ℕ) → 1 ≤ command → command < (past_upto t i).facts.command → command_pends t i command ≡ true → command_pends t (i + 1) command ≡ false → EndsInThisCommand t i command
 
 -- In the run of a script it is so.
 abbrev pub EveryCommandIsAnsweredOnce : Type 0

@@ -122,6 +122,7 @@ module _ (places : List Place) (asked : List Command) (p : Past) where
   act_begins commands.ShowBook c is = absurd cc
   act_begins commands.ShowNet c is = absurd cc
   act_begins (commands.ShowDisk n) c is = absurd cc
+  act_begins (commands.ShowUndo n) c is = absurd cc
 
   module _ (off : t.hold ≡ false) (c : ℕ) where
     flows_off : flows asked f t ≡ next_delivery asked f t (first_flying f.net)

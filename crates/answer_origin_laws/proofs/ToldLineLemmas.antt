@@ -52,6 +52,7 @@ module _ (places : List Place) (f : Facts) (t : RunReport) where
   says_world commands.ShowBook = (tt, tt)
   says_world commands.ShowNet = (tt, tt)
   says_world (commands.ShowDisk n) = (tt, tt)
+  says_world (commands.ShowUndo n) = up_world n _ (tt, tt)
   says_world _ = (tt, tt)
 
   over_world : AllWorld (over_line f t)

@@ -50,6 +50,7 @@ node_text names (commands.Reco node) = of_node names (codes "RECO ") node
 node_text names (commands.ShowPending node) = of_node names (codes "SHOW PENDING ") node
 node_text names (commands.ShowNeighbors node) = of_node names (codes "SHOW NEIGHBORS ") node
 node_text names (commands.ShowDisk node) = of_node names (codes "SHOW DISK ") node
+node_text names (commands.ShowUndo node) = of_node names (codes "SHOW UNDO ") node
 node_text names commands.ShowBook = codes "SHOW BOOK"
 node_text names commands.ShowNet = codes "SHOW NET"
 node_text names _ = []

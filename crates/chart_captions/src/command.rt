@@ -168,6 +168,7 @@ fn put_node_text(out: &mut Vec<u8>, names: &[Name], command: &Command) -> Result
         Command::ShowPending { node } => put_node(out, names, b"SHOW PENDING ", *node),
         Command::ShowNeighbors { node } => put_node(out, names, b"SHOW NEIGHBORS ", *node),
         Command::ShowDisk { node } => put_node(out, names, b"SHOW DISK ", *node),
+        Command::ShowUndo { node } => put_node(out, names, b"SHOW UNDO ", *node),
         Command::ShowBook => out.extend_from_slice(b"SHOW BOOK"),
         Command::ShowNet => out.extend_from_slice(b"SHOW NET"),
         _ => Ok(()),

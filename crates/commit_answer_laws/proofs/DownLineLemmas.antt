@@ -28,7 +28,7 @@ use Rattle.run_rules.specs.Scripts.{IsTheRunOf}
 use Rattle.run_rules.proofs.AtNodeLemmas.{stop_here}
 use Rattle.run_rules.proofs.ListLemmas.{all_append, all_weaker}
 use Rattle.run_base_laws.proofs.TurnEventLemmas.{all_both}
-use Rattle.run_claims.specs.Places.{past_upto, reported_of}
+use Rattle.run_claims.specs.Places.{command_pends, past_upto, reported_of}
 use Rattle.run_ready_laws.proofs.PendingLemmas.{called_at, there_called}
 use Rattle.answer_origin_laws.proofs.CallAtLemmas.{HasShape, found_at, named_so}
 use Rattle.answer_origin_laws.proofs.CallTurnLemmas.{all_so}
@@ -37,7 +37,7 @@ use Rattle.answer_origin_laws.proofs.NumberLemmas.{all_slice}
 use Rattle.answer_origin_laws.proofs.SameToldLemmas.{ToldBefore}
 use Rattle.answer_origin_laws.proofs.UptoLemmas.{may_at, none_more, one_more, stand_at}
 use Rattle.answer_done_laws.proofs.LineRunLemmas.{stop_told, told_at_last}
-use Rattle.commit_answer_laws.specs.DownLines.{DownLinesAreTrue, Has_stopped, IsDown, StoppedCallsAreTold, Was_down, is_pending}
+use Rattle.commit_answer_laws.specs.DownLines.{DownLinesAreTrue, Has_stopped, IsDown, StoppedCallsAreTold, Was_down}
 use Rattle.commit_answer_laws.proofs.LineHaveLemmas.{LineHas, LinesHave, finished_have, input_have, own_have, same_have, stopped_have, told_have}
 
 -- ---- commands and what is said
@@ -180,7 +180,7 @@ module _ (t : History) (run : IsTheRunOf t) where
             (λ failed. own_have Downs running (appends told n 3) (is_down t.places n ∷ []) (not_called running command refl none (is_down t.places n), tt) (same_have Downs running told (appends told n 3) refl refl now)) (λ other. now)
       ]
 
-      one_down : (c : Call) → HasShape t.commands c × (is_pending t i c.command ≡ true) → (c.node == n) ≡ true → Downs c.command (is_down t.places n)
+      one_down : (c : Call) → HasShape t.commands c × (command_pends t i c.command ≡ true) → (c.node == n) ≡ true → Downs c.command (is_down t.places n)
       one_down c so mine node session text at says =
           let named = named_so t.commands c so.0 in
           let both : commands.At c.node c.session named.0 ≡ commands.At node session text = sym named.1 ∙ at in
@@ -196,8 +196,8 @@ module _ (t : History) (run : IsTheRunOf t) where
       left_have : LinesHave Downs running left
       left_have =
           stopped_have Downs running reached t.places n falls told.calls
-          (all_weaker (λ (c : Call). HasShape t.commands c × (is_pending t i c.command ≡ true)) (λ (c : Call). (c.node == n) ≡ true → Downs c.command (is_down t.places n)) one_down told.calls
-          (all_both (HasShape t.commands) (λ (c : Call). is_pending t i c.command ≡ true) told.calls (all_so t run i).shapes (each_pends told.calls)))
+          (all_weaker (λ (c : Call). HasShape t.commands c × (command_pends t i c.command ≡ true)) (λ (c : Call). (c.node == n) ≡ true → Downs c.command (is_down t.places n)) one_down told.calls
+          (all_both (HasShape t.commands) (λ (c : Call). command_pends t i c.command ≡ true) told.calls (all_so t run i).shapes (each_pends told.calls)))
           (same_have Downs running (start_refused t.places f told command n) falls refl refl refused_have)
 
       stop_have : LinesHave Downs running (stop_line t.places left command n)

@@ -20,6 +20,7 @@ use Rattle.node_rules.specs.Records.{nothing_stored, applied, stored_by}
 use Rattle.node_rules.specs.Sessions.{fresh_session}
 use Rattle.node_rules.specs.Turn.{made, start_of}
 use Rattle.node_ready_laws.specs.Ready.{IsReady}
+use Rattle.node_undo_laws.specs.Kept.{HasUndo}
 use Rattle.node_ready_laws.proofs.ListLemmas.{all_last, all_weaker}
 use Rattle.record_log.specs.Held.{HoldRecords, HoldOneList}
 use Rattle.redo_record.specs.Durable.{durable_after}
@@ -96,15 +97,17 @@ all_fresh : (n : ℕ) → AllByRecursion (λ (s : Session). s.seq ≤ low_limit)
 all_fresh zero = tt
 all_fresh (suc n) = (omega arith, all_fresh n)
 
-start_kept : StartsKeepBytes → (p : Place) (rs : List RedoRecord) → AllByRecursion NamesTable rs → AllByRecursion IsScnLow rs → IsSmallPlace p → IsReady p (start_of rs) → IsKeptWithin low_limit p (start_of rs)
+start_kept : StartsKeepBytes → (p : Place) (rs : List RedoRecord) → AllByRecursion NamesTable rs → AllByRecursion IsScnLow rs → IsSmallPlace p → IsReady p (start_of rs) → HasUndo p (start_of rs) → IsKeptWithin low_limit p (start_of rs)
 unfolding start_of
-start_kept law p rs names scns small ready = record {
+start_kept law p rs names scns small ready undo = record {
   ready = ready;
+  undo = undo;
   bytes = law rs names;
   within = record { clock = scns_low nothing_stored rs (omega arith) scns; opens = omega arith; seqs = all_fresh 64; calls = tt };
   low = omega arith;
   nodes = small.nodes;
   links = small.links;
+  extents = small.extents;
 }
 
 kept_at : (p : Place) (k : NodeState) (node : Node DiskState) → kept_of node ≡ k → place_of node ≡ p → IsKeptWithin low_limit p k → IsKeptWithin low_limit (place_of node) (kept_of node)
@@ -113,22 +116,25 @@ kept_at p k node is there kept = subst (λ (q : Place). IsKeptWithin low_limit q
 ready_at : (p : Place) (k : NodeState) (node : Node DiskState) → kept_of node ≡ k → place_of node ≡ p → IsReady (place_of node) (kept_of node) → IsReady p k
 ready_at p k node is there ready = subst (λ (q : Place). IsReady q k) there (subst (λ (x : NodeState). IsReady (place_of node) x) is ready)
 
+undo_at : (p : Place) (k : NodeState) (node : Node DiskState) → kept_of node ≡ k → place_of node ≡ p → HasUndo (place_of node) (kept_of node) → HasUndo p k
+undo_at p k node is there undo = subst (λ (q : Place). HasUndo q k) there (subst (λ (x : NodeState). HasUndo (place_of node) x) is undo)
+
 alone_by : StartsKeepBytes → (p : Place) (rs : List RedoRecord) (node : Node DiskState) → AllByRecursion NamesTable rs → AllByRecursion IsScnLow rs → IsSmallPlace p → kept_of node ≡ start_of rs → place_of node ≡ p
-    → IsRunning bytes_of images_of node → IsReady (place_of node) (kept_of node) → CanBeStarted bytes_of images_of (disk_of node) → IsAlone low_limit node
-alone_by law p rs node names scns small is there running ready starts = record {
+    → IsRunning bytes_of images_of node → IsReady (place_of node) (kept_of node) → HasUndo (place_of node) (kept_of node) → CanBeStarted p.undo bytes_of images_of (disk_of node) → IsAlone low_limit node
+alone_by law p rs node names scns small is there running ready undo starts = record {
   running = running;
-  kept = kept_at p (start_of rs) node is there (start_kept law p rs names scns small (ready_at p (start_of rs) node is there ready));
-  starts = starts;
+  kept = kept_at p (start_of rs) node is there (start_kept law p rs names scns small (ready_at p (start_of rs) node is there ready) (undo_at p (start_of rs) node is there undo));
+  starts = subst (λ (n : ℕ). CanBeStarted n bytes_of images_of (disk_of node)) small.extents starts;
 }
 
 pub made_alone : StartsKeepBytes → (p : Place) (node : Node DiskState) → IsSmallPlace p → kept_of node ≡ made → place_of node ≡ p → IsRunning bytes_of images_of node → IsReady (place_of node) (kept_of node)
-    → CanBeStarted bytes_of images_of (disk_of node) → IsAlone low_limit node
-made_alone law p node small is there running ready starts = alone_by law p (records.Boot 1 ∷ []) node (tt, tt) (omega arith, tt) small is there running ready starts
+    → HasUndo (place_of node) (kept_of node) → CanBeStarted p.undo bytes_of images_of (disk_of node) → IsAlone low_limit node
+made_alone law p node small is there running ready undo starts = alone_by law p (records.Boot 1 ∷ []) node (tt, tt) (omega arith, tt) small is there running ready undo starts
 
 pub started_alone : StartsKeepBytes → (p : Place) (rs : List RedoRecord) (node : Node DiskState) → AllByRecursion IsLow rs → IsSmallPlace p → kept_of node ≡ start_of (rs ++ next_boot rs ∷ []) → place_of node ≡ p
-    → IsRunning bytes_of images_of node → IsReady (place_of node) (kept_of node) → CanBeStarted bytes_of images_of (disk_of node) → IsAlone low_limit node
-started_alone law p rs node low small is there running ready starts =
+    → IsRunning bytes_of images_of node → IsReady (place_of node) (kept_of node) → HasUndo (place_of node) (kept_of node) → CanBeStarted p.undo bytes_of images_of (disk_of node) → IsAlone low_limit node
+started_alone law p rs node low small is there running ready undo starts =
     alone_by law p (rs ++ next_boot rs ∷ []) node
     (all_last NamesTable rs (next_boot rs) (all_weaker IsLow NamesTable (λ r at. at.names) rs low) tt)
     (all_last IsScnLow rs (next_boot rs) (all_weaker IsLow IsScnLow (λ r at. at.scn) rs low) (omega arith))
-    small is there running ready starts
+    small is there running ready undo starts

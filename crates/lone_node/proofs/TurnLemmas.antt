@@ -17,7 +17,7 @@ use Rattle.node_disk.specs.declared.incoming.Incoming.{Incoming}
 use Rattle.node_disk.specs.declared.incoming.Incoming.TheVariants as comings
 use Rattle.node_disk.specs.declared.node.Node.{Node}
 use Rattle.node_disk.proofs.NeedLemmas.{all_mailed, room_of}
-use Rattle.lone_node.specs.Played.{low_limit, IsPlayed, is_prepare, IsCalled, IsComing, is_commit, commits, is_working_phase, works, has_parent, IsWorking, HasParent, MeetsLives, bytes_of, images_of, IsKeptWithin, IsAlone}
+use Rattle.lone_node.specs.Played.{low_limit, IsPlayed, is_prepare, IsCalled, IsComing, is_commit, commits, is_working_phase, works, has_parent, IsWorking, HasParent, MeetsLives, undo_extents, bytes_of, images_of, IsKeptWithin, IsAlone}
 use Rattle.node_rules.specs.Data.{Stmt, BranchId, Phase, Live, Msg, Place, Input}
 use Rattle.node_rules.specs.Data.inputs
 use Rattle.node_rules.specs.Data.phases
@@ -32,6 +32,7 @@ use Rattle.node_rules.specs.Turn.{kind_scn, turn_of}
 use Rattle.node_ready_laws.specs.Names.{MakesNamed}
 use Rattle.node_ready_laws.specs.Ready.{IsReady, IsExpected, BringsWithin, NumbersStayWithin}
 use Rattle.node_ready_laws.specs.Rows.{MakesWhole}
+use Rattle.node_undo_laws.specs.Kept.{HasUndo}
 use Rattle.node_ready_laws.proofs.ListLemmas.{all_found, all_weaker}
 use Rattle.sql_statement.specs.Whole.{IsWhole}
 use Rattle.tran_ids.specs.Listed.{is_item_of}
@@ -160,6 +161,7 @@ module _ (bound : ℕ) (p : Place) (k : NodeState) (asks : Bool) (incoming : Inc
   able : IsAble p k
   able = record {
     ready = kept.ready;
+    undo = kept.undo;
     nodes = kept.nodes;
     links = kept.links;
     opens = opens_low;
@@ -185,14 +187,16 @@ module _ (bound : ℕ) (p : Place) (k : NodeState) (asks : Bool) (incoming : Inc
       sent = all_mailed (turn_of p k input).sent says.1;
     }
 
-    kept_after : NumbersStayWithin → IsReady p (turn_of p k input).after → IsKeptWithin (bound + 1) p (turn_of p k input).after
-    kept_after numbers_law ready = record {
+    kept_after : NumbersStayWithin → IsReady p (turn_of p k input).after → HasUndo p (turn_of p k input).after → IsKeptWithin (bound + 1) p (turn_of p k input).after
+    kept_after numbers_law ready undo = record {
       ready = ready;
+      undo = undo;
       bytes = says.0;
       within = numbers_law p k input bound is.expected.fit (brings_more low_limit bound input kept.low is.within) kept.within;
       low = let low = kept.low in omega (arith, low);
       nodes = kept.nodes;
       links = kept.links;
+      extents = kept.extents;
     }
 
 -- ---- tests of live branches
@@ -213,14 +217,19 @@ pub spellable : TurnsKeepBytes → RecordsHaveBytes → (bound : ℕ) (asks : Bo
 spellable bytes_law records_law bound asks node incoming alone few coming meets input read =
     has_spelling bound (place_of node) (kept_of node) asks incoming input alone.kept few coming meets read bytes_law records_law
 
+-- a node can start from its disk with the undo extents of all tests
+pub startable_so : (bound : ℕ) (node : Node DiskState) (disk : DiskState) → IsAlone bound node → CanBeStarted (place_of node).undo bytes_of images_of disk → CanBeStarted undo_extents bytes_of images_of disk
+startable_so bound node disk alone starts = subst (λ (n : ℕ). CanBeStarted n bytes_of images_of disk) alone.kept.extents starts
+
 pub still_alone : TurnsKeepBytes → NumbersStayWithin → (bound : ℕ) (asks : Bool) (before after : Node DiskState) (incoming : Incoming) (e : DurableTurn) → IsAlone bound before → bound < 1000000
     → IsComing asks incoming → MeetsLives asks incoming (kept_of before).lives → IsReadAs incoming e.input → Tells (turn_at before e.input) (kept_of after) e → IsRunning bytes_of images_of after
-    → IsReady (place_of after) (kept_of after) → place_of after ≡ place_of before → CanBeStarted bytes_of images_of (disk_of after) → IsAlone (bound + 1) after
-still_alone bytes_law numbers_law bound asks before after incoming e alone few coming meets read tells running ready place starts =
+    → IsReady (place_of after) (kept_of after) → HasUndo (place_of after) (kept_of after) → place_of after ≡ place_of before → CanBeStarted undo_extents bytes_of images_of (disk_of after) → IsAlone (bound + 1) after
+still_alone bytes_law numbers_law bound asks before after incoming e alone few coming meets read tells running ready undo place starts =
     let p : Place = place_of before in
     let o : TurnOutput = turn_of p (kept_of before) e.input in
     let here : IsReady p (kept_of after) = subst (λ (q : Place). IsReady q (kept_of after)) place ready in
-    let kept : IsKeptWithin (bound + 1) p o.after = kept_after bound p (kept_of before) asks incoming e.input alone.kept few coming meets read bytes_law numbers_law (subst (λ (k : NodeState). IsReady p k) tells.after here) in
+    let kept : IsKeptWithin (bound + 1) p o.after = kept_after bound p (kept_of before) asks incoming e.input alone.kept few coming meets read bytes_law numbers_law
+    (subst (λ (k : NodeState). IsReady p k) tells.after here) (subst (λ (k : NodeState). HasUndo p k) tells.after (subst (λ (q : Place). HasUndo q (kept_of after)) place undo)) in
     record {
       running = running;
       kept = subst (λ (q : Place). IsKeptWithin (bound + 1) q (kept_of after)) (sym place) (subst (λ (k : NodeState). IsKeptWithin (bound + 1) p k) (sym tells.after) kept);

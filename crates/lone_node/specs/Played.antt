@@ -22,6 +22,7 @@ use Rattle.node_disk.specs.declared.incoming.Incoming.{Incoming}
 use Rattle.node_disk.specs.declared.incoming.Incoming.TheVariants as comings
 use Rattle.node_disk.specs.declared.node.Node.{Node}
 use Rattle.node_ready_laws.specs.Ready.{IsReady, IsWithin}
+use Rattle.node_undo_laws.specs.Kept.{HasUndo}
 use Rattle.node_ready_laws.specs.Shapes.{TellsFew}
 use Rattle.sql_print.specs.Printing.{IsPrintable}
 use Rattle.sql_statement.specs.Whole.{IsWhole}
@@ -31,6 +32,10 @@ use Rattle.sql_statement.specs.Whole.{IsWhole}
 -- the greatest SCN in a message or a record of a test, and the greatest number of a start
 abbrev pub low_limit : ℕ
 low_limit = 1000
+
+-- the undo extents of a node of a test
+abbrev pub undo_extents : ℕ
+undo_extents = 64
 
 -- an answer that rows were changed
 abbrev pub IsChange : Answer → Type 0
@@ -116,27 +121,30 @@ images_of disk = IsImage disk.happenings
 -- What a node keeps in a test, whose numbers are within this bound.
 pub record IsKeptWithin (bound : ℕ) (p : Place) (k : NodeState) : Type 0 where
   pub ready : IsReady p k
+  pub undo : HasUndo p k
   pub bytes : KeepsBytes k
   pub within : IsWithin bound k
   pub low : low_limit ≤ bound
   pub nodes : length p.names ≤ node_limit
   pub links : p.links ≤ link_limit
+  pub extents : p.undo ≡ undo_extents
 
 -- A node that can take turns in a test.
 pub record IsAlone (bound : ℕ) (node : Node DiskState) : Type 0 where
   pub running : IsRunning bytes_of images_of node
   pub kept : IsKeptWithin bound (place_of node) (kept_of node)
-  pub starts : CanBeStarted bytes_of images_of (disk_of node)
+  pub starts : CanBeStarted undo_extents bytes_of images_of (disk_of node)
 
 -- A node of a test: it can take turns where it is up, and a node can start from its disk in any case.
 pub record IsInPlay (up : Bool) (bound : ℕ) (node : Node DiskState) : Type 0 where
   pub alone : up ≡ true → IsAlone bound node
-  pub starts : CanBeStarted bytes_of images_of (disk_of node)
+  pub starts : CanBeStarted undo_extents bytes_of images_of (disk_of node)
 
--- A place of a test: one of few nodes, with few links.
+-- A place of a test: one of few nodes, with few links and the undo extents of all tests.
 pub record IsSmallPlace (p : Place) : Type 0 where
   pub nodes : length p.names ≤ node_limit
   pub links : p.links ≤ link_limit
+  pub extents : p.undo ≡ undo_extents
 
 -- ---- starts
 

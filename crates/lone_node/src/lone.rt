@@ -2,7 +2,7 @@
 ghost use Rattle.std.specs.Prelude.{IfSome};
 ghost use Rattle.node_disk.specs.OnDisk.{disk_of};
 ghost use Rattle.node_disk.specs.Starts.{CanBeStarted};
-ghost use Rattle.lone_node.specs.Played.{bytes_of, images_of, IsAlone};
+ghost use Rattle.lone_node.specs.Played.{undo_extents, bytes_of, images_of, IsAlone};
 
 use crate::coming::Comes;
 use crate::places::place;
@@ -40,8 +40,8 @@ impl Model for LoneNode {
 /// The disk of a node that stops, with the power on again.
 #[tactic(auto, using(crate::proofs::PlayLemmas::powered))]
 fn fallen(node: Node<MemDisk>) -> MemDisk
-    requires { CanBeStarted bytes_of images_of (disk_of node) }
-    ensures { CanBeStarted bytes_of images_of result }
+    requires { CanBeStarted undo_extents bytes_of images_of (disk_of node) }
+    ensures { CanBeStarted undo_extents bytes_of images_of result }
 {
     let mut disk = node.into_disk();
     disk.power_on();
@@ -118,7 +118,7 @@ impl LoneNode {
 
     // Stops the node: its disk, and its number.
     fn stop(self) -> (MemDisk, u8)
-        ensures { CanBeStarted bytes_of images_of result.0 }
+        ensures { CanBeStarted undo_extents bytes_of images_of result.0 }
     {
         let LoneNode {
             node,

@@ -3,7 +3,7 @@ ghost use Rattle.std.specs.Prelude.{◌≡◌, ◌<◌, List, length, true, IfSo
 ghost use Rattle.std.specs.List.{AllByRecursion, list_all};
 ghost use Rattle.block_disk.specs.MemDisk.{DiskState, blank};
 ghost use Rattle.node_disk.specs.Starts.{CanBeStarted};
-ghost use Rattle.lone_node.specs.Played.{bytes_of, images_of, decided_at as decided_at_by, scn_in as scn_in_by, boot_in as boot_in_by, is_synonym as is_synonym_by, is_low as is_low_by, IsLow, IsAlone, IsSmallPlace};
+ghost use Rattle.lone_node.specs.Played.{undo_extents, bytes_of, images_of, decided_at as decided_at_by, scn_in as scn_in_by, boot_in as boot_in_by, is_synonym as is_synonym_by, is_low as is_low_by, IsLow, IsAlone, IsSmallPlace};
 ghost use Rattle.record_log.specs.Held.{HoldRecords};
 ghost use Rattle.redo_record.specs.declared.record.RedoRecord.{RedoRecord as RedoRecordBy};
 
@@ -157,7 +157,7 @@ fn starts_from(
 ) -> Option<Node<MemDisk>>
     requires held { HoldRecords records.now (bytes_of disk) }
     requires low { AllByRecursion IsLow records.now }
-    requires starts { CanBeStarted bytes_of images_of disk }
+    requires starts { CanBeStarted undo_extents bytes_of images_of disk }
     requires small { IsSmallPlace place }
     ensures { IfSome result (IsAlone 1000) }
 {
@@ -177,7 +177,7 @@ fn starts_from(
 /// The node that starts from a disk. None where a condition of the start does not hold, or memory runs out.
 #[tactic(auto, using(crate::proofs::StartLemmas::all_low))]
 pub(crate) fn starts(alloc: Global, disk: MemDisk, place: Place) -> Option<Node<MemDisk>>
-    requires starts { CanBeStarted bytes_of images_of disk }
+    requires starts { CanBeStarted undo_extents bytes_of images_of disk }
     requires small { IsSmallPlace place }
     ensures { IfSome result (IsAlone 1000) }
 {

@@ -3,7 +3,7 @@ ghost use Rattle.std.specs.Prelude.{◌≡◌, ◌<◌, ◌+◌, true, OnOk};
 ghost use Rattle.std.specs.List.{AllByRecursion};
 ghost use Rattle.node_disk.specs.OnDisk.{disk_of, kept_of};
 ghost use Rattle.node_disk.specs.Starts.{CanBeStarted};
-ghost use Rattle.lone_node.specs.Played.{commits as commits_by, works as works_by, IsWorking, HasParent, IsComing, MeetsLives, bytes_of, images_of, IsAlone};
+ghost use Rattle.lone_node.specs.Played.{commits as commits_by, works as works_by, IsWorking, HasParent, IsComing, MeetsLives, undo_extents, bytes_of, images_of, IsAlone};
 
 use crate::coming::{Comes, incoming};
 use block_disk::MemDisk;
@@ -95,7 +95,7 @@ fn turn(
     requires coming { IsComing asks incoming }
     requires meets { MeetsLives asks incoming (kept_of node.old).lives }
     ensures alone { OnOk result (IsAlone (bound + 1) node.new) }
-    ensures starts { CanBeStarted bytes_of images_of (disk_of node.new) }
+    ensures starts { CanBeStarted undo_extents bytes_of images_of (disk_of node.new) }
 {
     messages_fit();
     records_fit();
@@ -118,7 +118,7 @@ fn take_this(
     requires coming { IsComing asks incoming }
     ensures alone { OnOk result (IsAlone (bound + 1) node.new) }
     ensures few { OnOk result (bound < 1000000) }
-    ensures starts { CanBeStarted bytes_of images_of (disk_of node.new) }
+    ensures starts { CanBeStarted undo_extents bytes_of images_of (disk_of node.new) }
 {
     if may_take(bound, node.lives(), &incoming, asks) {
         turn(node, bound, incoming, asks, points)
@@ -140,7 +140,7 @@ pub(crate) fn take(
     requires alone { IsAlone bound node.old }
     ensures alone { OnOk result (IsAlone (bound + 1) node.new) }
     ensures few { OnOk result (bound < 1000000) }
-    ensures starts { CanBeStarted bytes_of images_of (disk_of node.new) }
+    ensures starts { CanBeStarted undo_extents bytes_of images_of (disk_of node.new) }
 {
     match incoming(alloc, comes) {
         Some((incoming, asks)) => take_this(node, bound, incoming, asks, points),

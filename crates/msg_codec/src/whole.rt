@@ -33,6 +33,17 @@ fn take_whole(alloc: Global, bytes: &[u8]) -> Result<Msg, TakeErr>
     }
 }
 
+/// Why no message is made of bytes that were not read as one.
+fn wire_err(err: TakeErr) -> WireErr
+    ensures none { result ≡ WireErr.NotAMessage → err ≡ TakeErr.NoSpelling }
+    ensures memory { result ≡ WireErr.NoMemory → err ≡ TakeErr.NoMemory }
+{
+    match err {
+        TakeErr::NoSpelling => WireErr::NotAMessage,
+        TakeErr::NoMemory => WireErr::NoMemory,
+    }
+}
+
 /// The message that these bytes spell. Fails with `NotAMessage` exactly where they spell none, and with `NoMemory` where
 /// memory runs out.
 pub fn decode_msg(alloc: Global, bytes: &[u8]) -> Result<Msg, WireErr>
@@ -46,7 +57,6 @@ pub fn decode_msg(alloc: Global, bytes: &[u8]) -> Result<Msg, WireErr>
 {
     match take_whole(alloc, bytes) {
         Ok(msg) => Ok(msg),
-        Err(TakeErr::NoSpelling) => Err(WireErr::NotAMessage),
-        Err(TakeErr::NoMemory) => Err(WireErr::NoMemory),
+        Err(err) => Err(wire_err(err)),
     }
 }

@@ -8,6 +8,7 @@ ghost use Rattle.node_ready_laws.specs.Rows.{HasRows};
 ghost use Rattle.node_ready_laws.specs.Following.{MayFollow};
 ghost use Rattle.node_drafts.specs.Gives.{GivesDraft};
 ghost use Rattle.node_memory.specs.Parts.{kept_in, stored_in};
+ghost use Rattle.node_memory.specs.Room.{HasRoomFor};
 
 use dtx_values::{Answer, Done, Duplicate, INVALID_SQL, Link, Listing, Synonym, Table};
 use node_drafts::{LINK_USED, NAME_USED, TurnDraft, ended};
@@ -107,7 +108,8 @@ fn write(
     redo: RedoRecord,
     done: Done,
 ) -> Result<TurnDraft, AllocError>
-    requires { MayFollow (stored_in memory.old) redo }
+    requires follow { MayFollow (stored_in memory.old) redo }
+    requires room { HasRoomFor memory.old.store redo }
     ensures gives { IfOk result (λ draft. GivesDraft (writes_of (kept_in memory.old) session redo done) (kept_in memory.new) draft) }
     ensures place { memory.new.place ≡ memory.old.place }
 {

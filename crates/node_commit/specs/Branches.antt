@@ -18,6 +18,7 @@ use Rattle.node_rules.specs.Sessions.{commit_ended}
 use Rattle.node_rules.specs.NodeState.{NodeState, TurnDraft, nothing, ending, live_id, live_at, kept_row_at, without_branch}
 use Rattle.node_rules.specs.Prepare.{without_read_keys}
 use Rattle.node_memory.specs.declared.memory.Memory.{Memory}
+use Rattle.node_memory.specs.Leaving.{HasItsUndo}
 use Rattle.node_memory.specs.Parts.{kept_in}
 
 -- nothing where the branch is not live
@@ -65,10 +66,11 @@ abbrev pub left_by : NodeState → BranchId → Option RedoRecord → NodeState
 left_by k b None = k
 left_by k b (Some r) = with_record (without_branch k b) r
 
--- A branch may become sealed or decide: it is not in doubt yet, and the clock has a number left.
+-- A branch may become sealed or decide: it is not in doubt yet, it has the undo of its changes, and the clock has a number left.
 pub record MayCommit (m : Memory) (b : BranchId) : Type 0 where
   pub clock : m.clock < 2 ^ 48 - 1
   pub apart : is_in_doubt m.store.doubts b ≡ false
+  pub undo : HasItsUndo (kept_in m) b
 
 -- a branch may do so, where it is live
 abbrev pub MayCommitWhereLive : Memory → BranchId → Type 0

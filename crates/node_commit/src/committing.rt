@@ -4,6 +4,7 @@ ghost use Rattle.node_rules.specs.Commit.{decided_sessions, decision_answers as 
 ghost use Rattle.node_rules.specs.Data.kinds;
 ghost use Rattle.node_rules.specs.Data.records;
 ghost use Rattle.node_rules.specs.Sessions.{commit_answer as commit_answer_of, commit_complete as commit_complete_of, commit_ended};
+ghost use Rattle.node_memory.specs.Room.{HasRoomFor};
 ghost use Rattle.node_memory.specs.Parts.{stored_in, kept_in};
 ghost use Rattle.node_ready_laws.specs.Following.{MayFollow};
 ghost use Rattle.node_drafts.specs.Gives.{GivesDraft};
@@ -66,7 +67,8 @@ pub(crate) fn taken_in(
     alloc: Global,
     draft: TurnDraft,
 ) -> Result<TurnDraft, AllocError>
-    requires { IfSome draft.wrote (MayFollow (stored_in memory.old)) }
+    requires follow { IfSome draft.wrote (MayFollow (stored_in memory.old)) }
+    requires room { IfSome draft.wrote (HasRoomFor memory.old.store) }
     ensures draft { IfOk result (λ same. same ≡ draft) }
     ensures kept { OnOk result (kept_in memory.new ≡ with_wrote (kept_in memory.old) draft.wrote) }
     ensures place { memory.new.place ≡ memory.old.place }
@@ -88,7 +90,8 @@ fn learns(
     decision: Decision,
     draft: TurnDraft,
 ) -> Result<TurnDraft, AllocError>
-    requires { IfSome draft.wrote (MayFollow (stored_in memory.old)) }
+    requires follow { IfSome draft.wrote (MayFollow (stored_in memory.old)) }
+    requires room { IfSome draft.wrote (HasRoomFor memory.old.store) }
     ensures draft { IfOk result (λ same. same ≡ draft) }
     ensures kept { OnOk result (kept_in memory.new ≡ with_wrote (record (kept_in memory.old) { sessions = decided_sessions memory.old.sessions branch.now decision }) draft.wrote) }
     ensures place { memory.new.place ≡ memory.old.place }
@@ -104,7 +107,8 @@ fn forgets(
     branch: &BranchId,
     draft: TurnDraft,
 ) -> Result<TurnDraft, AllocError>
-    requires { IfSome draft.wrote (MayFollow (stored_in memory.old)) }
+    requires follow { IfSome draft.wrote (MayFollow (stored_in memory.old)) }
+    requires room { IfSome draft.wrote (HasRoomFor memory.old.store) }
     ensures draft { IfOk result (λ same. same ≡ draft) }
     ensures kept { OnOk result (kept_in memory.new ≡ with_wrote (record (kept_in memory.old) { sessions = commit_ended memory.old.sessions branch.now }) draft.wrote) }
     ensures place { memory.new.place ≡ memory.old.place }

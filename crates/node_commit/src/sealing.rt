@@ -7,7 +7,7 @@ ghost use Rattle.node_rules.specs.Data.kinds as kinds;
 ghost use Rattle.node_rules.specs.NodeState.{to_one as to_one_of};
 ghost use Rattle.node_rules.specs.Prepare.{seals as seals_of, sealed_record as sealed_record_of};
 ghost use Rattle.node_memory.specs.Parts.{kept_in};
-ghost use Rattle.node_memory.specs.Leaving.{IsOwnSeal};
+ghost use Rattle.node_memory.specs.Leaving.{IsOwnSeal, HasItsUndo};
 ghost use Rattle.node_drafts.specs.Gives.{GivesDraft};
 ghost use Rattle.node_commit.specs.Branches.{at_live, left_by};
 
@@ -46,6 +46,7 @@ fn sealed(
 ) -> Result<TurnDraft, AllocError>
     requires apart { is_in_doubt memory.old.store.doubts branch.now ≡ false }
     requires own { IfSome draft.wrote (IsOwnSeal (kept_in memory.old) branch.now) }
+    requires undo { HasItsUndo (kept_in memory.old) branch.now }
     ensures draft { IfOk result (λ same. same ≡ draft) }
     ensures kept { OnOk result (kept_in memory.new ≡ left_by (kept_in memory.old) branch.now draft.wrote) }
     ensures place { memory.new.place ≡ memory.old.place }
@@ -86,7 +87,8 @@ pub(crate) fn seals_prepared(
     alloc: Global,
     branch: &BranchId,
 ) -> Result<TurnDraft, AllocError>
-    requires { is_in_doubt memory.old.store.doubts branch.now ≡ false }
+    requires apart { is_in_doubt memory.old.store.doubts branch.now ≡ false }
+    requires undo { HasItsUndo (kept_in memory.old) branch.now }
     ensures gives { IfOk result (λ draft. GivesDraft (at_live (kept_in memory.old) branch.now (λ l. seals_of (kept_in memory.old) l None (to_one_of l.me kinds.Prepared l.parent))) (kept_in memory.new) draft) }
     ensures place { memory.new.place ≡ memory.old.place }
 {
@@ -108,7 +110,8 @@ pub(crate) fn seals_and_passes(
     branch: &BranchId,
     number: u8,
 ) -> Result<TurnDraft, AllocError>
-    requires { is_in_doubt memory.old.store.doubts branch.now ≡ false }
+    requires apart { is_in_doubt memory.old.store.doubts branch.now ≡ false }
+    requires undo { HasItsUndo (kept_in memory.old) branch.now }
     ensures gives { IfOk result (λ draft. GivesDraft (at_live (kept_in memory.old) branch.now (λ l. seals_of (kept_in memory.old) l (Some number) (to_one_of l.me kinds.CommitPoint (peer_of_number l number)))) (kept_in memory.new) draft) }
     ensures place { memory.new.place ≡ memory.old.place }
 {

@@ -1,5 +1,5 @@
 -- A node that can take a turn meets the conditions of each handler, also once it has heard the message that comes, and is ready
--- again after the turn.
+-- again and keeps its undo after the turn.
 use Rattle.std.proofs.Common.{◌≡◌, ℕ, ◌+◌, ◌<◌, ◌≤◌, ◌^◌, List, length, is_some, Option, None, Some, IfSome, refl, ap, subst, sym, arith}
 use Rattle.tran_ids.specs.declared.branch.BranchId.{BranchId}
 use Rattle.tran_ids.specs.Listed.{item_at}
@@ -17,6 +17,9 @@ use Rattle.node_ready_laws.specs.Shapes.{count_limit}
 use Rattle.node_ready_laws.specs.Ids.{LivesAreFree}
 use Rattle.node_ready_laws.specs.Ready.{IsReady, TurnsStayReady}
 use Rattle.node_ready_laws.specs.Sound.{IsNext}
+use Rattle.node_undo_laws.specs.Kept.{HasUndo}
+use Rattle.node_undo_laws.specs.Fits.{FitsDoubts}
+use Rattle.node_undo_laws.specs.Laws.{TurnsKeepUndo, RecordsFitDoubts}
 use Rattle.node_memory.specs.declared.memory.Memory.{Memory}
 use Rattle.node_memory.specs.Parts.{stored_in, kept_in}
 use Rattle.node_commit.specs.Branches.{MayCommit, MayCommitWhereLive}
@@ -70,7 +73,7 @@ has_few_with law m able b weight told few = law given_limit (unclocked m) (usabl
 
 may_commit_by : LivesAreFree → (m : Memory) → IsAble m.place (kept_in m) → (b : BranchId) (found : Option Live) → live_at (kept_in m) b ≡ found → IfSome found (λ l. MayCommit m b)
 may_commit_by law m able b None at = tt
-may_commit_by law m able b (Some l) at = record { clock = able.clock; apart = ap is_some (law (kept_in m) b l able.ready.ids at).1 }
+may_commit_by law m able b (Some l) at = record { clock = able.clock; apart = ap is_some (law (kept_in m) b l able.ready.ids at).1; undo = able.undo.stands.own b }
 
 pub may_commit : LivesAreFree → (m : Memory) → IsAble m.place (kept_in m) → (b : BranchId) → MayCommitWhereLive m b
 may_commit law m able b = may_commit_by law m able b (live_at (kept_in m) b) refl
@@ -84,6 +87,7 @@ raised_able p k m may =
     let clock = may.able.clock in
     record {
       ready = record { rows = may.able.ready.rows; names = may.able.ready.names; shape = may.able.ready.shape; ids = may.able.ready.ids };
+      undo = record { lives = may.able.undo.lives; keys = may.able.undo.keys; stands = may.able.undo.stands };
       nodes = may.able.nodes;
       links = may.able.links;
       opens = may.able.opens;
@@ -106,6 +110,18 @@ pub may_follow : TurnsStayReady → (m n : Memory) (input : Input) (served : Sta
     → IfSome served.wrote (IsNext (stored_in m))
 may_follow law m n input served may serves =
     subst (λ (wrote : Option RedoRecord). IfSome wrote (IsNext (stored_in m))) (sym serves.wrote) (law m.place (kept_in m) input may.expected may.able.ready).1
+
+-- the node keeps its undo, and its record fits beside the branches in doubt
+pub undo_kept : TurnsKeepUndo → (m n : Memory) (input : Input) (served : StampedTurn) → MayTake m.place (kept_in m) input → Serves (turn_of m.place (kept_in m) input) (kept_in n) served → n.place ≡ m.place
+    → HasUndo n.place (kept_in n)
+undo_kept law m n input served may serves place =
+    subst (λ (p : Place). HasUndo p (kept_in n)) (sym place)
+    (subst (λ (k : NodeState). HasUndo m.place k) (sym serves.after) (law m.place (kept_in m) input may.expected.fit may.able.ready.rows may.able.ready.ids may.able.undo))
+
+pub fits_doubts : RecordsFitDoubts → (m n : Memory) (input : Input) (served : StampedTurn) → MayTake m.place (kept_in m) input → Serves (turn_of m.place (kept_in m) input) (kept_in n) served
+    → IfSome served.wrote (FitsDoubts m.place.undo (stored_in m))
+fits_doubts law m n input served may serves =
+    subst (λ (wrote : Option RedoRecord). IfSome wrote (FitsDoubts m.place.undo (stored_in m))) (sym serves.wrote) (law m.place (kept_in m) input may.expected.fit may.able.ready.ids may.able.undo)
 
 -- a call that is refused
 pub refused_so : RefusedCallsLeaveAll → (p : Place) (k new : NodeState) (input : Input) (served : StampedTurn) → Serves (turn_of p k input) new served → IsRefused input served.ended → LeavesAll k (turn_of p k input)

@@ -10,15 +10,17 @@ use Rattle.node_rules.specs.NodeState.{NodeState}
 use Rattle.node_rules.specs.Client.{root_at}
 use Rattle.node_rules.specs.Turn.{kind_scn}
 use Rattle.node_ready_laws.specs.Ready.{IsReady, IsExpected}
+use Rattle.node_undo_laws.specs.Kept.{HasUndo}
 
 -- the greatest session, transaction and call number that a node may have given out: 2 ^ 32 - 66
 abbrev pub given_limit : ℕ
 given_limit = 4294967230
 
--- A node that can take a turn: it is ready, it is one of few nodes and has few links, and the numbers that it has given out and
--- its clock are below their limits.
+-- A node that can take a turn: it is ready and keeps its undo, it is one of few nodes and has few links, and the numbers that it has
+-- given out and its clock are below their limits.
 pub record IsAble (p : Place) (k : NodeState) : Type 0 where
   pub ready : IsReady p k
+  pub undo : HasUndo p k
   pub nodes : length p.names ≤ node_limit
   pub links : p.links ≤ link_limit
   pub opens : length k.opens ≤ given_limit

@@ -3,6 +3,8 @@ ghost use Rattle.std.specs.Prelude.{◌≡◌, IfOk, IfSome, OnOk};
 ghost use Rattle.node_rules.specs.Turn.{kind_scn as kind_scn_of, clock_raised_by, heard, draft_at, turn_of};
 ghost use Rattle.node_ready_laws.specs.Ready.{IsReady};
 ghost use Rattle.node_ready_laws.specs.Sound.{IsNext};
+ghost use Rattle.node_undo_laws.specs.Kept.{HasUndo};
+ghost use Rattle.node_undo_laws.specs.Fits.{FitsDoubts};
 ghost use Rattle.wire_msg.specs.declared.input.Input.TheVariants as inputs;
 ghost use Rattle.node_memory.specs.Parts.{stored_in, kept_in};
 ghost use Rattle.node_drafts.specs.Gives.{GivesDraft};
@@ -20,6 +22,7 @@ use crate::served::stamped;
 use node_drafts::TurnDraft;
 use node_memory::Memory;
 use node_ready_laws::turns_stay_ready;
+use node_undo_laws::{records_fit_doubts, turns_keep_undo};
 use std::alloc::{AllocError, Global};
 use wire_msg::{Input, Kind, Msg};
 
@@ -79,14 +82,17 @@ fn take(memory: &mut Memory, alloc: Global, input: &Input) -> Result<StampedTurn
 }
 
 /// One turn of a node that can take this input. It changes what the node keeps, and tells the record, the messages and the calls
-/// that end. The node is ready again afterwards, and the record may stand next behind those that it has. Fails where memory runs
-/// out, and for no other reason; nothing is promised then of what the node keeps, except its place.
-#[tactic(auto, using(crate::proofs::AbleLaws::ready_again, crate::proofs::AbleLaws::may_follow, crate::proofs::AbleLaws::refused_so))]
+/// that end. The node is ready again afterwards and keeps its undo, and the record may stand next behind those that it has and fits
+/// beside the branches in doubt. Fails where memory runs out, and for no other reason; nothing is promised then of what the node
+/// keeps, except its place.
+#[tactic(auto, using(crate::proofs::AbleLaws::ready_again, crate::proofs::AbleLaws::may_follow, crate::proofs::AbleLaws::undo_kept, crate::proofs::AbleLaws::fits_doubts, crate::proofs::AbleLaws::refused_so))]
 pub fn turn(memory: &mut Memory, alloc: Global, input: &Input) -> Result<StampedTurn, AllocError>
     requires { MayTake memory.old.place (kept_in memory.old) input.now }
     ensures serves { IfOk result (λ served. Serves (turn_of memory.old.place (kept_in memory.old) input.now) (kept_in memory.new) served) }
     ensures ready { OnOk result (IsReady memory.new.place (kept_in memory.new)) }
     ensures follows { IfOk result (λ served. IfSome served.wrote (IsNext (stored_in memory.old))) }
+    ensures undo { OnOk result (HasUndo memory.new.place (kept_in memory.new)) }
+    ensures fits { IfOk result (λ served. IfSome served.wrote (FitsDoubts memory.old.place.undo (stored_in memory.old))) }
 
     // A call that is refused has changed no row and no lock, and writes no record.
     ensures refused { IfOk result (λ served. IsRefused input.now served.ended → LeavesAll (kept_in memory.old) (turn_of memory.old.place (kept_in memory.old) input.now)) }
@@ -94,5 +100,7 @@ pub fn turn(memory: &mut Memory, alloc: Global, input: &Input) -> Result<Stamped
 {
     refused_calls_leave_all();
     turns_stay_ready();
+    turns_keep_undo();
+    records_fit_doubts();
     take(memory, alloc, input)
 }

@@ -6,6 +6,7 @@ use Rattle.block_disk.specs.declared.disk.Disk.{Ghosts}
 use Rattle.block_disk.specs.Images.{AtEachMoment, IsOnly, AddsNone}
 use Rattle.redo_log.specs.Runs.{IsUntouched}
 use Rattle.node_ready_laws.specs.Ready.{IsReady}
+use Rattle.node_undo_laws.specs.Kept.{HasUndo}
 use Rattle.node_rules.specs.Data.{Place, RedoRecord}
 use Rattle.node_rules.specs.NodeState.{NodeState}
 use Rattle.node_rules.specs.Points.{Point, passes}
@@ -74,9 +75,9 @@ module _ {D : Type 0} (d : Ghosts D) where
       record { content = ap d.content same; faults = ap d.faults same; calls = ap d.calls same; writes = ap d.writes same; plan = ap d.plan same }
 
   -- and at Ok the node can take the next turn
-  pub takes_next : {T E : Type 0} (r : Result T E) (node : Node D) → OnOk r (IsRunning d.content d.images node) → IsReady (place_of node) (kept_of node) → OnOk r (TakesNext d node)
-  takes_next (Ok v) node running ready = record { running = running; ready = ready }
-  takes_next (Err err) node running ready = tt
+  pub takes_next : {T E : Type 0} (r : Result T E) (node : Node D) → OnOk r (IsRunning d.content d.images node) → IsReady (place_of node) (kept_of node) → HasUndo (place_of node) (kept_of node) → OnOk r (TakesNext d node)
+  takes_next (Ok v) node running ready undo = record { running = running; ready = ready; undo = undo }
+  takes_next (Err err) node running ready undo = tt
 
 -- ---- a cut, part by part
 
@@ -126,22 +127,22 @@ end_parts d before now incoming points errs.NoMemory ends = record { is_cut = tt
 
 -- ---- what a node can start from
 
-module _ {D : Type 0} (content : D → List ℕ) (images : D → List ℕ → Type 0) where
+module _ {D : Type 0} (undo : ℕ) (content : D → List ℕ) (images : D → List ℕ → Type 0) where
   -- a disk from whose every moment a node can start
   pub can_start : (moment : D → ℕ) (images_since : D → ℕ → List ℕ → Type 0) → ((d : D) → images d (content d)) → ((d : D) (m : ℕ) (image : List ℕ) → m ≤ moment d → images d image → images_since d m image)
-      → (old now : D) → AtEachMoment moment images_since old now IsStartable → CanBeStarted content images now
+      → (old now : D) → AtEachMoment moment images_since old now (IsStartable undo) → CanBeStarted undo content images now
   can_start moment images_since reads counts old now each =
-      let crashed : (image : List ℕ) → images now image → IsStartable image = λ image is. each.each image (counts now (moment old) image each.later is) in
+      let crashed : (image : List ℕ) → images now image → IsStartable undo image = λ image is. each.each image (counts now (moment old) image each.later is) in
       record { now = crashed (content now) (reads now); crashed = crashed }
 
   -- one of which a crash leaves what it holds
-  pub starts_if_only : (disk : D) → IsOnly (content disk) (images disk) → IsStartable (content disk) → CanBeStarted content images disk
-  starts_if_only disk only start = record { now = start; crashed = λ image is. subst IsStartable (sym (only image is)) start }
+  pub starts_if_only : (disk : D) → IsOnly (content disk) (images disk) → IsStartable undo (content disk) → CanBeStarted undo content images disk
+  starts_if_only disk only start = record { now = start; crashed = λ image is. subst (IsStartable undo) (sym (only image is)) start }
 
   -- one that holds what another did, and of which a crash leaves no other bytes
-  pub starts_still : (old now : D) → content now ≡ content old → AddsNone (images old) (images now) → CanBeStarted content images old → CanBeStarted content images now
-  starts_still old now same adds can = record { now = subst IsStartable (sym same) can.now; crashed = λ image is. can.crashed image (adds image is) }
+  pub starts_still : (old now : D) → content now ≡ content old → AddsNone (images old) (images now) → CanBeStarted undo content images old → CanBeStarted undo content images now
+  starts_still old now same adds can = record { now = subst (IsStartable undo) (sym same) can.now; crashed = λ image is. can.crashed image (adds image is) }
 
 -- the disk of a node that is running
-pub starts_running : {D : Type 0} (content : D → List ℕ) (images : D → List ℕ → Type 0) (node : Node D) → IsRunning content images node → CanBeStarted content images (disk_of node)
-starts_running content images node runs = starts_if_only content images (disk_of node) runs.durable (runs.stands.0, runs.stands.1, runs.stands.2)
+pub starts_running : {D : Type 0} (content : D → List ℕ) (images : D → List ℕ → Type 0) (node : Node D) → IsRunning content images node → CanBeStarted (place_of node).undo content images (disk_of node)
+starts_running content images node runs = starts_if_only (place_of node).undo content images (disk_of node) runs.durable (runs.stands.0, runs.stands.1, runs.stands.2)

@@ -13,20 +13,23 @@ use Rattle.node_rules.specs.Turn.{start_of, made}
 use Rattle.node_ready_laws.specs.Following.{MayAllFollow}
 use Rattle.node_ready_laws.specs.Sound.{AreSound}
 use Rattle.node_ready_laws.specs.Ready.{IsReady, StartsAreReady}
+use Rattle.node_undo_laws.specs.Fits.{AllFitDoubts}
+use Rattle.node_undo_laws.specs.Kept.{HasUndo}
+use Rattle.node_undo_laws.specs.Laws.{StartsHaveUndo}
 use Rattle.node_memory.specs.declared.memory.Memory.{Memory}
 use Rattle.node_memory.specs.Parts.{stored_in, kept_in}
 use Rattle.node_disk.specs.Starts.{MayBeHad, last_boot, next_boot, MayBeMade}
 use Rattle.node_disk.specs.OnDisk.{StandsOn}
 use Rattle.node_disk.proofs.MomentLaws.{weaker}
-use Rattle.node_disk.proofs.StartLaws.{ready_started, stands_started}
+use Rattle.node_disk.proofs.StartLaws.{ready_started, undo_started, stands_started}
 
 pub none_booted : last_boot [] ≡ 0
 unfolding stored_by
 none_booted = refl
 
-pub none_had : MayBeHad []
-unfolding MayAllFollow AreSound
-none_had = record { follow = tt; sound = tt }
+pub none_had : (undo : ℕ) → MayBeHad undo []
+unfolding MayAllFollow AreSound AllFitDoubts
+none_had undo = record { follow = tt; sound = tt; fit = tt }
 
 -- the first start is the next one of no records
 pub made_so : start_of ([] ++ next_boot [] ∷ []) ≡ made
@@ -38,11 +41,15 @@ holds_first n bytes is hold = subst (λ (m : ℕ). HoldRecords (records.Boot m �
 
 pub ready_made : StartsAreReady → (p : Place) (k : NodeState) → k ≡ made → IsReady p k
 unfolding stored_by
-ready_made law p k kept = ready_started law p [] k none_had kept
+ready_made law p k kept = ready_started law p [] k (none_had p.undo) kept
 
-pub stands_made : (m : Memory) (bytes : List ℕ) → HoldRecords (records.Boot 1 ∷ []) bytes → kept_in m ≡ made → StandsOn bytes (stored_in m)
+pub undo_made : StartsHaveUndo → (p : Place) (k : NodeState) → k ≡ made → HasUndo p k
 unfolding stored_by
-stands_made m bytes hold kept = stands_started [] m bytes hold none_had kept
+undo_made law p k kept = undo_started law p [] k (none_had p.undo) kept
+
+pub stands_made : (undo : ℕ) (m : Memory) (bytes : List ℕ) → HoldRecords (records.Boot 1 ∷ []) bytes → kept_in m ≡ made → StandsOn undo bytes (stored_in m)
+unfolding stored_by
+stands_made undo m bytes hold kept = stands_started undo [] m bytes hold (none_had undo) kept
 
 -- no bytes are no log yet
 nothing_begun : MayBeBegun []

@@ -14,11 +14,15 @@ use Rattle.node_rules.specs.NodeState.{Stored, NodeState}
 use Rattle.node_rules.specs.Records.{nothing_stored, applied, stored_by, with_record}
 use Rattle.node_rules.specs.Turn.{start_of, kept_by}
 use Rattle.node_ready_laws.specs.Following.{MayFollow}
-use Rattle.node_ready_laws.specs.Sound.{IsNext}
 use Rattle.node_ready_laws.specs.Ready.{IsReady, StartsAreReady}
+use Rattle.node_undo_laws.specs.Fits.{FitsDoubts, AllFitDoubts}
+use Rattle.node_undo_laws.specs.Kept.{HasUndo}
+use Rattle.node_undo_laws.specs.Laws.{SealsHaveRoom, StartsHaveUndo}
+use Rattle.node_undo_laws.proofs.StartLemmas.{left_by, none_left}
 use Rattle.node_memory.specs.declared.memory.Memory.{Memory}
 use Rattle.node_memory.specs.Parts.{stored_in, kept_in}
-use Rattle.node_disk.specs.Starts.{MayBeHad, IsStartable, CanBeStarted, IsButForAcks, StartIsLeft, last_boot, next_boot}
+use Rattle.node_memory.specs.Room.{HasRoomFor, at_start, AllHaveRoom}
+use Rattle.node_disk.specs.Starts.{MayBeHad, MayBeNext, IsStartable, CanBeStarted, IsButForAcks, StartIsLeft, last_boot, next_boot}
 use Rattle.node_disk.specs.OnDisk.{StandsOn}
 use Rattle.node_disk.proofs.TurnLaws.{stored_last, had_next}
 
@@ -32,12 +36,25 @@ boot_spelled n low = (tt, low)
 pub boot_may_follow : (s : Stored) (n : ℕ) → MayFollow s (records.Boot n)
 boot_may_follow s n = record { listed = tt; stored = tt }
 
-boot_next : (rs : List RedoRecord) → IsNext (stored_by nothing_stored rs) (next_boot rs)
-boot_next rs = (record { listed = tt; stored = tt }, omega arith)
+-- it puts no branch in doubt
+boot_next : (undo : ℕ) (rs : List RedoRecord) → MayBeHad undo rs → MayBeNext undo (stored_by nothing_stored rs) (next_boot rs)
+boot_next undo rs had =
+    let room = (left_by undo nothing_stored rs had.follow had.fit (none_left undo)).stands.room in
+    ((record { listed = tt; stored = tt }, omega arith), record { free = tt; room = omega (arith, room) })
+
+-- at a start there is room for the undo of each branch that its record puts in doubt
+has_room : SealsHaveRoom → (undo : ℕ) (s : Stored) (r : RedoRecord) → FitsDoubts undo s r → HasRoomFor (at_start undo s) r
+has_room law undo s (records.Sealed r) fits = law undo s r fits
+has_room law undo s _ fits = tt
+
+pub all_have_room : SealsHaveRoom → (undo : ℕ) (s : Stored) (rs : List RedoRecord) → AllFitDoubts undo s rs → AllHaveRoom undo s rs
+unfolding AllFitDoubts AllHaveRoom
+all_have_room law undo s [] fit = tt
+all_have_room law undo s (r ∷ rs) fit = (has_room law undo s r fit.0, all_have_room law undo (applied s r) rs fit.1)
 
 -- with it a node has records that it may have
-pub had_started : (rs : List RedoRecord) → MayBeHad rs → MayBeHad (rs ++ next_boot rs ∷ [])
-had_started rs had = had_next rs (next_boot rs) had (boot_next rs)
+pub had_started : (undo : ℕ) (rs : List RedoRecord) → MayBeHad undo rs → MayBeHad undo (rs ++ next_boot rs ∷ [])
+had_started undo rs had = had_next undo rs (next_boot rs) had (boot_next undo rs had)
 
 -- ---- what the node keeps
 
@@ -63,23 +80,27 @@ unfolding applied durable_after
 boot_started rs m kept = boot_so (rs ++ next_boot rs ∷ []) m kept ∙ ap (λ (s : Stored). s.durable.boot) (stored_last nothing_stored rs (next_boot rs))
 
 -- it is ready for its next turn
-pub ready_started : StartsAreReady → (p : Place) (rs : List RedoRecord) (k : NodeState) → MayBeHad rs → k ≡ start_of (rs ++ next_boot rs ∷ []) → IsReady p k
+pub ready_started : StartsAreReady → (p : Place) (rs : List RedoRecord) (k : NodeState) → MayBeHad p.undo rs → k ≡ start_of (rs ++ next_boot rs ∷ []) → IsReady p k
 ready_started law p rs k had kept = subst (λ (x : NodeState). IsReady p x) (sym kept) (law p rs (last_boot rs + 1) had.follow had.sound (omega arith))
 
+-- and has its undo
+pub undo_started : StartsHaveUndo → (p : Place) (rs : List RedoRecord) (k : NodeState) → MayBeHad p.undo rs → k ≡ start_of (rs ++ next_boot rs ∷ []) → HasUndo p k
+undo_started law p rs k had kept = subst (λ (x : NodeState). HasUndo p x) (sym kept) (law p rs (last_boot rs + 1) had.follow had.fit)
+
 -- its records say what it stores
-stands_by : (rs : List RedoRecord) (m : Memory) (bytes : List ℕ) → HoldRecords rs bytes → MayBeHad rs → kept_in m ≡ start_of rs → StandsOn bytes (stored_in m)
+stands_by : (undo : ℕ) (rs : List RedoRecord) (m : Memory) (bytes : List ℕ) → HoldRecords rs bytes → MayBeHad undo rs → kept_in m ≡ start_of rs → StandsOn undo bytes (stored_in m)
 unfolding start_of
-stands_by rs m bytes hold had kept =
+stands_by undo rs m bytes hold had kept =
     (rs, hold, had, subst (λ (s : Stored). IsButForAcks (stored_by nothing_stored rs) s) (sym (ap (λ (k : NodeState). k.stored) kept)) refl)
 
-pub stands_started : (rs : List RedoRecord) (m : Memory) (bytes : List ℕ) → HoldRecords (rs ++ next_boot rs ∷ []) bytes → MayBeHad rs → kept_in m ≡ start_of (rs ++ next_boot rs ∷ []) → StandsOn bytes (stored_in m)
-stands_started rs m bytes hold had kept = stands_by (rs ++ next_boot rs ∷ []) m bytes hold (had_started rs had) kept
+pub stands_started : (undo : ℕ) (rs : List RedoRecord) (m : Memory) (bytes : List ℕ) → HoldRecords (rs ++ next_boot rs ∷ []) bytes → MayBeHad undo rs → kept_in m ≡ start_of (rs ++ next_boot rs ∷ []) → StandsOn undo bytes (stored_in m)
+stands_started undo rs m bytes hold had kept = stands_by undo (rs ++ next_boot rs ∷ []) m bytes hold (had_started undo rs had) kept
 
 -- ---- what was loaded
 
-pub had_of : {D : Type 0} (content : D → List ℕ) (images : D → List ℕ → Type 0) (disk : D) (found : List RedoRecord) → CanBeStarted content images disk
-    → ((rs : List RedoRecord) → HoldRecords rs (content disk) → found ≡ rs) → MayBeHad found
-had_of content images disk found can only = subst MayBeHad (sym (only can.now.0 can.now.1)) can.now.2
+pub had_of : {D : Type 0} (undo : ℕ) (content : D → List ℕ) (images : D → List ℕ → Type 0) (disk : D) (found : List RedoRecord) → CanBeStarted undo content images disk
+    → ((rs : List RedoRecord) → HoldRecords rs (content disk) → found ≡ rs) → MayBeHad undo found
+had_of undo content images disk found can only = subst (MayBeHad undo) (sym (only can.now.0 can.now.1)) can.now.2
 
 -- ---- what a fault leaves
 
@@ -106,16 +127,16 @@ left_writing (Some plan) mid before loaded after found only same goes grows = λ
 
 -- ---- at each moment
 
-module _ {D : Type 0} (moment : D → ℕ) (images_since : D → ℕ → List ℕ → Type 0) where
-  startable_boot : (rs : List RedoRecord) → MayBeHad rs → (image : List ℕ) → HoldWithOrWithout rs (next_boot rs) image → IsStartable image
+module _ {D : Type 0} (undo : ℕ) (moment : D → ℕ) (images_since : D → ℕ → List ℕ → Type 0) where
+  startable_boot : (rs : List RedoRecord) → MayBeHad undo rs → (image : List ℕ) → HoldWithOrWithout rs (next_boot rs) image → IsStartable undo image
   startable_boot rs had image may = elim may [
     | inl hold ↦ (rs, hold, had)
-    | inr hold ↦ (rs ++ next_boot rs ∷ [], hold, had_started rs had)
+    | inr hold ↦ (rs ++ next_boot rs ∷ [], hold, had_started undo rs had)
   ]
 
   -- while the record of a start is written
-  pub startable_begun : (old now : D) (rs : List RedoRecord) (boot : ℕ) → MayBeHad rs → boot ≡ last_boot rs + 1 → AtEachMoment moment images_since old now (HoldWithOrWithout rs (records.Boot boot))
-      → AtEachMoment moment images_since old now IsStartable
+  pub startable_begun : (old now : D) (rs : List RedoRecord) (boot : ℕ) → MayBeHad undo rs → boot ≡ last_boot rs + 1 → AtEachMoment moment images_since old now (HoldWithOrWithout rs (records.Boot boot))
+      → AtEachMoment moment images_since old now (IsStartable undo)
   startable_begun old now rs boot had is moments =
       let own = subst (λ (n : ℕ). AtEachMoment moment images_since old now (HoldWithOrWithout rs (records.Boot n))) is moments in
       record {
@@ -128,7 +149,7 @@ module _ {D : Type 0} (moment : D → ℕ) (images_since : D → ℕ → List �
       }
 
   -- while nothing is written
-  pub startable_left : (old now : D) (rs : List RedoRecord) → MayBeHad rs → AtEachMoment moment images_since old now (HoldRecords rs) → AtEachMoment moment images_since old now IsStartable
+  pub startable_left : (old now : D) (rs : List RedoRecord) → MayBeHad undo rs → AtEachMoment moment images_since old now (HoldRecords rs) → AtEachMoment moment images_since old now (IsStartable undo)
   startable_left old now rs had own = record {
     later = own.later;
     each = λ image since. (rs, own.each image since, had);
@@ -139,8 +160,8 @@ module _ {D : Type 0} (moment : D → ℕ) (images_since : D → ℕ → List �
   }
 
   -- while the log is loaded
-  pub startable_loaded : (old now : D) (images : List ℕ → Type 0) → ((image : List ℕ) → images image → IsStartable image) → AtEachMoment moment images_since old now images
-      → AtEachMoment moment images_since old now IsStartable
+  pub startable_loaded : (old now : D) (images : List ℕ → Type 0) → ((image : List ℕ) → images image → IsStartable undo image) → AtEachMoment moment images_since old now images
+      → AtEachMoment moment images_since old now (IsStartable undo)
   startable_loaded old now images all own = record {
     later = own.later;
     each = λ image since. all image (own.each image since);
@@ -151,7 +172,7 @@ module _ {D : Type 0} (moment : D → ℕ) (images_since : D → ℕ → List �
   }
 
   -- and then a record is written
-  pub startable_again : (old mid now : D) (images : List ℕ → Type 0) → ((image : List ℕ) → images image → IsStartable image) → AtEachMoment moment images_since old mid images
-      → AtEachMoment moment images_since mid now IsStartable → AtEachMoment moment images_since old now IsStartable
+  pub startable_again : (old mid now : D) (images : List ℕ → Type 0) → ((image : List ℕ) → images image → IsStartable undo image) → AtEachMoment moment images_since old mid images
+      → AtEachMoment moment images_since mid now (IsStartable undo) → AtEachMoment moment images_since old now (IsStartable undo)
   startable_again old mid now images all first second =
-      followed_by moment images_since old mid now IsStartable IsStartable (startable_loaded old mid images all first) second (λ image is. is)
+      followed_by moment images_since old mid now (IsStartable undo) (IsStartable undo) (startable_loaded old mid images all first) second (λ image is. is)

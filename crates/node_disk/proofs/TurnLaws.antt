@@ -16,6 +16,9 @@ use Rattle.node_rules.specs.Records.{nothing_stored, applied, stored_by}
 use Rattle.node_rules.specs.Turn.{turn_of}
 use Rattle.node_ready_laws.specs.Following.{MayFollow, MayAllFollow}
 use Rattle.node_ready_laws.specs.Sound.{IsSound, AreSound, IsNext, with_rows, RowsDoNotMatter}
+use Rattle.node_undo_laws.specs.Fits.{FitsDoubts}
+use Rattle.node_undo_laws.specs.Laws.{AcksDoNotMatter}
+use Rattle.node_undo_laws.proofs.StartLemmas.{fits_last}
 use Rattle.node_memory.specs.declared.memory.Memory.{Memory}
 use Rattle.node_memory.specs.Parts.{stored_in, kept_in}
 use Rattle.node_core.specs.declared.served.StampedTurn.{StampedTurn}
@@ -26,7 +29,7 @@ use Rattle.node_disk.specs.declared.incoming.Incoming.{Incoming}
 use Rattle.node_disk.specs.Incoming.{read_as, IsReadAs, record_of}
 use Rattle.node_disk.specs.Effects.{mailed, call_of, Tells}
 use Rattle.node_disk.specs.Spellable.{MayBeMailed, IsSpellable}
-use Rattle.node_disk.specs.Starts.{MayBeHad, IsStartable, IsButForAcks, stored_next}
+use Rattle.node_disk.specs.Starts.{MayBeHad, MayBeNext, IsStartable, IsButForAcks, stored_next}
 use Rattle.node_disk.specs.Laws.{TurnsStoreTheirRecords}
 use Rattle.node_disk.specs.OnDisk.{StandsOn, IsOpenFor, HoldsNext, ImageHolds}
 use Rattle.node_disk.proofs.StoreLaws.{but_for_both, next_but_for}
@@ -39,6 +42,14 @@ pub stores_so : TurnsStoreTheirRecords → (m n : Memory) (input : Input) (serve
 stores_so law m n input served may serves =
     subst (λ (w : Option RedoRecord). IsButForAcks (stored_next (stored_in m) w) (stored_in n)) (sym serves.wrote)
     (subst (λ (k : NodeState). IsButForAcks (stored_next (stored_in m) (turn_of m.place (kept_in m) input).wrote) k.stored) (sym serves.after) (law m.place (kept_in m) input may.expected.fit))
+
+-- its record may stand next, and fits
+both_so : (undo : ℕ) (s : Stored) (w : Option RedoRecord) → IfSome w (IsNext s) → IfSome w (FitsDoubts undo s) → IfSome w (MayBeNext undo s)
+both_so undo s None next fits = tt
+both_so undo s (Some r) next fits = (next, fits)
+
+pub next_so : (undo : ℕ) (s : Stored) (served : StampedTurn) → IfSome served.wrote (IsNext s) → IfSome served.wrote (FitsDoubts undo s) → IfSome served.wrote (MayBeNext undo s)
+next_so undo s served next fits = both_so undo s served.wrote next fits
 
 pub sent_spelled : (o : TurnOutput) (k : NodeState) (served : StampedTurn) → Serves o k served → AllByRecursion MayBeMailed o.sent → AllByRecursion MayBeMailed served.sent
 sent_spelled o k served serves all = subst (λ (msgs : List Msg). AllByRecursion MayBeMailed msgs) (sym serves.sent) all
@@ -54,8 +65,8 @@ tells_so o k served e serves wrote sent ended = record {
 pub wrote_so : (o : TurnOutput) (k : NodeState) (served : StampedTurn) (e : DurableTurn) → Serves o k served → e.wrote ≡ served.wrote → IsSpellable o → IfSome e.wrote RecordHasBytes
 wrote_so o k served e serves wrote spellable = subst (λ (w : Option RedoRecord). IfSome w RecordHasBytes) (sym (wrote ∙ serves.wrote)) spellable.wrote
 
-pub follows_so : (s : Stored) (served : StampedTurn) (e : DurableTurn) → e.wrote ≡ served.wrote → IfSome served.wrote (IsNext s) → IfSome e.wrote (IsNext s)
-follows_so s served e wrote next = subst (λ (w : Option RedoRecord). IfSome w (IsNext s)) (sym wrote) next
+pub follows_so : (undo : ℕ) (s : Stored) (served : StampedTurn) (e : DurableTurn) → e.wrote ≡ served.wrote → IfSome served.wrote (MayBeNext undo s) → IfSome e.wrote (MayBeNext undo s)
+follows_so undo s served e wrote next = subst (λ (w : Option RedoRecord). IfSome w (MayBeNext undo s)) (sym wrote) next
 
 pub stored_so : (s t : Stored) (served : StampedTurn) (e : DurableTurn) → e.wrote ≡ served.wrote → IsButForAcks (stored_next s served.wrote) t → IsButForAcks (stored_next s e.wrote) t
 stored_so s t served e wrote stores = subst (λ (w : Option RedoRecord). IsButForAcks (stored_next s w) t) (sym wrote) stores
@@ -85,29 +96,36 @@ sound_last s [] r all next = (next, tt)
 sound_last s (x ∷ xs) r all next = (all.0, sound_last (applied s x) xs r all.1 next)
 
 -- one more record that may stand next
-pub had_next : (rs : List RedoRecord) (r : RedoRecord) → MayBeHad rs → IsNext (stored_by nothing_stored rs) r → MayBeHad (rs ++ r ∷ [])
-had_next rs r had next = record { follow = follow_last nothing_stored rs r had.follow next.0; sound = sound_last nothing_stored rs r had.sound next.1 }
+pub had_next : (undo : ℕ) (rs : List RedoRecord) (r : RedoRecord) → MayBeHad undo rs → MayBeNext undo (stored_by nothing_stored rs) r → MayBeHad undo (rs ++ r ∷ [])
+had_next undo rs r had next = record {
+  follow = follow_last nothing_stored rs r had.follow next.0.0;
+  sound = sound_last nothing_stored rs r had.sound next.0.1;
+  fit = fits_last undo nothing_stored rs r had.fit next.1;
+}
 
 -- a record that may stand next where Acks were noted may do so without them
-next_unnoted : RowsDoNotMatter → (s t : Stored) (r : RedoRecord) → IsButForAcks s t → IsNext t r → IsNext s r
-next_unnoted law s t r is next = law (with_rows s t.durable.kept) s.durable.kept r (subst (λ (x : Stored). IsNext x r) is next)
+next_unnoted : RowsDoNotMatter → AcksDoNotMatter → (undo : ℕ) (s t : Stored) (r : RedoRecord) → IsButForAcks s t → MayBeNext undo t r → MayBeNext undo s r
+next_unnoted law acks undo s t r is next = (
+  law (with_rows s t.durable.kept) s.durable.kept r (subst (λ (x : Stored). IsNext x r) is next.0),
+  acks undo (with_rows s t.durable.kept) s.durable.kept r (subst (λ (x : Stored). FitsDoubts undo x r) is next.1),
+)
 
 -- ---- at each moment
 
 module _ {D : Type 0} (moment : D → ℕ) (images_since : D → ℕ → List ℕ → Type 0) where
-  startable_by : RowsDoNotMatter → (s : Stored) (rs : List RedoRecord) (w : Option RedoRecord) → MayBeHad rs → IsButForAcks (stored_by nothing_stored rs) s → IfSome w (IsNext s)
-      → (image : List ℕ) → ImageHolds rs w image → IsStartable image
-  startable_by law s rs None had is next image hold = (rs, hold, had)
-  startable_by law s rs (Some r) had is next image may = elim may [
+  startable_by : RowsDoNotMatter → AcksDoNotMatter → (undo : ℕ) (s : Stored) (rs : List RedoRecord) (w : Option RedoRecord) → MayBeHad undo rs → IsButForAcks (stored_by nothing_stored rs) s → IfSome w (MayBeNext undo s)
+      → (image : List ℕ) → ImageHolds rs w image → IsStartable undo image
+  startable_by law acks undo s rs None had is next image hold = (rs, hold, had)
+  startable_by law acks undo s rs (Some r) had is next image may = elim may [
     | inl hold ↦ (rs, hold, had)
-    | inr hold ↦ (rs ++ r ∷ [], hold, had_next rs r had (next_unnoted law (stored_by nothing_stored rs) s r is next))
+    | inr hold ↦ (rs ++ r ∷ [], hold, had_next undo rs r had (next_unnoted law acks undo (stored_by nothing_stored rs) s r is next))
   ]
 
   -- while the record of a turn is written, the disk holds records that a node can start from
-  pub startable_while : RowsDoNotMatter → (old now : D) (before : List ℕ) (s : Stored) (w : Option RedoRecord) → StandsOn before s → IfSome w (IsNext s)
-      → ((rs : List RedoRecord) → HoldRecords rs before → AtEachMoment moment images_since old now (ImageHolds rs w)) → AtEachMoment moment images_since old now IsStartable
-  startable_while law old now before s w stands next moments =
-      weaker moment images_since old now (ImageHolds stands.0 w) IsStartable (moments stands.0 stands.1) (startable_by law s stands.0 w stands.2 stands.3 next)
+  pub startable_while : RowsDoNotMatter → AcksDoNotMatter → (undo : ℕ) (old now : D) (before : List ℕ) (s : Stored) (w : Option RedoRecord) → StandsOn undo before s → IfSome w (MayBeNext undo s)
+      → ((rs : List RedoRecord) → HoldRecords rs before → AtEachMoment moment images_since old now (ImageHolds rs w)) → AtEachMoment moment images_since old now (IsStartable undo)
+  startable_while law acks undo old now before s w stands next moments =
+      weaker moment images_since old now (ImageHolds stands.0 w) (IsStartable undo) (moments stands.0 stands.1) (startable_by law acks undo s stands.0 w stands.2 stands.3 next)
 
 -- ---- after the turn
 
@@ -116,16 +134,17 @@ holds_by rs None before now grows hold = subst (λ (bytes : List ℕ). HoldRecor
 holds_by rs (Some r) before now grows hold = inr (grows rs hold)
 
 -- the records of the disk say what the node stores
-pub stands_next : RowsDoNotMatter → (before now : List ℕ) (s t : Stored) (w : Option RedoRecord) → StandsOn before s → IfSome w (IsNext s) → IsButForAcks (stored_next s w) t → HoldsNext w before now → StandsOn now t
-stands_next law before now s t None stands next stores grows =
+pub stands_next : RowsDoNotMatter → AcksDoNotMatter → (undo : ℕ) (before now : List ℕ) (s t : Stored) (w : Option RedoRecord) → StandsOn undo before s → IfSome w (MayBeNext undo s) → IsButForAcks (stored_next s w) t
+    → HoldsNext w before now → StandsOn undo now t
+stands_next law acks undo before now s t None stands next stores grows =
     (stands.0, holds_by stands.0 None before now grows stands.1, stands.2, but_for_both (stored_by nothing_stored stands.0) s t stands.3 stores)
-stands_next law before now s t (Some r) stands next stores grows =
+stands_next law acks undo before now s t (Some r) stands next stores grows =
     let rs = stands.0 in
     let under = stored_by nothing_stored rs in
     let next_stored : IsButForAcks (applied under r) t = but_for_both (applied under r) (applied s r) t (next_but_for under s (Some r) stands.3) stores in (
       rs ++ r ∷ [],
       grows rs stands.1,
-      had_next rs r stands.2 (next_unnoted law under s r stands.3 next),
+      had_next undo rs r stands.2 (next_unnoted law acks undo under s r stands.3 next),
       subst (λ (x : Stored). IsButForAcks x t) (sym (stored_last nothing_stored rs r)) next_stored,
     )
 
@@ -139,25 +158,25 @@ module _ {D : Type 0} (moment : D → ℕ) (images_since : D → ℕ → List �
   pub stand_still : (disk : D) (rs : List RedoRecord) (w : Option RedoRecord) → AtEachMoment moment images_since disk disk (HoldRecords rs) → AtEachMoment moment images_since disk disk (ImageHolds rs w)
   stand_still disk rs w own = weaker moment images_since disk disk (HoldRecords rs) (ImageHolds rs w) own (may_stand rs w)
 
-  pub startable_still : (disk : D) (bytes : List ℕ) (s : Stored) → StandsOn bytes s → ((rs : List RedoRecord) → HoldRecords rs bytes → AtEachMoment moment images_since disk disk (HoldRecords rs))
-      → AtEachMoment moment images_since disk disk IsStartable
-  startable_still disk bytes s stands own =
-      weaker moment images_since disk disk (HoldRecords stands.0) IsStartable (own stands.0 stands.1) (λ image hold. (stands.0, hold, stands.2))
+  pub startable_still : (disk : D) (bytes : List ℕ) (undo : ℕ) (s : Stored) → StandsOn undo bytes s → ((rs : List RedoRecord) → HoldRecords rs bytes → AtEachMoment moment images_since disk disk (HoldRecords rs))
+      → AtEachMoment moment images_since disk disk (IsStartable undo)
+  startable_still disk bytes undo s stands own =
+      weaker moment images_since disk disk (HoldRecords stands.0) (IsStartable undo) (own stands.0 stands.1) (λ image hold. (stands.0, hold, stands.2))
 
 -- ---- the next turn
 
 -- at Ok the node is running again
-pub opens_on : {T E D : Type 0} (d : Ghosts D) (log : RecordLog D) (s : Stored) (r : Result T E) → OnOk r (IsReadyLog d log) → OnOk r (StandsOn (d.content (disk_of log)) s)
-    → OnOk r (IsOpenFor d.content d.images log s)
-opens_on d log s (Ok v) ready stands = record { usable = ready.usable; intact = ready.intact; durable = ready.durable; stands = stands }
-opens_on d log s (Err e) ready stands = tt
+pub opens_on : {T E D : Type 0} (d : Ghosts D) (undo : ℕ) (log : RecordLog D) (s : Stored) (r : Result T E) → OnOk r (IsReadyLog d log) → OnOk r (StandsOn undo (d.content (disk_of log)) s)
+    → OnOk r (IsOpenFor undo d.content d.images log s)
+opens_on d undo log s (Ok v) ready stands = record { usable = ready.usable; intact = ready.intact; durable = ready.durable; stands = stands }
+opens_on d undo log s (Err e) ready stands = tt
 
 -- a disk that takes an order has no new image, and the node goes on as it was
-pub still_open : {D : Type 0} (content : D → List ℕ) (images : D → List ℕ → Type 0) (old new : RecordLog D) (s : Stored) → (IsUsable content images old → IsUsable content images new) → (IsIntact old ↔ IsIntact new)
-    → content (disk_of new) ≡ content (disk_of old) → AddsNone (images (disk_of old)) (images (disk_of new)) → IsOpenFor content images old s → IsOpenFor content images new s
-still_open content images old new s usable intact same adds runs = record {
+pub still_open : {D : Type 0} (undo : ℕ) (content : D → List ℕ) (images : D → List ℕ → Type 0) (old new : RecordLog D) (s : Stored) → (IsUsable content images old → IsUsable content images new) → (IsIntact old ↔ IsIntact new)
+    → content (disk_of new) ≡ content (disk_of old) → AddsNone (images (disk_of old)) (images (disk_of new)) → IsOpenFor undo content images old s → IsOpenFor undo content images new s
+still_open undo content images old new s usable intact same adds runs = record {
   usable = usable runs.usable;
   intact = intact.0 runs.intact;
   durable = λ image is. runs.durable image (adds image is) ∙ sym same;
-  stands = subst (λ (bytes : List ℕ). StandsOn bytes s) (sym same) runs.stands;
+  stands = subst (λ (bytes : List ℕ). StandsOn undo bytes s) (sym same) runs.stands;
 }

@@ -11,6 +11,7 @@ use Rattle.node_rules.specs.Data.records
 use Rattle.node_rules.specs.Points.{Point}
 use Rattle.node_rules.specs.Turn.{start_of, made}
 use Rattle.node_ready_laws.specs.Ready.{IsReady}
+use Rattle.node_undo_laws.specs.Kept.{HasUndo}
 use Rattle.node_disk.specs.declared.effects.DurableTurn.{DurableTurn}
 use Rattle.node_disk.specs.declared.err.CutAt.{CutAt}
 use Rattle.node_disk.specs.declared.err.CutAt.TheVariants as cuts
@@ -54,6 +55,8 @@ module _ {D : Type 0} (d : Ghosts D) where
     pub running : IsRunning d.content d.images node
     -- what it keeps is sound
     pub ready : IsReady (place_of node) (kept_of node)
+    -- and it has the undo of its branches
+    pub undo : HasUndo (place_of node) (kept_of node)
 
   -- The disk of a turn that was cut. Before its record, nothing was done to it; in its record, a call of the append failed, and there
   -- was a record to append; after its record, the record stands.
@@ -89,7 +92,7 @@ module _ {D : Type 0} (d : Ghosts D) where
     pub stored : HoldRecords (records.Boot 1 ∷ []) (d.content (disk_of node))
     -- it can take a turn, and a node can start from its disk
     pub next : TakesNext d node
-    pub startable : CanBeStarted d.content d.images (disk_of node)
+    pub startable : CanBeStarted place.undo d.content d.images (disk_of node)
     -- the calls that begin a log were made, and those of an append
     pub run : HasRun d (begin_calls ++ append_calls) before (disk_of node)
 

@@ -32,20 +32,20 @@ disk_of node = disk_of_log node.log
 abbrev pub turn_at : {D : Type 0} → Node D → Input → TurnOutput
 turn_at node input = turn_of (place_of node) (kept_of node) input
 
--- the bytes hold records that a node may have, which say what is stored, but for Acks
-abbrev pub StandsOn : List ℕ → Stored → Type 0
-StandsOn bytes s = (rs : List RedoRecord) × HoldRecords rs bytes × MayBeHad rs × IsButForAcks (stored_by nothing_stored rs) s
+-- the bytes hold records that a node of so many undo extents may have, which say what is stored, but for Acks
+abbrev pub StandsOn : ℕ → List ℕ → Stored → Type 0
+StandsOn undo bytes s = (rs : List RedoRecord) × HoldRecords rs bytes × MayBeHad undo rs × IsButForAcks (stored_by nothing_stored rs) s
 
--- A log to which the records of a node that stores this may be appended, and a crash leaves what a read gives.
-pub record IsOpenFor {D : Type 0} (content : D → List ℕ) (images : D → List ℕ → Type 0) (log : RecordLog D) (s : Stored) : Type 0 where
+-- A log to which the records of a node of so many undo extents that stores this may be appended, and a crash leaves what a read gives.
+pub record IsOpenFor {D : Type 0} (undo : ℕ) (content : D → List ℕ) (images : D → List ℕ → Type 0) (log : RecordLog D) (s : Stored) : Type 0 where
   pub usable : IsUsable content images log
   pub intact : IsIntact log
   pub durable : IsOnly (content (disk_of_log log)) (images (disk_of_log log))
-  pub stands : StandsOn (content (disk_of_log log)) s
+  pub stands : StandsOn undo (content (disk_of_log log)) s
 
 -- a node that is running
 abbrev pub IsRunning : {D : Type 0} → (D → List ℕ) → (D → List ℕ → Type 0) → Node D → Type 0
-IsRunning content images node = IsOpenFor content images node.log (stored_in node.memory)
+IsRunning content images node = IsOpenFor (place_of node).undo content images node.log (stored_in node.memory)
 
 -- the records of a disk become more by this one, where there is one
 abbrev pub HoldsNext : Option RedoRecord → List ℕ → List ℕ → Type 0

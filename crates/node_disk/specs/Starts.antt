@@ -10,21 +10,28 @@ use Rattle.node_rules.specs.Data.records
 use Rattle.node_rules.specs.NodeState.{Stored}
 use Rattle.node_rules.specs.Records.{nothing_stored, applied, stored_by}
 use Rattle.node_ready_laws.specs.Following.{MayAllFollow}
-use Rattle.node_ready_laws.specs.Sound.{AreSound, with_rows}
+use Rattle.node_ready_laws.specs.Sound.{AreSound, IsNext, with_rows}
+use Rattle.node_undo_laws.specs.Fits.{FitsDoubts, AllFitDoubts}
 
--- Records that a node may have: each may stand next behind those before it, and is sound.
-pub record MayBeHad (rs : List RedoRecord) : Type 0 where
+-- Records that a node of so many undo extents may have: each may stand next behind those before it, is sound, and fits beside the
+-- branches in doubt.
+pub record MayBeHad (undo : ℕ) (rs : List RedoRecord) : Type 0 where
   pub follow : MayAllFollow nothing_stored rs
   pub sound : AreSound nothing_stored rs
+  pub fit : AllFitDoubts undo nothing_stored rs
+
+-- one more that it may have next
+abbrev pub MayBeNext : ℕ → Stored → RedoRecord → Type 0
+MayBeNext undo s r = IsNext s r × FitsDoubts undo s r
 
 -- bytes that hold such records
-abbrev pub IsStartable : List ℕ → Type 0
-IsStartable bytes = (rs : List RedoRecord) × HoldRecords rs bytes × MayBeHad rs
+abbrev pub IsStartable : ℕ → List ℕ → Type 0
+IsStartable undo bytes = (rs : List RedoRecord) × HoldRecords rs bytes × MayBeHad undo rs
 
--- A node can start from a disk, and from whatever a crash may leave of it.
-pub record CanBeStarted {D : Type 0} (content : D → List ℕ) (images : D → List ℕ → Type 0) (disk : D) : Type 0 where
-  pub now : IsStartable (content disk)
-  pub crashed : (image : List ℕ) → images disk image → IsStartable image
+-- A node of so many undo extents can start from a disk, and from whatever a crash may leave of it.
+pub record CanBeStarted {D : Type 0} (undo : ℕ) (content : D → List ℕ) (images : D → List ℕ → Type 0) (disk : D) : Type 0 where
+  pub now : IsStartable undo (content disk)
+  pub crashed : (image : List ℕ) → images disk image → IsStartable undo image
 
 -- the number of the last start
 abbrev pub last_boot : List RedoRecord → ℕ

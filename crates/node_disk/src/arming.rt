@@ -1,5 +1,5 @@
 //! The disk of a node takes orders.
-ghost use Rattle.std.specs.Prelude.{◌≡◌};
+ghost use Rattle.std.specs.Prelude.{◌≡◌, ℕ};
 ghost use Rattle.block_disk.specs.Images.{AddsNone, GoesOn};
 ghost use Rattle.block_disk.specs.Orders.{ordered};
 ghost use Rattle.node_disk.specs.Starts.{CanBeStarted};
@@ -16,7 +16,7 @@ impl<D: Armable> Node<D> {
         ensures kept { kept_of self.new ≡ kept_of self.old }
         ensures place { place_of self.new ≡ place_of self.old }
         ensures running { IsRunning D.content D.images self.old → IsRunning D.content D.images self.new }
-        ensures startable { CanBeStarted D.content D.images (disk_of self.old) → CanBeStarted D.content D.images (disk_of self.new) }
+        ensures startable { (undo : ℕ) → CanBeStarted undo D.content D.images (disk_of self.old) → CanBeStarted undo D.content D.images (disk_of self.new) }
 
         ensures content { D.content (disk_of self.new) ≡ D.content (disk_of self.old) }
         ensures images { AddsNone (D.images (disk_of self.old)) (D.images (disk_of self.new)) }

@@ -9,7 +9,7 @@ ghost use Rattle.node_rules.specs.NodeState.{NodeState};
 ghost use Rattle.node_rules.specs.Turn.{turn_of};
 ghost use Rattle.node_rules.specs.Points.{passes as passes_of};
 ghost use Rattle.node_ready_laws.specs.Ready.{IsReady};
-ghost use Rattle.node_ready_laws.specs.Sound.{IsNext};
+ghost use Rattle.node_undo_laws.specs.Kept.{HasUndo};
 ghost use Rattle.node_points.specs.Passing.{passes_as, concerned, Foresees};
 ghost use Rattle.node_memory.specs.Parts.{stored_in, kept_in};
 ghost use Rattle.node_core.specs.Able.{MayTake};
@@ -17,7 +17,7 @@ ghost use Rattle.node_core.specs.Serves.{Serves};
 ghost use Rattle.node_disk.specs.Incoming.{read_as, IsReadAs, record_of};
 ghost use Rattle.node_disk.specs.Effects.{mailed, IsMailed, call_of, Tells, TellsPasses};
 ghost use Rattle.node_disk.specs.Spellable.{MayBeMailed, IsSpellable};
-ghost use Rattle.node_disk.specs.Starts.{IsButForAcks, stored_next};
+ghost use Rattle.node_disk.specs.Starts.{MayBeNext, IsButForAcks, stored_next};
 
 use crate::effects::{DurableTurn, Ends, Sent};
 use crate::finished::finish;
@@ -118,12 +118,13 @@ fn effects_of(
 }
 
 // One turn in memory over what was read.
-#[tactic(auto, using(crate::proofs::TurnLaws::stores_so))]
+#[tactic(auto, using(crate::proofs::TurnLaws::stores_so, crate::proofs::TurnLaws::next_so))]
 fn take(memory: &mut Memory, alloc: Global, input: &Input) -> Result<StampedTurn, AllocError>
     requires { MayTake memory.old.place (kept_in memory.old) input.now }
     ensures serves { IfOk result (λ served. Serves (turn_of memory.old.place (kept_in memory.old) input.now) (kept_in memory.new) served) }
     ensures ready { OnOk result (IsReady memory.new.place (kept_in memory.new)) }
-    ensures follows { IfOk result (λ served. IfSome served.wrote (IsNext (stored_in memory.old))) }
+    ensures undo { OnOk result (HasUndo memory.new.place (kept_in memory.new)) }
+    ensures follows { IfOk result (λ served. IfSome served.wrote (MayBeNext memory.old.place.undo (stored_in memory.old))) }
     ensures stored { IfOk result (λ served. IsButForAcks (stored_next (stored_in memory.old) served.wrote) (stored_in memory.new)) }
     ensures place { memory.new.place ≡ memory.old.place }
 {
@@ -142,7 +143,8 @@ fn take_on(
     ensures serves { IfOk result (λ taken. Serves (turn_of memory.old.place (kept_in memory.old) input.now) (kept_in memory.new) taken.0) }
     ensures passes { IfOk result (λ taken. option_map passes_as taken.1 ≡ passes_of (kept_in memory.old) input.now (turn_of memory.old.place (kept_in memory.old) input.now)) }
     ensures ready { OnOk result (IsReady memory.new.place (kept_in memory.new)) }
-    ensures follows { IfOk result (λ taken. IfSome taken.0.wrote (IsNext (stored_in memory.old))) }
+    ensures undo { OnOk result (HasUndo memory.new.place (kept_in memory.new)) }
+    ensures follows { IfOk result (λ taken. IfSome taken.0.wrote (MayBeNext memory.old.place.undo (stored_in memory.old))) }
     ensures stored { IfOk result (λ taken. IsButForAcks (stored_next (stored_in memory.old) taken.0.wrote) (stored_in memory.new)) }
     ensures place { memory.new.place ≡ memory.old.place }
 {
@@ -167,7 +169,8 @@ fn told(memory: &mut Memory, alloc: Global, input: Input) -> Result<DurableTurn,
     ensures read { IfOk result (λ e. AllByRecursion IsMailed e.sent) }
     ensures has_bytes { IfOk result (λ e. IfSome e.wrote RecordHasBytes) }
     ensures ready { OnOk result (IsReady memory.new.place (kept_in memory.new)) }
-    ensures follows { IfOk result (λ e. IfSome e.wrote (IsNext (stored_in memory.old))) }
+    ensures undo { OnOk result (HasUndo memory.new.place (kept_in memory.new)) }
+    ensures follows { IfOk result (λ e. IfSome e.wrote (MayBeNext memory.old.place.undo (stored_in memory.old))) }
     ensures stored { IfOk result (λ e. IsButForAcks (stored_next (stored_in memory.old) e.wrote) (stored_in memory.new)) }
     ensures place { memory.new.place ≡ memory.old.place }
 {
@@ -200,7 +203,8 @@ pub(crate) fn decide(
     ensures wrote { IfOk result (λ e. e.wrote ≡ record_of memory.old.place (kept_in memory.old) (read_as incoming)) }
     ensures has_bytes { IfOk result (λ e. IfSome e.wrote RecordHasBytes) }
     ensures ready { OnOk result (IsReady memory.new.place (kept_in memory.new)) }
-    ensures follows { IfOk result (λ e. IfSome e.wrote (IsNext (stored_in memory.old))) }
+    ensures undo { OnOk result (HasUndo memory.new.place (kept_in memory.new)) }
+    ensures follows { IfOk result (λ e. IfSome e.wrote (MayBeNext memory.old.place.undo (stored_in memory.old))) }
     ensures stored { IfOk result (λ e. IsButForAcks (stored_next (stored_in memory.old) e.wrote) (stored_in memory.new)) }
     ensures place { memory.new.place ≡ memory.old.place }
 {

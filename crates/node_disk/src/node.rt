@@ -5,6 +5,7 @@ ghost use Rattle.redo_record.specs.declared.record.RedoRecord.{RedoRecord};
 ghost use Rattle.wire_msg.specs.declared.input.Input.{Input};
 ghost use Rattle.record_log.specs.Held.{HoldRecords};
 ghost use Rattle.node_rules.specs.Sessions.{session_at};
+ghost use Rattle.undo_view.specs.Views.{undo_rows};
 ghost use Rattle.node_core.specs.Able.{MayTake};
 ghost use Rattle.node_disk.specs.Incoming.{IsReadAs};
 ghost use Rattle.node_disk.specs.Spellable.{IsSpellable};
@@ -25,6 +26,7 @@ use record_log::RecordLog;
 use redo_record::KeptRow;
 use session_tree::Live;
 use std::alloc::{AllocError, Global};
+use undo_view::{Undos, undos};
 
 /// A node: what it keeps in memory, and the log of its records on its disk.
 #[derive(Drop)]
@@ -57,8 +59,8 @@ impl<D: Disk> Node<D> {
             → AtEachMoment D.moment D.images_since (disk_of self.old) (disk_of self.new) (ImageHolds rs (record_at self.old incoming)) }
 
         // A node can start from what a crash leaves at any moment, and from the disk, whatever the turn answers.
-        ensures any_start { AtEachMoment D.moment D.images_since (disk_of self.old) (disk_of self.new) IsStartable }
-        ensures startable { CanBeStarted D.content D.images (disk_of self.new) }
+        ensures any_start { AtEachMoment D.moment D.images_since (disk_of self.old) (disk_of self.new) (IsStartable (place_of self.old).undo) }
+        ensures startable { CanBeStarted (place_of self.old).undo D.content D.images (disk_of self.new) }
 
         ensures ends_early { IfErr result (EndsEarly D.Disk self.old self.new incoming points.now) }
         ensures place { place_of self.new ≡ place_of self.old }
@@ -95,6 +97,14 @@ impl<D: Disk> Node<D> {
         ensures { result.now ≡ (kept_of self.now).lives }
     {
         self.memory.lives.as_slice()
+    }
+
+    /// The undo that branches hold, live ones and those in doubt, in the order of boot, session and seq. Fails where memory runs
+    /// out.
+    pub fn undo(&self) -> Result<Undos, AllocError>
+        ensures { IfOk result (λ undos. undos ≡ undo_rows (kept_of self.now).owns (kept_of self.now).stored.doubts) }
+    {
+        undos(self.alloc, &self.memory.store)
     }
 
     /// The disk.

@@ -1,5 +1,5 @@
 //! A node starts again.
-ghost use Rattle.std.specs.Prelude.{◌≡◌, ◌+◌, ◌<◌, ◌^◌, List, ◌∷◌, [], ◌++◌, Some, length, IfOk, IfErr, MatchResult};
+ghost use Rattle.std.specs.Prelude.{◌≡◌, ◌+◌, ◌<◌, ◌≤◌, ◌^◌, List, ◌∷◌, [], ◌++◌, Some, length, IfOk, IfErr, MatchResult};
 ghost use Rattle.block_disk.specs.Images.{AtEachMoment};
 ghost use Rattle.redo_record.specs.declared.record.RedoRecord.{RedoRecord as RedoRecordBy};
 ghost use Rattle.redo_record.specs.declared.record.RedoRecord.TheVariants as records;
@@ -21,6 +21,7 @@ use crate::writing::leave;
 use block_disk::Disk;
 use node_memory::Memory;
 use node_ready_laws::starts_are_ready;
+use node_undo_laws::{seals_keep_undo, starts_have_undo};
 use record_log::{LoadErr, RecordLog};
 use redo_record::{Place, RedoRecord};
 use std::alloc::{AllocError, Global};
@@ -31,12 +32,14 @@ pub(crate) fn started(
     place: Place,
     records: &[RedoRecord],
 ) -> Result<Memory, AllocError>
-    requires had { MayBeHad records.now }
+    requires undo { place.undo ≤ 1024 }
+    requires had { MayBeHad place.undo records.now }
     requires boots { last_boot records.now + 1 < 2 ^ 32 }
     ensures kept { IfOk result (λ memory. kept_in memory ≡ start_of (records.now ++ next_boot records.now ∷ [])) }
     ensures boot { IfOk result (λ memory. memory.boot ≡ last_boot records.now + 1) }
     ensures place { IfOk result (λ memory. memory.place ≡ place) }
 {
+    seals_keep_undo();
     let mut memory = Memory::rebuild(alloc, place, records)?;
     let redo = RedoRecord::Boot(memory.boot + 1);
     let taken = memory.take_in(alloc, &redo);
@@ -94,7 +97,8 @@ fn begin_again<D: Disk>(
 ) -> Result<Node<D>, MakeErr<D>>
     requires ready { IsReadyLog D.Disk log }
     requires held { HoldRecords records.now (D.content (disk_of_log log)) }
-    requires had { MayBeHad records.now }
+    requires undo { place.undo ≤ 1024 }
+    requires had { MayBeHad place.undo records.now }
     requires boots { last_boot records.now + 1 < 2 ^ 32 }
     ensures kept { IfOk result (λ node. kept_of node ≡ start_of (records.now ++ next_boot records.now ∷ [])) }
     ensures place { IfOk result (λ node. place_of node ≡ place) }
@@ -102,12 +106,13 @@ fn begin_again<D: Disk>(
     ensures next { IfOk result (λ node. TakesNext D.Disk node) }
     ensures run { IfOk result (λ node. HasRun D.Disk append_calls (disk_of_log log) (disk_of node)) }
     ensures startable { MatchResult result
-        (λ node. AtEachMoment D.moment D.images_since (disk_of_log log) (disk_of node) IsStartable)
-        (λ err. AtEachMoment D.moment D.images_since (disk_of_log log) err.disk IsStartable) }
+        (λ node. AtEachMoment D.moment D.images_since (disk_of_log log) (disk_of node) (IsStartable place.undo))
+        (λ err. AtEachMoment D.moment D.images_since (disk_of_log log) err.disk (IsStartable place.undo)) }
     ensures failed { IfErr result (λ err. err.why ≡ makes.Fault → LeavesByPlan D.Disk (λ plan. GrowsByPlan plan (next_boot records.now)) (disk_of_log log) err.disk) }
     ensures refused { IfErr result (λ err. err.why ≡ makes.NoMemory → IsUntouched D.Disk (disk_of_log log) err.disk) }
 {
     starts_are_ready();
+    starts_have_undo();
     match started(alloc, place, records) {
         Ok(memory) => match begin(alloc, memory, log) {
             Ok(node) => Ok(node),
@@ -129,7 +134,8 @@ impl<D: Disk> Node<D> {
     /// `NoMemory` where memory ran out or the disk had no room, and then nothing was written.
     pub fn start(alloc: Global, disk: D, place: Place) -> Result<Node<D>, MakeErr<D>>
         requires short { length (D.content disk) < 2 ^ 63 }
-        requires startable { CanBeStarted D.content D.images disk }
+        requires undo { place.undo ≤ 1024 }
+        requires startable { CanBeStarted place.undo D.content D.images disk }
         requires boots { (rs : List RedoRecordBy) → HoldRecords rs (D.content disk) → last_boot rs + 1 < 2 ^ 32 }
 
         // What it keeps is what its records say, with the record of this start, and that stands on the disk.
@@ -137,9 +143,9 @@ impl<D: Disk> Node<D> {
 
         // A node can start from what a crash leaves at any moment.
         ensures any_moment { MatchResult result
-            (λ node. AtEachMoment D.moment D.images_since disk (disk_of node) IsStartable)
-            (λ err. AtEachMoment D.moment D.images_since disk err.disk IsStartable) }
-        ensures startable { MatchResult result (λ node. CanBeStarted D.content D.images (disk_of node)) (λ err. CanBeStarted D.content D.images err.disk) }
+            (λ node. AtEachMoment D.moment D.images_since disk (disk_of node) (IsStartable place.undo))
+            (λ err. AtEachMoment D.moment D.images_since disk err.disk (IsStartable place.undo)) }
+        ensures startable { MatchResult result (λ node. CanBeStarted place.undo D.content D.images (disk_of node)) (λ err. CanBeStarted place.undo D.content D.images err.disk) }
 
         ensures failed { IfErr result (λ err. err.why ≡ makes.Fault → StartMetFault D.Disk disk err.disk) }
         ensures unwritten { IfErr result (λ err. err.why ≡ makes.NoMemory → StartsNone D.Disk disk err.disk) }

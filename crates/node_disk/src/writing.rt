@@ -1,5 +1,5 @@
 //! The record of a turn is written.
-ghost use Rattle.std.specs.Prelude.{◌≡◌, List, Option, IfErr, IfOk, IfSome, OnOk, OnErr, IsErrOf};
+ghost use Rattle.std.specs.Prelude.{◌≡◌, ℕ, List, Option, IfErr, IfOk, IfSome, OnOk, OnErr, IsErrOf};
 ghost use Rattle.block_disk.specs.Images.{AtEachMoment, IsOnly};
 ghost use Rattle.redo_log.specs.Runs.{IsUntouched};
 ghost use Rattle.redo_record.specs.declared.record.RedoRecord.{RedoRecord as RedoRecordBy};
@@ -9,13 +9,12 @@ ghost use Rattle.record_log.specs.Held.{HoldRecords};
 ghost use Rattle.record_log.specs.Log.{disk_of};
 ghost use Rattle.record_log.specs.declared.err.AppendErr.TheVariants as appends;
 ghost use Rattle.node_rules.specs.NodeState.{Stored};
-ghost use Rattle.node_ready_laws.specs.Sound.{IsNext};
 ghost use Rattle.node_disk.specs.declared.err.CutAt.TheVariants as cuts;
 ghost use Rattle.node_disk.specs.declared.err.TurnErr.TheVariants as turns;
 ghost use Rattle.node_disk.specs.declared.err.Unwritten.TheVariants as unwritten;
 ghost use Rattle.node_disk.specs.Effects.{GoesUncut};
 ghost use Rattle.node_disk.specs.Cuts.{AtCut, AtStop, CutsShort, stops as stops_by, Stops};
-ghost use Rattle.node_disk.specs.Starts.{IsStartable, IsButForAcks, stored_next};
+ghost use Rattle.node_disk.specs.Starts.{MayBeNext, IsStartable, IsButForAcks, stored_next};
 ghost use Rattle.node_disk.specs.OnDisk.{StandsOn, ImageHolds};
 ghost use Rattle.node_disk.specs.Calls.{HasWritten, CutLeaves};
 
@@ -25,6 +24,7 @@ use block_disk::Disk;
 use node_points::{Passes, Point, Side, reaches};
 use node_ready_laws::records_follow;
 use node_spell_laws::{has_few, record_fits};
+use node_undo_laws::records_fit_doubts;
 use record_log::{AppendErr, RecordLog};
 use redo_record::RedoRecord;
 
@@ -52,7 +52,7 @@ pub(crate) fn unserved<D: Disk>(log: &RecordLog<D>) -> TurnErr
     ensures why { result ≡ turns.NoMemory }
     ensures any_moment { (w : Option RedoRecordBy) (rs : List RedoRecordBy) → HoldRecords rs (D.content (disk_of log.now))
         → AtEachMoment D.moment D.images_since (disk_of log.now) (disk_of log.now) (ImageHolds rs w) }
-    ensures any_start { (s : Stored) → StandsOn (D.content (disk_of log.now)) s → AtEachMoment D.moment D.images_since (disk_of log.now) (disk_of log.now) IsStartable }
+    ensures any_start { (undo : ℕ) (s : Stored) → StandsOn undo (D.content (disk_of log.now)) s → AtEachMoment D.moment D.images_since (disk_of log.now) (disk_of log.now) (IsStartable undo) }
 {
     leave(log);
     TurnErr::NoMemory
@@ -200,10 +200,10 @@ pub(crate) fn write<D: Disk>(
         → AtEachMoment D.moment D.images_since (disk_of log.old) (disk_of log.new) (ImageHolds rs effects.wrote) }
 
     // So a node can start from it, and after the turn the records say what the node stores.
-    ensures any_start { (s : Stored) → StandsOn (D.content (disk_of log.old)) s → IfSome effects.wrote (IsNext s)
-        → AtEachMoment D.moment D.images_since (disk_of log.old) (disk_of log.new) IsStartable }
-    ensures stands { OnOk result ((s t : Stored) → StandsOn (D.content (disk_of log.old)) s → IfSome effects.wrote (IsNext s) → IsButForAcks (stored_next s effects.wrote) t
-        → StandsOn (D.content (disk_of log.new)) t) }
+    ensures any_start { (undo : ℕ) (s : Stored) → StandsOn undo (D.content (disk_of log.old)) s → IfSome effects.wrote (MayBeNext undo s)
+        → AtEachMoment D.moment D.images_since (disk_of log.old) (disk_of log.new) (IsStartable undo) }
+    ensures stands { OnOk result ((undo : ℕ) (s t : Stored) → StandsOn undo (D.content (disk_of log.old)) s → IfSome effects.wrote (MayBeNext undo s) → IsButForAcks (stored_next s effects.wrote) t
+        → StandsOn undo (D.content (disk_of log.new)) t) }
 
     ensures cut { IfErr result (CutsShort effects) }
     ensures stops { IfErr result (AtCut (λ at wrote passes. Stops points.now at passes)) }
@@ -213,6 +213,7 @@ pub(crate) fn write<D: Disk>(
     ensures refused { IsErrOf result turns.NoMemory → IsUntouched D.Disk (disk_of log.old) (disk_of log.new) }
 {
     records_follow();
+    records_fit_doubts();
     match put(log, &effects.wrote, effects.passes, points) {
         Ok(()) => Ok(effects),
         Err(Unwritten::Cut(at)) => Err(TurnErr::Cut(cut(effects, at))),

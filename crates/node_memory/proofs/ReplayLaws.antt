@@ -5,6 +5,7 @@ use Rattle.node_rules.specs.Data.{RedoRecord}
 use Rattle.node_rules.specs.NodeState.{Stored}
 use Rattle.node_rules.specs.Records.{applied, stored_by}
 use Rattle.node_ready_laws.specs.Following.{MayFollow, MayAllFollow}
+use Rattle.node_memory.specs.Room.{HasRoomFor, at_start, AllHaveRoom}
 
 pub stored_none : (s : Stored) → stored_by s [] ≡ s
 unfolding stored_by
@@ -32,4 +33,22 @@ follow_then s rs i r low is follow =
     let next : suc i ≡ i + 1 = omega arith in
     subst (λ (n : ℕ). MayAllFollow (applied s r) (drop n rs)) next (first_follows s rs i r low is follow).1
 
-pub ruleset replays = (stored_none, stored_more, follows_now, follow_then)
+-- ---- and each has room
+
+first_has_room : (undo : ℕ) (s : Stored) (rs : List RedoRecord) (i : ℕ) (r : RedoRecord) → i < length rs → slice_index_or rs i r ≡ r → AllHaveRoom undo s (drop i rs)
+    → HasRoomFor (at_start undo s) r × AllHaveRoom undo (applied s r) (drop (suc i) rs)
+unfolding AllHaveRoom
+first_has_room undo s [] i r low is room = absurd (omega (arith, low))
+first_has_room undo s (x ∷ rs) zero r low is room = subst (λ y. HasRoomFor (at_start undo s) y × AllHaveRoom undo (applied s y) rs) is room
+first_has_room undo s (x ∷ rs) (suc i) r low is room = first_has_room undo s rs i r (omega (arith, low)) is room
+
+pub room_now : (undo : ℕ) (s : Stored) (rs : List RedoRecord) (i : ℕ) (r : RedoRecord) → i < length rs → slice_index_or rs i r ≡ r → AllHaveRoom undo s (drop i rs) → HasRoomFor (at_start undo s) r
+room_now undo s rs i r low is room = (first_has_room undo s rs i r low is room).0
+
+pub room_then : (undo : ℕ) (s : Stored) (rs : List RedoRecord) (i : ℕ) (r : RedoRecord) → i < length rs → slice_index_or rs i r ≡ r → AllHaveRoom undo s (drop i rs)
+    → AllHaveRoom undo (applied s r) (drop (i + 1) rs)
+room_then undo s rs i r low is room =
+    let next : suc i ≡ i + 1 = omega arith in
+    subst (λ (n : ℕ). AllHaveRoom undo (applied s r) (drop n rs)) next (first_has_room undo s rs i r low is room).1
+
+pub ruleset replays = (stored_none, stored_more, follows_now, follow_then, room_then)

@@ -4,6 +4,7 @@ ghost use Rattle.catalog.specs.Catalog.{is_used, is_link_used, with_table, with_
 ghost use Rattle.node_rules.specs.Records.{raised_by, forced_scn, scn_after, take_changed, with_doubt, locks_after};
 ghost use Rattle.redo_record.specs.declared.record.RedoRecord.TheVariants as records;
 ghost use Rattle.node_memory.specs.After.{boot_after, strength_set, strength_after, catalog_set, catalog_after, store_after};
+ghost use Rattle.node_memory.specs.Room.{HasRoomFor};
 ghost use Rattle.node_ready_laws.specs.Following.{MayBeListed, MayBeStored};
 
 use catalog::{CatErr, Catalog};
@@ -114,7 +115,8 @@ pub(crate) fn change_store(
     alloc: Global,
     redo: &RedoRecord,
 ) -> Result<(), AllocError>
-    requires { MayBeStored store.old.rows store.old.doubts redo.now }
+    requires stored { MayBeStored store.old.rows store.old.doubts redo.now }
+    requires room { HasRoomFor store.old redo.now }
     ensures ok { OnOk result (store.new ≡ store_after store.old redo.now) }
     ensures err { OnErr result (store.new ≡ store.old) }
 {

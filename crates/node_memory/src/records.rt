@@ -3,6 +3,7 @@ ghost use Rattle.std.specs.Prelude.{◌≡◌, OnOk};
 ghost use Rattle.node_rules.specs.Records.{applied, with_record};
 ghost use Rattle.node_memory.specs.Parts.{stored_in, kept_in};
 ghost use Rattle.node_memory.specs.After.{with_stored};
+ghost use Rattle.node_memory.specs.Room.{HasRoomFor};
 ghost use Rattle.node_ready_laws.specs.Following.{MayFollow};
 
 use crate::Memory;
@@ -16,7 +17,8 @@ impl Memory {
     /// A record that the node writes is at once part of what it keeps. Fails where memory runs out, and the node may not be
     /// used then: some parts have the record, and some have not.
     pub fn take_in(&mut self, alloc: Global, redo: &RedoRecord) -> Result<(), AllocError>
-        requires { MayFollow (stored_in self.old) redo.now }
+        requires follow { MayFollow (stored_in self.old) redo.now }
+        requires room { HasRoomFor self.old.store redo.now }
         ensures kept { OnOk result (kept_in self.new ≡ with_record (kept_in self.old) redo.now) }
         ensures place { self.new.place ≡ self.old.place }
     {
@@ -28,7 +30,8 @@ impl Memory {
     /// A record becomes part of what is stored. The locks stay as they are. Fails where memory runs out, and then some parts
     /// have the record, and some have not.
     pub(crate) fn apply(&mut self, alloc: Global, redo: &RedoRecord) -> Result<(), AllocError>
-        requires { MayFollow (stored_in self.old) redo.now }
+        requires follow { MayFollow (stored_in self.old) redo.now }
+        requires room { HasRoomFor self.old.store redo.now }
         ensures kept { OnOk result (kept_in self.new ≡ with_stored (kept_in self.old) (applied (stored_in self.old) redo.now)) }
         ensures place { self.new.place ≡ self.old.place }
     {

@@ -4,7 +4,7 @@ ghost use Rattle.row_store.specs.Store.{is_in_doubt};
 ghost use Rattle.node_rules.specs.NodeState.{without_branch};
 ghost use Rattle.node_rules.specs.Records.{with_record};
 ghost use Rattle.node_memory.specs.Parts.{kept_in};
-ghost use Rattle.node_memory.specs.Leaving.{IsOwnSeal};
+ghost use Rattle.node_memory.specs.Leaving.{IsOwnSeal, HasItsUndo};
 
 use crate::Memory;
 use crate::parts::hold_in_doubt;
@@ -14,7 +14,7 @@ use tran_ids::BranchId;
 
 impl Memory {
     /// A live branch becomes sealed: its record has what it changed, which is held back from now on, and the keys of that are
-    /// in doubt. Fails where memory runs out, and the node may not be used then: some parts have the record, and some have not.
+    /// in doubt. The undo that it has is that of its changes over the committed rows, and stays where it is. Fails where memory runs out, and the node may not be used then: some parts have the record, and some have not.
     pub fn seal(
         &mut self,
         alloc: Global,
@@ -23,6 +23,7 @@ impl Memory {
     ) -> Result<(), AllocError>
         requires apart { is_in_doubt (kept_in self.old).stored.doubts branch.now ≡ false }
         requires own { IsOwnSeal (kept_in self.old) branch.now redo.now }
+        requires undo { HasItsUndo (kept_in self.old) branch.now }
         ensures kept { OnOk result (kept_in self.new ≡ with_record (without_branch (kept_in self.old) branch.now) redo.now) }
         ensures place { self.new.place ≡ self.old.place }
     {

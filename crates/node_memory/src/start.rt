@@ -1,9 +1,10 @@
 //! What a node keeps after a start.
-ghost use Rattle.std.specs.Prelude.{◌≡◌, OnOk, IfOk};
+ghost use Rattle.std.specs.Prelude.{◌≡◌, ◌≤◌, [], OnOk, IfOk};
 ghost use Rattle.node_rules.specs.Records.{nothing_stored, stored_by};
 ghost use Rattle.node_rules.specs.Turn.{kept_by, start_of};
 ghost use Rattle.node_memory.specs.Parts.{stored_in, kept_in};
 ghost use Rattle.node_memory.specs.After.{with_stored};
+ghost use Rattle.node_memory.specs.Room.{AllHaveRoom};
 ghost use Rattle.node_ready_laws.specs.Following.{MayAllFollow};
 
 use crate::Memory;
@@ -20,12 +21,14 @@ use tran_ids::Clock;
 impl Memory {
     /// A node of this place before any record. Fails where memory runs out.
     pub(crate) fn new(alloc: Global, place: Place) -> Result<Memory, AllocError>
+        requires { place.undo ≤ 1024 }
         ensures kept { IfOk result (λ memory. kept_in memory ≡ kept_by nothing_stored) }
         ensures place { IfOk result (λ memory. memory.place ≡ place) }
     {
         let sessions = Sessions::new(alloc)?;
+        let store = Store::new(alloc, place.undo)?;
         Ok(Memory {
-            store: Store::new(alloc, place.undo),
+            store,
             place,
             boot: 0,
             strength: None,
@@ -42,13 +45,15 @@ impl Memory {
     }
 
     /// What a node of this place keeps after a start, by its records, oldest first: nobody is live, branches in doubt hold
-    /// their keys, and the clock is the greatest SCN. Fails where memory runs out.
+    /// their keys and their undo, for which there is room, and the clock is the greatest SCN. Fails where memory runs out.
     pub fn rebuild(
         alloc: Global,
         place: Place,
         records: &[RedoRecord],
     ) -> Result<Memory, AllocError>
-        requires { MayAllFollow nothing_stored records.now }
+        requires undo { place.undo ≤ 1024 }
+        requires follow { MayAllFollow nothing_stored records.now }
+        requires room { AllHaveRoom place.undo nothing_stored records.now }
         ensures kept { IfOk result (λ memory. kept_in memory ≡ start_of records.now) }
         ensures place { IfOk result (λ memory. memory.place ≡ place) }
     {
@@ -66,6 +71,7 @@ impl Memory {
     fn start(&mut self, alloc: Global, records: &[RedoRecord]) -> Result<(), AllocError>
         requires none { kept_in self.old ≡ kept_by nothing_stored }
         requires follow { MayAllFollow nothing_stored records.now }
+        requires room { AllHaveRoom self.old.place.undo nothing_stored records.now }
         ensures kept { OnOk result (kept_in self.new ≡ start_of records.now) }
         ensures place { self.new.place ≡ self.old.place }
     {
@@ -80,7 +86,9 @@ impl Memory {
     // These records become part of what is stored.
     #[tactic(auto, using(crate::proofs::ReplayLaws::replays))]
     fn replay(&mut self, alloc: Global, records: &[RedoRecord]) -> Result<(), AllocError>
-        requires { MayAllFollow (stored_in self.old) records.now }
+        requires idle { self.old.store.owns ≡ [] }
+        requires follow { MayAllFollow (stored_in self.old) records.now }
+        requires room { AllHaveRoom self.old.place.undo (stored_in self.old) records.now }
         ensures kept { OnOk result (kept_in self.new ≡ with_stored (kept_in self.old) (stored_by (stored_in self.old) records.now)) }
         ensures place { self.new.place ≡ self.old.place }
     {

@@ -18,7 +18,7 @@ use Rattle.node_rules.specs.Records.{held_back, settled, doubt_over}
 use Rattle.node_ready_laws.proofs.ListLemmas.{all_weaker, all_both, all_last, all_dropped}
 use Rattle.node_ready_laws.proofs.TableLemmas.{rows_changed, rows_added}
 use Rattle.node_undo_laws.specs.Changed.{changes_at}
-use Rattle.node_undo_laws.specs.Kept.{AreInOrder, UndoIsOf, UndoIsHeld, UndoStands}
+use Rattle.node_undo_laws.specs.Kept.{RowsAreInOrder, UndoIsOf, UndoIsHeld, UndoStands}
 use Rattle.node_undo_laws.specs.Keys.{are_of_one_key}
 use Rattle.node_undo_laws.proofs.HolderLemmas.{LeaveKeys}
 use Rattle.node_undo_laws.proofs.OrderLemmas.{order_stays, order_with}
@@ -81,7 +81,7 @@ undo_with rows table sets cs there of_table apart now =
 
 module _ (undo : ℕ) (rows : List TableRows) (owns : List Owned) (ds : List Doubt) (now : UndoStands undo rows owns ds) where
   -- other rows, which are alike at the keys of all changes
-  pub moved : (more : List TableRows) → AreInOrder more → ((b : BranchId) → AllByRecursion (StandAlike rows more) (changes_at owns b)) → AllByRecursion (λ d. AllByRecursion (StandAlike rows more) d.changes) ds
+  pub moved : (more : List TableRows) → RowsAreInOrder more → ((b : BranchId) → AllByRecursion (StandAlike rows more) (changes_at owns b)) → AllByRecursion (λ d. AllByRecursion (StandAlike rows more) d.changes) ds
       → UndoStands undo more owns ds
   moved more ordered own doubts = record {
     ordered = ordered;

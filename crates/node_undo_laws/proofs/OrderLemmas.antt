@@ -13,7 +13,7 @@ use Rattle.node_rules.specs.Data.stmts
 use Rattle.node_rules.specs.Words.{same_text}
 use Rattle.node_rules.specs.Rows.{TableRows, same_value, keys_of, apply_all, with_table, rows_of_table}
 use Rattle.node_ready_laws.proofs.ListLemmas.{all_last}
-use Rattle.node_undo_laws.specs.Kept.{AreInOrder}
+use Rattle.node_undo_laws.specs.Kept.{RowsAreInOrder}
 use Rattle.node_undo_laws.proofs.UndoLemmas.{AreDifferent}
 
 -- ---- keys that are written
@@ -48,16 +48,16 @@ written_differ _ t view ordered = tt
 
 -- ---- rows of all tables
 
-pub order_stays : (cs : List Change) (rows : List TableRows) → AreInOrder rows → AreInOrder (apply_all rows cs)
+pub order_stays : (cs : List Change) (rows : List TableRows) → RowsAreInOrder rows → RowsAreInOrder (apply_all rows cs)
 order_stays cs [] ordered = tt
 order_stays cs (t ∷ ts) ordered = (changes_keep_order t.table cs t.rows ordered.0, order_stays cs ts ordered.1)
 
-pub order_with : (rows : List TableRows) (name : List ℕ) → AreInOrder rows → AreInOrder (with_table rows name)
+pub order_with : (rows : List TableRows) (name : List ℕ) → RowsAreInOrder rows → RowsAreInOrder (with_table rows name)
 unfolding IsStrictlySortedBy
 order_with rows name ordered = all_last (λ t. AreInKeyOrder t.rows) rows (record { table = name; rows = [] }) ordered tt
 
 -- the rows of one
-pub order_of : (rows : List TableRows) (name : List ℕ) → AreInOrder rows → AreInKeyOrder (rows_of_table rows name)
+pub order_of : (rows : List TableRows) (name : List ℕ) → RowsAreInOrder rows → AreInKeyOrder (rows_of_table rows name)
 unfolding IsStrictlySortedBy
 order_of [] name ordered = tt
 order_of (t ∷ ts) name ordered = by (same_text t.table name) (order_of ts name ordered.1)

@@ -11,8 +11,8 @@ use Rattle.node_undo_laws.specs.Changed.{ChangesAreOfLives}
 use Rattle.node_undo_laws.specs.Keys.{KeysHeld}
 
 -- the rows of each table stand in the order of their keys
-abbrev pub AreInOrder : List TableRows → Type 0
-AreInOrder rows = AllByRecursion (λ t. AreInKeyOrder t.rows) rows
+abbrev pub RowsAreInOrder : List TableRows → Type 0
+RowsAreInOrder rows = AllByRecursion (λ t. AreInKeyOrder t.rows) rows
 
 -- the undo of a branch's statements is the rows from before all their changes
 abbrev pub UndoIsOf : List TableRows → List ChangeSet → Type 0
@@ -25,7 +25,7 @@ UndoIsHeld rows d = d.undo ≡ undo_over rows d.changes
 -- Rows in the order of their keys, the undo of live branches and of branches in doubt, which is that of their changes over these rows,
 -- and no more of it than there are extents for.
 pub record UndoStands (undo : ℕ) (rows : List TableRows) (owns : List Owned) (doubts : List Doubt) : Type 0 where
-  pub ordered : AreInOrder rows
+  pub ordered : RowsAreInOrder rows
   pub own : (b : BranchId) → UndoIsOf rows (sets_at owns b)
   pub held_back : AllByRecursion (UndoIsHeld rows) doubts
   pub room : used_extents owns doubts ≤ undo

@@ -17,6 +17,7 @@ use Rattle.node_rules.specs.Force.{branch_to_force, purge}
 use Rattle.node_rules.specs.Turn.{turn_of, start_of, status_of}
 use Rattle.node_rules.specs.Points.{passes, point_of}
 use Rattle.pending_view.specs.Views.{pending_rows, neighbor_rows}
+use Rattle.undo_view.specs.Views.{undo_rows}
 use Rattle.net_bag.specs.Net.{sent_on, delivered, lost, cut_over, joined, stopped, started}
 use Rattle.run_rules.specs.Disks.{struck, after_append}
 use Rattle.run_rules.specs.Cuts.{cut_by}
@@ -27,5 +28,5 @@ use Rattle.report.specs.Refusals.{ora_texts, dtx_texts}
 use Rattle.run_rules.specs.Report.{report}
 
 unfoldable pub playing : ⊤
-unfolding digits decimal hex8 kept_after durable_after checked examined written meant_over applied stored_by weight step ran_over ran way_of admit reply_of beyond next_on_decision next_on_ack next_on_forgotten recovery branch_to_force purge turn_of start_of status_of passes point_of pending_rows neighbor_rows sent_on delivered lost cut_over joined stopped started struck after_append cut_by facts_after next due_of runs_on ora_texts dtx_texts report
+unfolding digits decimal hex8 kept_after durable_after checked examined written meant_over applied stored_by weight step ran_over ran way_of admit reply_of beyond next_on_decision next_on_ack next_on_forgotten recovery branch_to_force purge turn_of start_of status_of passes point_of pending_rows neighbor_rows undo_rows sent_on delivered lost cut_over joined stopped started struck after_append cut_by facts_after next due_of runs_on ora_texts dtx_texts report
 playing = tt

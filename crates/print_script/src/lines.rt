@@ -72,6 +72,7 @@ fn short_line(alloc: Global, command: &Command) -> Result<String, AllocError> {
         Command::ShowBook => format!(in alloc; "SHOW BOOK"),
         Command::ShowNet => format!(in alloc; "SHOW NET"),
         Command::ShowDisk { node } => format!(in alloc; "SHOW DISK {node}"),
+        Command::ShowUndo { node } => format!(in alloc; "SHOW UNDO {node}"),
         _ => format!(in alloc; ""),
     }
 }

@@ -19,6 +19,17 @@ pub fn encode(alloc: Global, record: &RedoRecord) -> Result<Bytes, AllocError>
     Ok(Bytes::of(write_whole::<RecordField>(alloc, record)?))
 }
 
+/// Why no record is made of bytes that were not read as one.
+fn decode_err(err: TakeErr) -> DecodeErr
+    ensures none { result ≡ DecodeErr.NotARecord → err ≡ TakeErr.NoSpelling }
+    ensures memory { result ≡ DecodeErr.NoMemory → err ≡ TakeErr.NoMemory }
+{
+    match err {
+        TakeErr::NoSpelling => DecodeErr::NotARecord,
+        TakeErr::NoMemory => DecodeErr::NoMemory,
+    }
+}
+
 /// The record whose body this is. Fails with `NotARecord` exactly where this is the body of none, and with `NoMemory`
 /// where memory runs out.
 pub fn decode(alloc: Global, body: &[u8]) -> Result<RedoRecord, DecodeErr>
@@ -27,7 +38,6 @@ pub fn decode(alloc: Global, body: &[u8]) -> Result<RedoRecord, DecodeErr>
 {
     match read_whole::<RecordField>(alloc, body) {
         Ok(record) => Ok(record),
-        Err(TakeErr::NoSpelling) => Err(DecodeErr::NotARecord),
-        Err(TakeErr::NoMemory) => Err(DecodeErr::NoMemory),
+        Err(err) => Err(decode_err(err)),
     }
 }

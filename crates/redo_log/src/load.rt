@@ -7,6 +7,7 @@ ghost use Rattle.redo_log.specs.Plans.{load_calls};
 ghost use Rattle.redo_log.specs.Runs.{HasRun, MetFault, IsOnlyRead};
 
 use crate::gate::{Gate, first_gate};
+use crate::plain::count;
 use crate::{Bodies, LoadWhy};
 use block_disk::Disk;
 use std::alloc::Global;
@@ -48,8 +49,13 @@ fn read_synced<D: Disk>(alloc: Global, disk: &mut D) -> Result<Vec<u8>, LoadWhy>
 fn parse(alloc: Global, bytes: &[u8]) -> Result<(Bodies, u64), LoadWhy>
     ensures log { IfOk result (λ found. IsLogTo found.1 found.0 bytes.now) }
     ensures not_a_log { IsErrOf result LoadWhy.NotALog → bodies bytes.now ≡ None }
+    ensures none { bodies bytes.now ≡ None → IsErrOf result LoadWhy.NotALog }
     ensures no_fault { IsErrOf result LoadWhy.Fault → ⊥ }
 {
+    // That these bytes hold no log is seen before any memory is taken for its bodies.
+    if count(bytes).is_none() {
+        return Err(LoadWhy::NotALog);
+    }
     let mut found = Bodies::new(alloc);
     let mut rest = bytes;
     'cells: loop {

@@ -1,4 +1,5 @@
 pub mod Rows
+pub mod Bytes
 pub mod Refusals
 pub mod Answers
 pub mod Report

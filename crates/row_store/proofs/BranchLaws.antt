@@ -1,5 +1,5 @@
 -- What a map by branches does, as the list of what belongs to them says it.
-use Rattle.std.proofs.Common.{◌≡◌, ℕ, Bool, List, map, position, None, Some, refl}
+use Rattle.std.proofs.Common.{◌≡◌, ℕ, Bool, List, map, position, None, Some}
 use Rattle.std.specs.Option.{option_map}
 use Rattle.std.specs.Map.{lookup, keys_of, remove_entry}
 use Rattle.indexmap.specs.IndexMap.{insert_entry}

@@ -1,5 +1,5 @@
 -- Changes of branches in doubt have places, and changes that have places are of tables.
-use Rattle.std.proofs.Common.{◌≡◌, ℕ, Bool, true, false, cond, not, List, [], ◌∷◌, ◌++◌, None, Some, Option, is_some, refl, sym, ◌∙◌, true≢false}
+use Rattle.std.proofs.Common.{◌≡◌, ℕ, Bool, true, false, cond, not, List, [], ◌∷◌, ◌++◌, None, Some, Option, is_some, refl, sym, subst, ◌∙◌, true≢false}
 use Rattle.std.specs.Map.{lookup}
 use Rattle.std.specs.Str.{bytes_eq}
 use Rattle.dtx_values.specs.declared.value.Value.{Value}
@@ -7,14 +7,18 @@ use Rattle.dtx_values.specs.declared.row.Change.{Change}
 use Rattle.tran_ids.specs.declared.branch.BranchId.{BranchId}
 use Rattle.tran_ids.specs.Branch.{same}
 use Rattle.tran_ids.specs.Listed.{item_at, drop_item}
+use Rattle.row_store.specs.declared.pending.ChangeSet.{ChangeSet}
 use Rattle.row_store.specs.declared.pending.Doubt.{Doubt}
 use Rattle.row_store.specs.declared.pending.Owned.{Owned}
+use Rattle.row_store.specs.Pending.{changes_of}
 use Rattle.row_store.specs.Places.{Place}
 use Rattle.row_store.specs.TablePlaces.{Shelf, rows_in, has_place_on, has_place_in}
 use Rattle.row_store.specs.AllPlaced.{ArePlaced, AllHeld, HavePlaces}
-use Rattle.row_store.specs.Store.{doubt_id, held_back, AreOfTables}
+use Rattle.row_store.specs.Tables.{TableRows}
+use Rattle.row_store.specs.ByBranch.{PendingState}
+use Rattle.row_store.specs.Store.{Contents, own_id, doubt_id, sets_at, held_back, AreOfTables, with_set, without_last, sealed_doubt}
 use Rattle.row_store.proofs.TableLaws.{table_is}
-use Rattle.row_store.proofs.StoreLaws.{placed_still, all_still}
+use Rattle.row_store.proofs.StoreLaws.{placed_still, all_still, placed_at, placed_put, placed_both, placed_drop, placed_less, changes_more}
 
 module _ (sh : List Shelf) where
   at_if : (d : Doubt) (ds : List Doubt) (b : BranchId) (hit : Bool) → ArePlaced sh d.changes → ArePlaced sh (held_back (item_at doubt_id ds b))
@@ -65,3 +69,49 @@ of_tables sh (c ∷ cs) all = (sym (table_is sh c.table) ∙ table_if (lookup (b
 pub not_found : (o : Option Doubt) → is_some o ≡ false → o ≡ None
 not_found None e = refl
 not_found (Some d) e = absurd (true≢false e)
+
+-- ---- places for what is kept beside the rows
+
+-- the contents with these rows
+abbrev pub contents_of : List TableRows → PendingState → Contents
+contents_of rows s = record { rows = rows; owns = s.owns; doubts = s.doubts; extents = s.extents }
+
+abbrev pub HaveFor : List Shelf → PendingState → Type 0
+HaveFor sh s = HavePlaces sh s.owns s.doubts
+
+-- places that stay
+pub still_for : (sh now : List Shelf) → ((name : List ℕ) (key : Value) → has_place_in sh name key ≡ true → has_place_in now name key ≡ true)
+    → (s : PendingState) → HaveFor sh s → HaveFor now s
+still_for sh now keeps s have = have_still sh now keeps s.owns s.doubts have
+
+-- a live branch leaves
+pub leave_for : (sh : List Shelf) (s t : PendingState) (b : BranchId) → t ≡ record s { owns = drop_item own_id s.owns b } → HaveFor sh s → HaveFor sh t
+leave_for sh s t b is have = subst (HaveFor sh) (sym is) (record { own = placed_drop sh s.owns b have.own; held = have.held })
+
+-- a branch in doubt leaves
+pub settle_for : (sh : List Shelf) (s t : PendingState) (b : BranchId) → t ≡ record s { doubts = drop_item doubt_id s.doubts b } → HaveFor sh s → HaveFor sh t
+settle_for sh s t b is have = subst (HaveFor sh) (sym is) (record { own = have.own; held = held_drop sh s.doubts b have.held })
+
+-- a live branch's last set is taken back
+pub less_for : (sh : List Shelf) (s t : PendingState) (b : BranchId) → t ≡ record s { owns = without_last s.owns b } → HaveFor sh s → HaveFor sh t
+less_for sh s t b is have = subst (HaveFor sh) (sym is) (record { own = placed_less sh s.owns b have.own; held = have.held })
+
+-- a live branch becomes one in doubt
+pub seal_for : (sh : List Shelf) (s : PendingState) (b : BranchId) → HaveFor sh s
+    → HaveFor sh (record s { owns = drop_item own_id s.owns b; doubts = s.doubts ++ sealed_doubt s.owns b ∷ [] })
+seal_for sh s b have = record {
+  own = placed_drop sh s.owns b have.own;
+  held = held_push sh s.doubts (sealed_doubt s.owns b) have.held (placed_at sh s.owns b have.own);
+}
+
+-- a live branch has one set more
+pub more_for : (sh : List Shelf) (s : PendingState) (b : BranchId) (set : ChangeSet) → HaveFor sh s → ArePlaced sh set.changes
+    → HaveFor sh (record s { owns = with_set s.owns b set })
+more_for sh s b set have one =
+    let sets = sets_at s.owns b in
+    let all = subst (ArePlaced sh) (sym (changes_more sets set)) (placed_both sh (changes_of sets) set.changes (placed_at sh s.owns b have.own) one) in
+    record { own = placed_put sh s.owns (record { branch = b; sets = sets ++ set ∷ [] }) have.own all; held = have.held }
+
+-- a branch in doubt comes
+pub doubt_for : (sh : List Shelf) (s : PendingState) (d : Doubt) → HaveFor sh s → ArePlaced sh d.changes → HaveFor sh (record s { doubts = s.doubts ++ d ∷ [] })
+doubt_for sh s d have one = record { own = have.own; held = held_push sh s.doubts d have.held one }

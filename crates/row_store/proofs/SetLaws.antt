@@ -1,79 +1,131 @@
--- Changes as sets of some sizes: all of them, one set more, and the last set taken back.
+-- Changes and their undo as sets of some sizes: all of them, one set more, and the last set taken back.
 use Rattle.std.proofs.Common.{◌≡◌, ℕ, ◌+◌, ◌-◌, ◌≤◌, List, [], ◌∷◌, ◌++◌, length, map, take, drop, refl, sym, ap, ◌∙◌, arith, length-append, length-drop}
-use Rattle.std.specs.Prelude.{sum}
-use Rattle.std.proofs.lemmas.List.{map-append, take-append-drop, take-append-le, drop-append-le}
-use Rattle.std.proofs.lemmas.List.Sums.{sum_by-cons}
+use Rattle.std.proofs.lemmas.List.{map-append, take-append-drop, take-append-le, drop-append-le, same_from_push}
+use Rattle.std.proofs.lemmas.List.Sums.{sum_by-cons, sum_by_push}
 use Rattle.std.proofs.Math.Seq.{take-length, take-append_seam}
 use Rattle.dtx_values.specs.declared.row.Change.{Change}
-use Rattle.row_store.specs.declared.made.Made.{Made}
+use Rattle.row_store.specs.declared.own_sets.SetSize.{SetSize}
 use Rattle.row_store.specs.declared.pending.ChangeSet.{ChangeSet}
 use Rattle.row_store.specs.Pending.{changes_of, undo_of}
-use Rattle.row_store.specs.Made.{changes_in, undone, undo_in, set_in, cut}
+use Rattle.row_store.specs.ByBranch.{cut, total, set_bytes, AreCut}
 
-sum_first : (n : ℕ) (ns : List ℕ) → sum (n ∷ ns) ≡ n + sum ns
-sum_first n ns = sum_by-cons (λ (x : ℕ). x) n ns
+total_first : (n : SetSize) (ns : List SetSize) → total (n ∷ ns) ≡ n.changes + total ns
+total_first n ns = sum_by-cons (λ (m : SetSize). m.changes) n ns
 
-rest_long : (n : ℕ) (ns : List ℕ) (ms : List Made) → sum (n ∷ ns) ≡ length ms → sum ns ≡ length (drop n ms)
-rest_long n ns ms all = let e = length-drop n ms in let s = sum_first n ns in omega arith
+total_push : (ns : List SetSize) (n : SetSize) → total (ns ++ n ∷ []) ≡ total ns + n.changes
+total_push ns n = sum_by_push (λ (m : SetSize). m.changes) ns n
 
-none_left : (ms : List Made) → 0 ≡ length ms → ms ≡ []
+rest_long : (n : SetSize) (ns : List SetSize) (cs : List Change) → total (n ∷ ns) ≡ length cs → total ns ≡ length (drop n.changes cs)
+rest_long n ns cs all = let e = length-drop n.changes cs in let s = total_first n ns in omega arith
+
+none_left : (cs : List Change) → 0 ≡ length cs → cs ≡ []
 none_left [] e = refl
-none_left (m ∷ ms) e = absurd (omega arith)
-
-parts_of : (f : Made → Change) (n : ℕ) (ms : List Made) → map f (take n ms) ++ map f (drop n ms) ≡ map f ms
-parts_of f n ms = sym (map-append f (take n ms) (drop n ms)) ∙ ap (map f) (take-append-drop n ms)
+none_left (c ∷ cs) e = absurd (omega arith)
 
 -- all changes
-pub changes_cut : (ns : List ℕ) (ms : List Made) → sum ns ≡ length ms → changes_of (cut ms ns) ≡ changes_in ms
-changes_cut [] ms all = sym (ap changes_in (none_left ms all))
-changes_cut (n ∷ ns) ms all =
-    ap (λ cs. changes_in (take n ms) ++ cs) (changes_cut ns (drop n ms) (rest_long n ns ms all)) ∙ parts_of (λ m. m.change) n ms
+pub changes_cut : (ns : List SetSize) (cs us : List Change) → total ns ≡ length cs → changes_of (cut ns cs us) ≡ cs
+changes_cut [] cs us all = sym (none_left cs all)
+changes_cut (n ∷ ns) cs us all =
+    ap (λ (ds : List Change). take n.changes cs ++ ds) (changes_cut ns (drop n.changes cs) (drop n.changes us) (rest_long n ns cs all)) ∙ take-append-drop n.changes cs
 
 -- and their undo
-pub undo_cut : (ns : List ℕ) (ms : List Made) → sum ns ≡ length ms → undo_of (cut ms ns) ≡ undo_in ms
-undo_cut [] ms all = sym (ap undo_in (none_left ms all))
-undo_cut (n ∷ ns) ms all =
-    ap (λ cs. undo_in (take n ms) ++ cs) (undo_cut ns (drop n ms) (rest_long n ns ms all)) ∙ parts_of undone n ms
+pub undo_cut : (ns : List SetSize) (cs us : List Change) → total ns ≡ length us → undo_of (cut ns cs us) ≡ us
+undo_cut [] cs us all = sym (none_left us all)
+undo_cut (n ∷ ns) cs us all =
+    ap (λ (ds : List Change). take n.changes us ++ ds) (undo_cut ns (drop n.changes cs) (drop n.changes us) (rest_long n ns us all)) ∙ take-append-drop n.changes us
 
 -- one set more
-pub cut_push : (ns : List ℕ) (ms new : List Made) → sum ns ≡ length ms → cut (ms ++ new) (ns ++ length new ∷ []) ≡ cut ms ns ++ set_in new ∷ []
-cut_push [] ms new all =
-    ap (λ (l : List Made). cut (l ++ new) (length new ∷ [])) (none_left ms all) ∙ ap (λ l. set_in l ∷ []) (take-length new)
-cut_push (n ∷ ns) ms new all =
-    let few : n ≤ length ms = let s = sum_first n ns in omega arith in
-    (λ i. set_in (take-append-le n ms new few i) ∷ cut (drop-append-le n ms new few i) (ns ++ length new ∷ []))
-    ∙ ap (λ (ss : List ChangeSet). set_in (take n ms) ∷ ss) (cut_push ns (drop n ms) new (rest_long n ns ms all))
-
-sum_push : (ns : List ℕ) (n : ℕ) → sum (ns ++ n ∷ []) ≡ sum ns + n
-sum_push [] n = omega arith
-sum_push (k ∷ ns) n = let e = sum_push ns n in let s = sum_first k ns in let t = sum_first k (ns ++ n ∷ []) in omega arith
-
-pub sum_more : (ns : List ℕ) (ms new : List Made) → sum ns ≡ length ms → sum (ns ++ length new ∷ []) ≡ length (ms ++ new)
-sum_more ns ms new all = sum_push ns (length new) ∙ ap (λ k. k + length new) all ∙ sym (length-append ms new)
-
--- the last set taken back
-
-pub last_fits : (ns : List ℕ) (n : ℕ) (ms : List Made) → sum (ns ++ n ∷ []) ≡ length ms → n ≤ length ms
-last_fits ns n ms all = let e = sum_push ns n in omega arith
-
-pub sum_less : (ns : List ℕ) (n : ℕ) (ms : List Made) → sum (ns ++ n ∷ []) ≡ length ms → sum ns ≡ length (take (length ms - n) ms)
-sum_less ns n ms all =
-    let e = sum_push ns n in
-    let whole = ap length (take-append-drop (length ms - n) ms) in
-    let parts = length-append (take (length ms - n) ms) (drop (length ms - n) ms) in
-    let rest = length-drop (length ms - n) ms in
-    omega arith
+pub cut_push : (ns : List SetSize) (n : SetSize) (cs us ds vs : List Change) → total ns ≡ length cs → total ns ≡ length us → n.changes ≡ length ds → n.changes ≡ length vs
+    → cut (ns ++ n ∷ []) (cs ++ ds) (us ++ vs) ≡ cut ns cs us ++ (record { changes = ds; undo = vs }) ∷ []
+cut_push [] n cs us ds vs all both long wide =
+    (λ i. let s : ChangeSet = record { changes = take n.changes (none_left cs all i ++ ds); undo = take n.changes (none_left us both i ++ vs) } in s ∷ [])
+    ∙ (λ i. let s : ChangeSet = record { changes = take (long i) ds; undo = take (wide i) vs } in s ∷ [])
+    ∙ (λ i. let s : ChangeSet = record { changes = take-length ds i; undo = take-length vs i } in s ∷ [])
+cut_push (m ∷ ns) n cs us ds vs all both long wide =
+    let few : m.changes ≤ length cs = let s = total_first m ns in omega arith in
+    let low : m.changes ≤ length us = let s = total_first m ns in omega arith in
+    (λ i. let s : ChangeSet = record { changes = take-append-le m.changes cs ds few i; undo = take-append-le m.changes us vs low i } in
+    s ∷ cut (ns ++ n ∷ []) (drop-append-le m.changes cs ds few i) (drop-append-le m.changes us vs low i))
+    ∙ ap (λ (ss : List ChangeSet). (record { changes = take m.changes cs; undo = take m.changes us }) ∷ ss)
+    (cut_push ns n (drop m.changes cs) (drop m.changes us) ds vs (rest_long m ns cs all) (rest_long m ns us both) long wide)
 
 front_of : {X : Type 0} (xs : List X) (x : X) → take (length (xs ++ x ∷ []) - 1) (xs ++ x ∷ []) ≡ xs
 front_of xs x =
     let e : length (xs ++ x ∷ []) - 1 ≡ length xs = let h = length-append xs (x ∷ []) in omega arith in
     ap (λ k. take k (xs ++ x ∷ [])) e ∙ take-append_seam xs (x ∷ [])
 
-pub cut_pop : (ns : List ℕ) (n : ℕ) (ms : List Made) → sum (ns ++ n ∷ []) ≡ length ms
-    → cut (take (length ms - n) ms) ns ≡ take (length (cut ms (ns ++ n ∷ [])) - 1) (cut ms (ns ++ n ∷ []))
-cut_pop ns n ms all =
-    let k = length ms - n in
-    let long : length (drop k ms) ≡ n = let e = length-drop k ms in let f = last_fits ns n ms all in omega arith in
-    let split : cut ms (ns ++ n ∷ []) ≡ cut (take k ms) ns ++ set_in (drop k ms) ∷ [] =
-    (λ i. cut (sym (take-append-drop k ms) i) (ns ++ sym long i ∷ [])) ∙ cut_push ns (take k ms) (drop k ms) (sum_less ns n ms all) in
-    sym (ap (λ ss. take (length ss - 1) ss) split ∙ front_of (cut (take k ms) ns) (set_in (drop k ms)))
+-- with one set more
+pub are_cut_push : (ns : List SetSize) (n : SetSize) (cs us ds vs : List Change) → AreCut ns cs us → n.changes ≡ length ds → length vs ≡ length ds
+    → n.undo ≡ set_bytes (record { changes = ds; undo = vs }) → AreCut (ns ++ n ∷ []) (cs ++ ds) (us ++ vs)
+are_cut_push ns n cs us ds vs are long even bytes =
+    let more = length-append cs ds in
+    let wide = length-append us vs in
+    let t = total_push ns n in
+    let s : ChangeSet = record { changes = ds; undo = vs } in
+    record {
+      all = let a = are.all in omega arith;
+      both = let b = are.both in omega arith;
+      spelled =
+          ap (map set_bytes) (cut_push ns n cs us ds vs are.all (are.all ∙ sym are.both) long (long ∙ sym even))
+          ∙ map-append set_bytes (cut ns cs us) (s ∷ [])
+          ∙ (λ i. are.spelled i ++ sym bytes i ∷ [])
+          ∙ sym (map-append (λ (m : SetSize). m.undo) ns (n ∷ []));
+    }
+
+-- ---- the last set taken back
+
+module _ (ns : List SetSize) (n : SetSize) (cs us : List Change) (are : AreCut (ns ++ n ∷ []) cs us) where
+  abbrev k : ℕ
+  k = length cs - n.changes
+
+  fits : total ns + n.changes ≡ length cs
+  fits = sym (total_push ns n) ∙ are.all
+
+  abbrev front : List ChangeSet
+  front = cut ns (take k cs) (take k us)
+
+  abbrev last : ChangeSet
+  last = record { changes = drop k cs; undo = drop k us }
+
+  few : total ns ≡ length (take k cs)
+  few =
+      let f = fits in
+      let whole = ap length (take-append-drop k cs) in
+      let parts = length-append (take k cs) (drop k cs) in
+      let rest = length-drop k cs in
+      omega arith
+
+  low : total ns ≡ length (take k us)
+  low =
+      let f = fits in
+      let b = are.both in
+      let whole = ap length (take-append-drop k us) in
+      let parts = length-append (take k us) (drop k us) in
+      let rest = length-drop k us in
+      omega arith
+
+  long : n.changes ≡ length (drop k cs)
+  long = let f = fits in let rest = length-drop k cs in omega arith
+
+  wide : n.changes ≡ length (drop k us)
+  wide = let f = fits in let b = are.both in let rest = length-drop k us in omega arith
+
+  pub cut_last : cut (ns ++ n ∷ []) cs us ≡ front ++ last ∷ []
+  cut_last =
+      (λ i. cut (ns ++ n ∷ []) (sym (take-append-drop k cs) i) (sym (take-append-drop k us) i))
+      ∙ cut_push ns n (take k cs) (take k us) (drop k cs) (drop k us) few low long wide
+
+  pub cut_pop : cut ns (take k cs) (take k us) ≡ take (length (cut (ns ++ n ∷ []) cs us) - 1) (cut (ns ++ n ∷ []) cs us)
+  cut_pop = sym (ap (λ (ss : List ChangeSet). take (length ss - 1) ss) cut_last ∙ front_of front last)
+
+  both_spelled : (map set_bytes front ≡ map (λ m. m.undo) ns) × (set_bytes last ≡ n.undo)
+  both_spelled =
+      same_from_push (map set_bytes front) (map (λ (m : SetSize). m.undo) ns) (set_bytes last) n.undo
+      (sym (map-append set_bytes front (last ∷ [])) ∙ ap (map set_bytes) (sym cut_last) ∙ are.spelled ∙ map-append (λ (m : SetSize). m.undo) ns (n ∷ []))
+
+  -- the bytes of its undo
+  pub last_bytes : set_bytes last ≡ n.undo
+  last_bytes = both_spelled.1
+
+  pub are_cut_pop : AreCut ns (take k cs) (take k us)
+  are_cut_pop = record { all = few; both = sym low ∙ few; spelled = both_spelled.0 }

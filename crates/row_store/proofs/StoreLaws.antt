@@ -7,14 +7,12 @@ use Rattle.dtx_values.specs.declared.row.Change.{Change}
 use Rattle.tran_ids.specs.declared.branch.BranchId.{BranchId}
 use Rattle.tran_ids.specs.Branch.{same}
 use Rattle.tran_ids.specs.Listed.{item_at, put_item, drop_item}
-use Rattle.row_store.specs.declared.made.Made.{Made}
 use Rattle.row_store.specs.declared.pending.ChangeSet.{ChangeSet}
 use Rattle.row_store.specs.declared.pending.Owned.{Owned}
 use Rattle.std.proofs.lemmas.List.Sums.{sum_by-append}
 use Rattle.sql_eval.specs.Rows.{change_length}
 use Rattle.row_store.specs.Own.{changes_length}
 use Rattle.row_store.specs.Pending.{changes_of, undo_of}
-use Rattle.row_store.specs.Made.{changes_in, undo_in, set_in}
 use Rattle.row_store.specs.Tables.{TableRows}
 use Rattle.row_store.specs.TablePlaces.{Shelf, has_place_in}
 use Rattle.row_store.specs.AllPlaced.{ArePlaced, AllPlaced}
@@ -81,40 +79,36 @@ module _ (sh : List Shelf) where
     all_still [] all = tt
     all_still (o ∷ owns) all = (placed_still (changes_of o.sets) all.0, all_still owns all.1)
 
-pub no_items : (ms : List Made) → length ms ≡ 0 → ms ≡ []
+pub no_items : (cs : List Change) → length cs ≡ 0 → cs ≡ []
 no_items [] e = refl
-no_items (m ∷ ms) e = absurd (omega arith)
+no_items (c ∷ cs) e = absurd (omega arith)
 
 -- ---- what a set adds
 
+append_none : (cs : List Change) → cs ++ [] ≡ cs
+append_none [] = refl
+append_none (c ∷ cs) = ap (λ ds. c ∷ ds) (append_none cs)
+
 -- the undo of one set more
-pub undo_more : (sets : List ChangeSet) (ms : List Made) → changes_length (undo_of (sets ++ set_in ms ∷ [])) ≡ changes_length (undo_of sets) + changes_length (undo_in ms)
-undo_more sets ms =
-    ap changes_length (flat_map-append (λ (s : ChangeSet). s.undo) sets (set_in ms ∷ []))
-    ∙ sum_by-append change_length (undo_of sets) (undo_of (set_in ms ∷ []))
-    ∙ ap (λ n. changes_length (undo_of sets) + n) (ap changes_length (append_none (undo_in ms)))
-  where
-    append_none : (cs : List Change) → cs ++ [] ≡ cs
-    append_none [] = refl
-    append_none (c ∷ cs) = ap (λ ds. c ∷ ds) (append_none cs)
+pub undo_of_more : (sets : List ChangeSet) (s : ChangeSet) → undo_of (sets ++ s ∷ []) ≡ undo_of sets ++ s.undo
+undo_of_more sets s = flat_map-append (λ (t : ChangeSet). t.undo) sets (s ∷ []) ∙ ap (λ cs. undo_of sets ++ cs) (append_none s.undo)
+
+-- and its bytes
+pub undo_more : (sets : List ChangeSet) (s : ChangeSet) → changes_length (undo_of (sets ++ s ∷ [])) ≡ changes_length (undo_of sets) + changes_length s.undo
+undo_more sets s = ap changes_length (undo_of_more sets s) ∙ sum_by-append change_length (undo_of sets) s.undo
 
 -- and its changes
 pub changes_more : (sets : List ChangeSet) (s : ChangeSet) → changes_of (sets ++ s ∷ []) ≡ changes_of sets ++ s.changes
-changes_more sets s =
-    flat_map-append (λ (t : ChangeSet). t.changes) sets (s ∷ []) ∙ ap (λ cs. changes_of sets ++ cs) (append_none s.changes)
-  where
-    append_none : (cs : List Change) → cs ++ [] ≡ cs
-    append_none [] = refl
-    append_none (c ∷ cs) = ap (λ ds. c ∷ ds) (append_none cs)
+changes_more sets s = flat_map-append (λ (t : ChangeSet). t.changes) sets (s ∷ []) ∙ ap (λ cs. changes_of sets ++ cs) (append_none s.changes)
 
 -- ---- changes of tables
 
-pub of_table_at : (rows : List TableRows) (ms : List Made) (i : ℕ) (m : Made) → AreOfTables rows (changes_in ms) → i < length ms → m ≡ get_or ms i m → has_table rows m.change.table ≡ true
-of_table_at rows [] i m all within is = absurd (omega arith)
-of_table_at rows (n ∷ ms) zero m all within is = ap (λ o. has_table rows o.change.table) is ∙ all.0
-of_table_at rows (n ∷ ms) (suc i) m all within is = of_table_at rows ms i m all.1 (omega arith) is
+pub of_table_at : (rows : List TableRows) (cs : List Change) (i : ℕ) (c : Change) → AreOfTables rows cs → i < length cs → c ≡ get_or cs i c → has_table rows c.table ≡ true
+of_table_at rows [] i c all within is = absurd (omega arith)
+of_table_at rows (d ∷ cs) zero c all within is = ap (λ o. has_table rows o.table) is ∙ all.0
+of_table_at rows (d ∷ cs) (suc i) c all within is = of_table_at rows cs i c all.1 (omega arith) is
 
 -- one more change that has a place
-pub placed_push : (sh : List Shelf) (ms : List Made) (m : Made) → ArePlaced sh (changes_in ms) → has_place_in sh m.change.table m.change.key ≡ true → ArePlaced sh (changes_in (ms ++ m ∷ []))
-placed_push sh [] m all one = (one, tt)
-placed_push sh (n ∷ ms) m all one = (all.0, placed_push sh ms m all.1 one)
+pub placed_push : (sh : List Shelf) (cs : List Change) (c : Change) → ArePlaced sh cs → has_place_in sh c.table c.key ≡ true → ArePlaced sh (cs ++ c ∷ [])
+placed_push sh [] c all one = (one, tt)
+placed_push sh (d ∷ cs) c all one = (all.0, placed_push sh cs c all.1 one)

@@ -1,5 +1,5 @@
 -- Sums over the entries of a map, where a value is put at a place, an entry is added or one is removed.
-use Rattle.std.proofs.Common.{◌≡◌, ℕ, ◌+◌, zero, suc, Bool, true, false, cond, List, [], ◌∷◌, ◌++◌, slice_get, Some, unwrap_or, refl, ap, arith}
+use Rattle.std.proofs.Common.{◌≡◌, ℕ, ◌+◌, ◌≤◌, zero, suc, Bool, true, false, cond, List, [], ◌∷◌, ◌++◌, slice_get, Some, unwrap_or, refl, ap, arith}
 use Rattle.std.specs.Prelude.{sum_by}
 use Rattle.std.specs.Map.{lookup, values_of, remove_entry}
 use Rattle.std.proofs.lemmas.List.Sums.{sum_by-cons, sum_by-append}
@@ -44,3 +44,15 @@ module _ {K X : Type 0} (f : X → ℕ) where
   pub total_removed : (test : K → Bool) (es : List (K × X)) (x : X) → lookup test es ≡ Some x → total (remove_entry test es) + f x ≡ total es
   total_removed test [] x there = absurd cc
   total_removed test (e ∷ es) x there = removed_step test (test e.0) e es (remove_entry test es) x there (total_removed test es x)
+
+  -- a value at a place is among them
+  pub total_at : (es : List (K × X)) (i : ℕ) (x : X) → slice_get (values_of es) i ≡ Some x → f x ≤ total es
+  total_at [] i x there = absurd cc
+  total_at (e ∷ es) zero x there =
+      let b = sum_by-cons (λ (d : K × X). f d.1) e es in
+      let is : f e.1 ≡ f x = ap (λ o. f (unwrap_or o x)) there in
+      omega arith
+  total_at (e ∷ es) (suc i) x there =
+      let b = sum_by-cons (λ (d : K × X). f d.1) e es in
+      let rest = total_at es i x there in
+      omega arith

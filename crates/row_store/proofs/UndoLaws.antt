@@ -1,16 +1,14 @@
 -- The rows from before changes, one change after the other.
-use Rattle.std.proofs.Common.{◌≡◌, ℕ, Bool, true, false, cond, ◌||◌, List, [], ◌∷◌, ◌++◌, None, unwrap_or, refl, sym, ap, ◌∙◌, append_assoc, true≢false}
+use Rattle.std.proofs.Common.{◌≡◌, ℕ, Bool, true, false, cond, ◌||◌, List, [], ◌∷◌, ◌++◌, None, Option, unwrap_or, refl, sym, ap, ◌∙◌, append_assoc, true≢false}
 use Rattle.std.specs.Cmp.Lexicographic.{bytes_decides}
-use Rattle.std.proofs.lemmas.List.{map-append}
 use Rattle.dtx_values.specs.declared.value.Value.{Value}
+use Rattle.dtx_values.specs.declared.row.Row.{Row}
 use Rattle.dtx_values.specs.declared.row.Change.{Change}
 use Rattle.sql_eval.specs.declared.keyed.Keyed.{Keyed}
 use Rattle.sql_check.specs.Words.{same_text}
 use Rattle.sql_eval.specs.Rows.{get, apply, change_one}
-use Rattle.row_store.specs.declared.made.Made.{Made}
-use Rattle.row_store.specs.Own.{last_at}
+use Rattle.row_store.specs.Own.{last_at, before}
 use Rattle.row_store.specs.Pending.{undo_over}
-use Rattle.row_store.specs.Made.{changes_in, undone, undo_in}
 use Rattle.row_store.specs.Tables.{TableRows, apply_all, rows_of_table}
 use Rattle.row_store.specs.Store.{has_table}
 use Rattle.row_store.proofs.Lookups.{get_applied}
@@ -42,23 +40,15 @@ module _ (table : List ℕ) (cs : List Change) where
       → unwrap_or (last_at cs table key None) (get (rows_of_table ts table) key) ≡ get (rows_of_table (apply_all ts cs) table) key
   got_after ts key has = sym (ap (λ rows. get rows key) (rows_applied ts has) ∙ get_applied table key (rows_of_table ts table) cs)
 
--- one change more
-pub changes_next : (made : List Made) (m : Made) (rest : List Change) → changes_in (made ++ m ∷ []) ++ rest ≡ changes_in made ++ m.change ∷ rest
-changes_next made m rest =
-    ap (λ cs. cs ++ rest) (map-append (λ (o : Made). o.change) made (m ∷ [])) ∙ append_assoc (changes_in made) (m.change ∷ []) rest
-
--- and its undo, the row from before it
-pub undo_next : (ts : List TableRows) (made : List Made) (m : Made) (rest : List Change) → m.before ≡ get (rows_of_table (apply_all ts (changes_in made)) m.change.table) m.change.key
-    → undo_in (made ++ m ∷ []) ++ undo_over (apply_all ts (changes_in (made ++ m ∷ []))) rest ≡ undo_in made ++ undo_over (apply_all ts (changes_in made)) (m.change ∷ rest)
-undo_next ts made m rest row =
-    let changes : changes_in (made ++ m ∷ []) ≡ changes_in made ++ m.change ∷ [] = map-append (λ (o : Made). o.change) made (m ∷ []) in
-    let undo : undo_in (made ++ m ∷ []) ≡ undo_in made ++ undone m ∷ [] = map-append undone made (m ∷ []) in
-    let after : apply_all ts (changes_in (made ++ m ∷ [])) ≡ apply_all (apply_all ts (changes_in made)) (m.change ∷ []) = ap (apply_all ts) changes ∙ sym (all_both (changes_in made) (m.change ∷ []) ts) in
-    (λ i. undo i ++ undo_over (after i) rest)
-    ∙ append_assoc (undo_in made) (undone m ∷ []) (undo_over (apply_all (apply_all ts (changes_in made)) (m.change ∷ [])) rest)
-    ∙ (λ i. undo_in made ++ record m.change { after = row i } ∷ undo_over (apply_all (apply_all ts (changes_in made)) (m.change ∷ [])) rest)
+-- one change more, and its undo, the row from before it
+pub undo_next : (ts : List TableRows) (made us : List Change) (c : Change) (row : Option Row) (rest : List Change) → row ≡ get (rows_of_table (apply_all ts made) c.table) c.key
+    → (us ++ (record c { after = row }) ∷ []) ++ undo_over (apply_all ts (made ++ c ∷ [])) rest ≡ us ++ undo_over (apply_all ts made) (c ∷ rest)
+undo_next ts made us c row rest is =
+    let after : apply_all ts (made ++ c ∷ []) ≡ apply_all (apply_all ts made) (c ∷ []) = sym (all_both made (c ∷ []) ts) in
+    (λ i. (us ++ (record c { after = is i }) ∷ []) ++ undo_over (after i) rest)
+    ∙ append_assoc us (before (rows_of_table (apply_all ts made) c.table) c ∷ []) (undo_over (apply_all (apply_all ts made) (c ∷ [])) rest)
 
 -- no change yet
-pub undo_none : (ts : List TableRows) (made : List Made) (cs rest : List Change) → made ≡ [] → rest ≡ cs → undo_in made ++ undo_over (apply_all ts (changes_in made)) rest ≡ undo_over ts cs
-undo_none ts made cs rest none all =
-    (λ i. undo_in (none i) ++ undo_over (apply_all ts (changes_in (none i))) (all i)) ∙ ap (λ us. undo_over us cs) (apply_none ts)
+pub undo_none : (ts : List TableRows) (made us cs rest : List Change) → made ≡ [] → us ≡ [] → rest ≡ cs → us ++ undo_over (apply_all ts made) rest ≡ undo_over ts cs
+undo_none ts made us cs rest none empty all =
+    (λ i. empty i ++ undo_over (apply_all ts (none i)) (all i)) ∙ ap (λ rows. undo_over rows cs) (apply_none ts)

@@ -4,8 +4,8 @@ pub mod Kept
 pub mod Named
 pub mod Pending
 pub mod Places
-pub mod Made
 pub mod ByBranch
 pub mod Store
 pub mod TablePlaces
 pub mod AllPlaced
+pub mod Undone

@@ -154,6 +154,28 @@ abbrev pub held_back : Option Doubt → List Change
 held_back None = []
 held_back (Some d) = d.changes
 
+-- the undo of a branch that is live, or else in doubt
+abbrev pub held_by : Option Owned → Option Doubt → List Change
+held_by None None = []
+held_by None (Some d) = d.undo
+held_by (Some o) d = undo_of o.sets
+
+-- the undo that a branch holds among these
+abbrev pub undo_held_in : List Owned → List Doubt → BranchId → List Change
+undo_held_in owns doubts b = held_by (item_at own_id owns b) (item_at doubt_id doubts b)
+
+-- the undo that a branch holds: each of its changes with the row from before it
+abbrev pub undo_held : Contents → BranchId → List Change
+undo_held s b = undo_held_in s.owns s.doubts b
+
+-- the branches that may hold undo: the live ones that have run statements, and then those in doubt
+abbrev pub holders : List Owned → List Doubt → List BranchId
+holders owns doubts = map own_id owns ++ map doubt_id doubts
+
+-- a live branch as one in doubt, with the undo that it holds
+abbrev pub sealed_doubt : List Owned → BranchId → Doubt
+sealed_doubt owns b = record { branch = b; changes = changes_of (sets_at owns b); undo = undo_of (sets_at owns b) }
+
 -- whether a branch is in doubt
 abbrev pub is_in_doubt : List Doubt → BranchId → Bool
 is_in_doubt doubts b = is_some (item_at doubt_id doubts b)

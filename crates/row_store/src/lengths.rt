@@ -30,22 +30,14 @@ fn row_len(row: Option<&Row>) -> Result<u64, AllocError>
     }
 }
 
-/// The bytes of a change with this row in place of its own, or with no row.
-pub(crate) fn change_len_with(change: &Change, after: Option<&Row>) -> Result<u64, AllocError>
-    ensures bytes { IfOk result (λ bytes. bytes ≡ change_length (record change.now { after = option_copied after.entry })) }
-    ensures many { OnErr result (2 ^ 64 ≤ change_length (record change.now { after = option_copied after.entry })) }
-{
-    let table = change.table.as_bytes().len() as u64;
-    let place = sum(1 + table, value_len(&change.key))?;
-    sum(place, row_len(after)?)
-}
-
 /// The bytes of a change.
 pub(crate) fn change_len(change: &Change) -> Result<u64, AllocError>
     ensures bytes { IfOk result (λ bytes. bytes ≡ change_length change.now) }
     ensures many { OnErr result (2 ^ 64 ≤ change_length change.now) }
 {
-    change_len_with(change, change.after.as_ref())
+    let table = change.table.as_bytes().len() as u64;
+    let place = sum(1 + table, value_len(&change.key))?;
+    sum(place, row_len(change.after.as_ref())?)
 }
 
 /// The bytes of changes.

@@ -4,7 +4,7 @@ ghost use Rattle.std.specs.Option.{option_copied};
 ghost use Rattle.dtx_values.specs.declared.value.Value.{Value as AnyValue};
 ghost use Rattle.dtx_values.specs.Order.{same_value};
 ghost use Rattle.sql_eval.specs.Rows.{get as get_of, set_to};
-ghost use Rattle.row_store.specs.Pending.{changes_of};
+ghost use Rattle.row_store.specs.ByBranch.{changes_kept};
 ghost use Rattle.row_store.specs.Places.{rows_at, has_place, AreRising};
 ghost use Rattle.row_store.specs.TablePlaces.{left_at, left_by};
 
@@ -88,7 +88,7 @@ impl RowPlaces {
         table: &Name,
         own: &'a OwnSets,
     ) -> Result<Vec<KeyedRef<'a>>, AllocError>
-        ensures rows { IfOk result (λ rows. rows.items ≡ rows_at (left_by table.now (changes_of own.now) self.now)) }
+        ensures rows { IfOk result (λ rows. rows.items ≡ rows_at (left_by table.now own.now.changes self.now)) }
         ensures rising { AreRising self.now }
     {
         if !own.has_changes() {
@@ -131,7 +131,7 @@ impl RowPlaces {
 
 // The row that a branch's changes leave at the place of a key.
 fn left<'a>(own: &'a OwnSets, table: &Name, key: &Value, row: &'a Option<Row>) -> Option<&'a Row>
-    ensures { option_copied result ≡ left_at table.now (changes_of own.now) (key.now, row.now) }
+    ensures { option_copied result ≡ left_at table.now own.now.changes (key.now, row.now) }
 {
     match own.last_at(table, key) {
         Some(after) => after.as_ref(),
@@ -146,7 +146,7 @@ pub(crate) fn refs_seen<'a>(
     table: &Name,
     own: Option<&'a OwnSets>,
 ) -> Result<Vec<KeyedRef<'a>>, AllocError>
-    ensures rows { IfOk result (λ rows. rows.items ≡ rows_at (left_by table.now (changes_of (unwrap_or (option_copied own.entry) [])) places.now)) }
+    ensures rows { IfOk result (λ rows. rows.items ≡ rows_at (left_by table.now (changes_kept (option_copied own.entry)) places.now)) }
     ensures rising { AreRising places.now }
 {
     match own {

@@ -1,53 +1,48 @@
 //! The rows of a node, with what branches have changed of them.
-ghost use Rattle.std.specs.Prelude.{◌≡◌, ℕ, ◌+◌, ◌-◌, ◌^◌, ◌<◌, List, [], ◌∷◌, ◌++◌, true, false, None, length, nat_lt, unwrap_or, IfOk, OnOk, OnErr};
+ghost use Rattle.std.specs.Prelude.{◌≡◌, ◌-◌, ◌<◌, ◌≤◌, ◌^◌, List, [], ◌∷◌, ◌++◌, false, None, flat_map, length, nat_lt, IfOk, OnOk, OnErr, IsErrOf};
 ghost use Rattle.std.specs.List.{list_any};
 ghost use Rattle.std.specs.List.Sorted.{IsStrictlySortedBy};
 ghost use Rattle.std.specs.Option.{option_copied};
+ghost use Rattle.dtx_values.specs.declared.row.Change.{Change as AnyChange};
+ghost use Rattle.dtx_values.specs.Limits.{changes_limit};
 ghost use Rattle.dtx_values.specs.Order.{value_cmp};
 ghost use Rattle.sql_check.specs.Words.{same_text};
 ghost use Rattle.sql_eval.specs.Rows.{get as get_of, keys_of as keys_in};
-ghost use Rattle.row_store.specs.Own.{changes_length, last_at as last_at_of};
-ghost use Rattle.row_store.specs.Pending.{changes_of, undo_of};
+ghost use Rattle.field_codec.specs.Change.{change_format};
+ghost use Rattle.undo_book.specs.Undo.{changes_in};
+ghost use Rattle.row_store.specs.Own.{changes_length, last_at as last_at_of, extents as extents_of};
+ghost use Rattle.row_store.specs.Pending.{changes_of, undo_of, undo_over};
 ghost use Rattle.row_store.specs.Tables.{apply_all, with_table};
-ghost use Rattle.row_store.specs.Made.{changes_in, undo_in, set_in};
-ghost use Rattle.row_store.specs.Store.{nothing_kept, AreOfTables, own_changes, seen_by, set_seen, sets_at, own_extents, extents_of_sets, with_set, with_pending, bytes_with as bytes_with_of, extents_needed, extents_free, refusal_of, RefusesOnly, without_last, committed, rolled_back, held_from, sealed, is_in_doubt as is_in_doubt_of, doubt_committed, doubt_dropped};
+ghost use Rattle.row_store.specs.Store.{nothing_kept, AreOfTables, own_changes, seen_by, set_seen, sets_at, extents_of_sets, with_pending, bytes_with as bytes_with_of, extents_needed, extents_free, refusal_of, RefusesOnly, without_last, committed, rolled_back, held_from, sealed, is_in_doubt as is_in_doubt_of, doubt_committed, doubt_dropped, undo_held, holders};
 
 use crate::StoreErr;
-use crate::held_back::{HeldBack, HeldChanges};
 use crate::lengths::{changes_len, extents, sum};
-use crate::made::{Made, undo_len};
-use crate::own_sets::{bytes_of, last_of, undo_bytes_of};
-use crate::owns::Owns;
-use crate::placing::{copies, made_over, make_changes, make_places, row_copy};
+use crate::own_sets::{bytes_of, last_of};
+use crate::pending_changes::PendingChanges;
+use crate::placing::{UndoneChanges, copies, made_over, make_changes, make_places};
 use crate::row_places::refs_seen;
 use crate::table_places::TablePlaces;
-use dtx_values::{CHANGES_LIMIT, Change, Changes, Duplicate, Listing, Name, Row, Value};
+use crate::undoing::add_undo;
+use dtx_values::{Bytes, CHANGES_LIMIT, Change, Changes, Duplicate, Listing, Name, Row, Value};
 use sql_eval::KeyedRef;
 use std::alloc::{AllocError, Global};
 use std::marker::Model;
 use tran_ids::BranchId;
+use undo_book::UndoSet;
 
-/// The committed rows of a node, for each live branch the changes of its statements with the rows from before them, and the
-/// changes that branches in doubt hold back. A commit moves rows to places that were made for them when the changes came, and
-/// takes no memory.
+/// The committed rows of a node, for each live branch the changes of its statements, the changes that branches in doubt hold
+/// back, and the undo of both in a pool. A commit moves rows to places that were made for them when the changes came, and takes
+/// no memory.
 pub struct Store {
     tables: TablePlaces,
-    owns: Owns,
-    doubts: HeldBack,
-    extents: u32,
+    pending: PendingChanges,
 }
 
 impl Drop for Store {
     fn drop(self) {
-        let Store {
-            tables,
-            owns,
-            doubts,
-            extents: _extents,
-        } = self;
+        let Store { tables, pending } = self;
         drop(tables);
-        drop(owns);
-        drop(doubts);
+        drop(pending);
     }
 }
 
@@ -58,22 +53,22 @@ impl Model for Store {
 
     ghost Value = { Contents };
 
-    ghost view = { λ s. record { rows = rows_in s.tables; owns = s.owns; doubts = s.doubts; extents = s.extents } };
+    ghost view = { λ s. record { rows = rows_in s.tables; owns = s.pending.owns; doubts = s.pending.doubts; extents = s.pending.extents } };
 
-    ghost invariant = { λ s. HavePlaces s.tables s.owns s.doubts };
+    ghost invariant = { λ s. HavePlaces s.tables s.pending.owns s.pending.doubts };
 }
 
 impl Store {
-    /// No table, with so many undo extents.
-    pub fn new(alloc: Global, undo: u32) -> Store
-        ensures { result ≡ nothing_kept undo }
+    /// No table, with so many undo extents, for which it takes the memory. At most 1,024.
+    pub fn new(alloc: Global, undo: u32) -> Result<Store, AllocError>
+        requires { undo ≤ 1024 }
+        ensures { IfOk result (λ store. store ≡ nothing_kept undo) }
     {
-        Store {
+        let pending = PendingChanges::new(alloc, undo)?;
+        Ok(Store {
             tables: TablePlaces::new(alloc),
-            owns: Owns::new(alloc),
-            doubts: HeldBack::new(alloc),
-            extents: undo,
-        }
+            pending,
+        })
     }
 
     /// Adds a table of a new name, with no rows.
@@ -93,7 +88,7 @@ impl Store {
         ensures ordered { IsStrictlySortedBy value_cmp (keys_in (seen_by self.now branch.now table.now)) }
     {
         let committed = self.tables.get(table, key);
-        match last_of(self.owns.sets(branch), table, key) {
+        match last_of(self.pending.sets(branch), table, key) {
             Some(after) => after.as_ref(),
             None => committed,
         }
@@ -110,7 +105,7 @@ impl Store {
         ensures { IfOk result (λ rows. rows.items ≡ seen_by self.now branch.now table.now) }
     {
         match self.tables.places(table) {
-            Some(places) => refs_seen(alloc, places, table, self.owns.sets(branch)),
+            Some(places) => refs_seen(alloc, places, table, self.pending.sets(branch)),
             None => Ok(Vec::new(alloc)),
         }
     }
@@ -132,7 +127,7 @@ impl Store {
     pub fn has_changes(&self, branch: &BranchId) -> bool
         ensures { result ≡ nat_lt 0 (length (own_changes self.now branch.now)) }
     {
-        match self.owns.sets(branch) {
+        match self.pending.sets(branch) {
             Some(sets) => sets.has_changes(),
             None => false,
         }
@@ -143,7 +138,7 @@ impl Store {
         ensures changes { IfOk result (λ changes. changes ≡ own_changes self.now branch.now) }
         ensures tables { AreOfTables self.now.rows (own_changes self.now branch.now) }
     {
-        match self.owns.sets(branch) {
+        match self.pending.sets(branch) {
             Some(sets) => sets.changes(alloc),
             None => Ok(Listing::new(alloc)),
         }
@@ -156,8 +151,32 @@ impl Store {
         self.room()
     }
 
-    /// Adds the changes of one more statement of a branch, each with the row that the branch saw before the statement. Each
-    /// changed key gets a place, so that a commit takes no memory. An empty list counts as one, and holds no undo. Fails with
+    /// The bytes of the undo that a branch holds: each of its changes with the row from before it, which the bytes say. Fails
+    /// where memory runs out.
+    pub fn undo(&self, alloc: Global, branch: &BranchId) -> Result<Bytes, AllocError>
+        ensures text { IfOk result (λ bytes. bytes ≡ flat_map change_format.text (undo_held self.now branch.now)) }
+        ensures said { IfOk result (λ bytes. changes_in bytes ≡ undo_held self.now branch.now) }
+    {
+        self.pending.undo(alloc, branch)
+    }
+
+    /// The undo extents that a branch holds.
+    pub fn extents(&self, branch: &BranchId) -> u32
+        ensures { result ≡ extents_of (changes_length (undo_held self.now branch.now)) }
+    {
+        self.pending.extents(branch)
+    }
+
+    /// The branches that may hold undo: the live ones that have run statements, and then those in doubt. Fails where memory
+    /// runs out.
+    pub fn branches(&self, alloc: Global) -> Result<Vec<BranchId>, AllocError>
+        ensures { IfOk result (λ branches. branches.items ≡ holders self.now.owns self.now.doubts) }
+    {
+        self.pending.branches(alloc)
+    }
+
+    /// Adds the changes of one more statement of a branch, with the undo of each over what the branch saw before the statement.
+    /// Each changed key gets a place, so that a commit takes no memory. An empty list counts as one, and holds no undo. Fails with
     /// `TooLarge` exactly where the branch's changes would take more than `CHANGES_LIMIT` bytes, else with `Full` exactly
     /// where their undo needs more extents than are free, and with `NoMemory` where memory runs out. After an error all is as
     /// before. No other branch may have a change of these keys.
@@ -170,10 +189,13 @@ impl Store {
         requires { AreOfTables self.old.rows changes }
         ensures ok { OnOk result (self.new ≡ with_pending self.old branch.now changes) }
         ensures refused { RefusesOnly result (refusal_of self.old branch.now changes) }
+        // That they would be too large is seen before any memory is taken.
+        ensures large { changes_limit < bytes_with_of self.old branch.now changes → bytes_with_of self.old branch.now changes < 2 ^ 64
+            → IsErrOf result (StoreErr.TooLarge (bytes_with_of self.old branch.now changes)) }
         ensures err { OnErr result (self.new ≡ self.old) }
     {
-        let set = self.admitted(alloc, branch, changes)?;
-        self.take(alloc, branch, set)?;
+        let undo = self.admitted(alloc, branch, changes.as_slice())?;
+        self.take(alloc, branch, changes, &undo)?;
         Ok(())
     }
 
@@ -181,15 +203,15 @@ impl Store {
     pub fn undo_last(&mut self, branch: &BranchId)
         ensures { self.new ≡ record self.old { owns = without_last self.old.owns branch.now } }
     {
-        self.owns.pop(branch);
+        self.pending.pop(branch);
     }
 
     /// Makes the changes of a branch, and drops it.
     pub fn commit(&mut self, branch: &BranchId)
         ensures { self.new ≡ committed self.old branch.now }
     {
-        if let Some(sets) = self.owns.remove(branch) {
-            make_changes(&mut self.tables, sets.into_made());
+        if let Some(changes) = self.pending.remove(branch) {
+            make_changes(&mut self.tables, changes);
         }
     }
 
@@ -197,25 +219,22 @@ impl Store {
     pub fn rollback(&mut self, branch: &BranchId)
         ensures { self.new ≡ rolled_back self.old branch.now }
     {
-        drop(self.owns.remove(branch));
+        drop(self.pending.remove(branch));
     }
 
-    /// Makes the changes of a live branch those of a branch in doubt, behind the others. Their undo is worked out over the
-    /// committed rows. After an error all is as before.
+    /// Makes the changes of a live branch those of a branch in doubt, behind the others. Neither they nor their undo are copied:
+    /// the undo that the branch holds is that of its changes over the committed rows. After an error all is as before.
     pub fn seal(&mut self, alloc: Global, branch: &BranchId) -> Result<(), AllocError>
         requires apart { is_in_doubt_of self.old.doubts branch.now ≡ false }
+        requires undo { undo_of (sets_at self.old.owns branch.now) ≡ undo_over self.old.rows (own_changes self.old branch.now) }
         ensures ok { OnOk result (self.new ≡ sealed self.old branch.now) }
         ensures err { OnErr result (self.new ≡ self.old) }
     {
-        let changes = self.own(alloc, branch)?;
-        self.hold_back(alloc, branch, changes)?;
-        self.rollback(branch);
-        Ok(())
+        self.pending.seal(alloc, branch)
     }
 
     /// Adds a branch in doubt with these changes behind the others, as a start does of its records. Each changed key gets a
-    /// place, so that committing them takes no memory. That their undo has room is the caller's to know. After an error all is
-    /// as before.
+    /// place, so that committing them takes no memory. Their undo has room. After an error all is as before.
     pub fn hold_back(
         &mut self,
         alloc: Global,
@@ -224,20 +243,21 @@ impl Store {
     ) -> Result<(), AllocError>
         requires tables { AreOfTables self.old.rows changes }
         requires apart { is_in_doubt_of self.old.doubts branch.now ≡ false }
+        requires room { extents_of (changes_length (undo_over self.old.rows changes)) ≤ extents_free self.old }
         ensures ok { OnOk result (self.new ≡ held_from self.old branch.now changes) }
         ensures err { OnErr result (self.new ≡ self.old) }
     {
-        let made = made_over(alloc, &self.tables, changes)?;
+        let UndoneChanges { made, undo } = made_over(alloc, &self.tables, changes)?;
         make_places(alloc, &mut self.tables, made.as_slice())?;
-        self.doubts.push(branch, HeldChanges::of(made))
+        self.pending.hold_back(branch, made.into_vec(), &undo)
     }
 
     /// Makes the changes of a branch in doubt, which is then in doubt no longer. Nothing where it is not in doubt.
     pub fn commit_doubt(&mut self, branch: &BranchId)
         ensures { self.new ≡ doubt_committed self.old branch.now }
     {
-        if let Some(changes) = self.doubts.remove(branch) {
-            make_changes(&mut self.tables, changes.into_vec());
+        if let Some(changes) = self.pending.settle(branch) {
+            make_changes(&mut self.tables, changes);
         }
     }
 
@@ -245,7 +265,7 @@ impl Store {
     pub fn drop_doubt(&mut self, branch: &BranchId)
         ensures { self.new ≡ doubt_dropped self.old branch.now }
     {
-        drop(self.doubts.remove(branch));
+        drop(self.pending.settle(branch));
     }
 
     /// Makes changes of no branch that is known here, as a start does of its records. After an error all is as before.
@@ -260,85 +280,93 @@ impl Store {
         Ok(())
     }
 
-    // The changes with the rows from before them, where nothing refuses them.
+    // The undo of the changes, where nothing refuses them.
     fn admitted(
         &self,
         alloc: Global,
         branch: &BranchId,
-        changes: Changes,
-    ) -> Result<Vec<Made>, StoreErr>
-        ensures set { IfOk result (λ set. set_in set.items ≡ set_seen self.now branch.now changes) }
-        ensures refused { RefusesOnly result (refusal_of self.now branch.now changes) }
-        ensures room { OnOk result (own_extents self.now.owns + extents_needed self.now branch.now changes < 2 ^ 64) }
+        changes: &[Change],
+    ) -> Result<UndoSet, StoreErr>
+        ensures undo { IfOk result (λ undo. undo ≡ (set_seen self.now branch.now changes.now).undo) }
+        ensures refused { RefusesOnly result (refusal_of self.now branch.now changes.now) }
+        ensures large { changes_limit < bytes_with_of self.now branch.now changes.now → bytes_with_of self.now branch.now changes.now < 2 ^ 64
+            → IsErrOf result (StoreErr.TooLarge (bytes_with_of self.now branch.now changes.now)) }
+        ensures room { OnOk result (extents_needed self.now branch.now changes.now ≤ extents_free self.now) }
     {
-        let bytes = self.bytes_with(branch, changes.as_slice())?;
+        let bytes = self.bytes_with(branch, changes)?;
         if bytes > CHANGES_LIMIT {
             return Err(StoreErr::TooLarge { bytes });
         }
-        let set = self.seen(alloc, branch, changes)?;
-        let need = self.needed(branch, set.as_slice())?;
+        let undo = self.seen(alloc, branch, changes)?;
+        let need = self.needed(branch, &undo)?;
         let free = self.room();
         if need > free {
             return Err(StoreErr::Full { need, free });
         }
-        Ok(set)
+        Ok(undo)
     }
 
     // The bytes of a branch's changes with these.
     fn bytes_with(&self, branch: &BranchId, changes: &[Change]) -> Result<u64, AllocError>
-        ensures { IfOk result (λ bytes. bytes ≡ bytes_with_of self.now branch.now changes.now) }
+        ensures bytes { IfOk result (λ bytes. bytes ≡ bytes_with_of self.now branch.now changes.now) }
+        ensures many { OnErr result (2 ^ 64 ≤ bytes_with_of self.now branch.now changes.now) }
     {
-        sum(bytes_of(self.owns.sets(branch)), changes_len(changes)?)
+        sum(bytes_of(self.pending.sets(branch)), changes_len(changes)?)
     }
 
-    // The changes with the rows that the branch sees now.
+    // The undo of the changes: each with the row that the branch sees now.
     fn seen(
         &self,
         alloc: Global,
         branch: &BranchId,
-        changes: Changes,
-    ) -> Result<Vec<Made>, AllocError>
-        ensures { IfOk result (λ set. set_in set.items ≡ set_seen self.now branch.now changes) }
+        changes: &[Change],
+    ) -> Result<UndoSet, AllocError>
+        ensures { IfOk result (λ undo. undo ≡ (set_seen self.now branch.now changes.now).undo) }
     {
-        let mut set = Vec::new(alloc);
-        for change in changes.into_vec() {
-            let before = row_copy(alloc, self.view(branch, &change.table, &change.key))?;
-            set.push(Made { change, before })?;
+        let mut undo = UndoSet::new(alloc);
+        for change in changes {
+            add_undo(
+                &mut undo,
+                change,
+                self.view(branch, &change.table, &change.key),
+            )?;
         }
-        Ok(set)
+        Ok(undo)
     }
 
-    // The extents that this set needs beside those that the branch holds.
-    fn needed(&self, branch: &BranchId, set: &[Made]) -> Result<u64, AllocError>
-        ensures { IfOk result (λ need. need ≡ extents_of_sets (sets_at self.now.owns branch.now ++ set_in set.now ∷ []) - extents_of_sets (sets_at self.now.owns branch.now)) }
+    // The extents that changes with this undo need beside those that the branch holds.
+    fn needed(&self, branch: &BranchId, undo: &UndoSet) -> Result<u64, AllocError>
+        ensures { let sets = sets_at self.now.owns branch.now in
+            IfOk result (λ need. (changes : List AnyChange) → need ≡ extents_of_sets (sets ++ (record { changes = changes; undo = undo.now }) ∷ []) - extents_of_sets sets) }
     {
-        let held = undo_bytes_of(self.owns.sets(branch));
-        let all = sum(held, undo_len(set)?)?;
+        let held = u64::from(self.pending.undo_len(branch));
+        let all = sum(held, undo.len() as u64)?;
         Ok(extents(all).saturating_sub(extents(held)))
     }
 
     // The undo extents that nobody holds.
     fn room(&self) -> u64
-        ensures free { result ≡ extents_free self.now }
-        ensures few { result < 2 ^ 32 }
-        ensures used { own_extents self.now.owns < 2 ^ 64 }
-        ensures within { 0 < result → own_extents self.now.owns + result < 2 ^ 32 }
+        ensures { result ≡ extents_free self.now }
     {
-        u64::from(self.extents)
-            .saturating_sub(self.owns.used())
-            .saturating_sub(self.doubts.used())
+        u64::from(self.pending.free())
     }
 
-    // Takes a set of changes, which has room.
-    fn take(&mut self, alloc: Global, branch: &BranchId, set: Vec<Made>) -> Result<(), AllocError>
-        requires tables { AreOfTables self.old.rows (changes_in set.items) }
-        requires room { let sets = sets_at self.old.owns branch.now in
-            own_extents self.old.owns + (extents_of_sets (sets ++ set_in set.items ∷ []) - extents_of_sets sets) < 2 ^ 64 }
-        ensures ok { OnOk result (self.new ≡ record self.old { owns = with_set self.old.owns branch.now (set_in set.items) }) }
+    // Takes a set of changes with their undo, which has room.
+    fn take(
+        &mut self,
+        alloc: Global,
+        branch: &BranchId,
+        changes: Changes,
+        undo: &UndoSet,
+    ) -> Result<(), AllocError>
+        requires tables { AreOfTables self.old.rows changes }
+        requires undo { undo.now ≡ (set_seen self.old branch.now changes).undo }
+        requires room { extents_needed self.old branch.now changes ≤ extents_free self.old }
+        ensures ok { OnOk result (self.new ≡ with_pending self.old branch.now changes) }
         ensures err { OnErr result (self.new ≡ self.old) }
     {
-        make_places(alloc, &mut self.tables, set.as_slice())?;
-        self.owns.push(alloc, branch, set)
+        make_places(alloc, &mut self.tables, changes.as_slice())?;
+        self.pending.push(alloc, branch, changes, undo)
     }
 }
 

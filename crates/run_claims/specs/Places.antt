@@ -1,7 +1,8 @@
 -- Where the answer of a statement comes from: the run at the end of its chain of Execs, whose answer came back along the
 -- Replies of that chain, for the transaction of its session, and not before its call. (Database Administrator's Guide,
 -- "Distributed Transactions Concepts": session trees.)
-use Rattle.std.specs.Prelude.{◌≡◌, ℕ, ◌+◌, ◌≤◌, true, List, slice_get, Option, Some, None}
+use Rattle.std.specs.Prelude.{◌≡◌, ℕ, ◌+◌, ◌≤◌, ◌==◌, Bool, true, List, slice_get, Option, Some, None}
+use Rattle.std.specs.List.{list_any}
 use Rattle.node_rules.specs.Data.{BranchId, Stmt, Answer, Advice, Durable}
 use Rattle.node_rules.specs.Data.kinds
 use Rattle.node_rules.specs.Names.{A_table, Behind, named_by, ref_of, passed_on, target_of}
@@ -26,6 +27,10 @@ use Rattle.std.specs.Prelude.{take}
 -- a run so far, after so many happenings
 abbrev pub past_upto : History → ℕ → Past
 past_upto t i = past t.places t.commands (start t.places) (take i t.trace)
+
+-- whether a call of a command is pending after so many happenings
+abbrev pub command_pends : History → ℕ → ℕ → Bool
+command_pends t i command = list_any (λ (c : Call). c.command == command) (past_upto t i).run_report.calls
 
 -- the catalog of a node at a moment
 abbrev pub catalog_at : History → ℕ → ℕ → Durable

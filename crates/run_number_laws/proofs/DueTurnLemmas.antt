@@ -16,6 +16,7 @@ use Rattle.node_ready_laws.specs.Names.{MakesNamed}
 use Rattle.node_ready_laws.specs.Shapes.{TellsFew}
 use Rattle.node_ready_laws.specs.Ready.{IsExpected}
 use Rattle.run_ready_laws.specs.ReadyRuns.{RepliesTellFew, NodesAreReady}
+use Rattle.run_undo_laws.specs.UndoRuns.{NodesKeepUndo}
 use Rattle.run_rules.specs.Data.{Packet, Took, Happening, Command}
 use Rattle.run_rules.specs.Data.happenings
 use Rattle.run_rules.specs.Facts.{Facts, first_facts, no_place, place_at, node_at, facts_after, facts_of}
@@ -153,7 +154,7 @@ few_links places asked script f n k many up =
     let it : place_at places n ≡ p.0 = ap (λ o. unwrap_or o no_place) p.1 in
     subst (λ q. q.links ≤ link_limit) (sym it) (script.each n p.0 p.1).links.1
 
-module _ (lawful : TheRunIsLawful) (ups : DueNodesAreUp) (ready : NodesAreReady) (numbers : NumbersAreBelowLimits) (messages : MessagesAreBelowLimits) where
+module _ (lawful : TheRunIsLawful) (ups : DueNodesAreUp) (ready : NodesAreReady) (undo : NodesKeepUndo) (numbers : NumbersAreBelowLimits) (messages : MessagesAreBelowLimits) where
   module _ (t : History) (few : HasFewHappenings t) (run : IsTheRunOf t) (tells : AtEachFact RepliesTellFew t) where
     able_at : (n : ℕ) (k : NodeState) → node_at (past_of t).facts n ≡ Some k → IsAble (place_at t.places n) k
     able_at n k up =
@@ -164,6 +165,7 @@ module _ (lawful : TheRunIsLawful) (ups : DueNodesAreUp) (ready : NodesAreReady)
         let nodes = t.of_a_script.few in
         record {
           ready = ready t (lawful t run) tells n k here;
+          undo = undo t (lawful t run) n k here;
           nodes = omega (arith, names, nodes);
           links = few_links t.places t.commands t.of_a_script (past_of t).facts n k many up;
           opens = below.opens;

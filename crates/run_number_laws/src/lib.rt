@@ -16,6 +16,7 @@ ghost use Rattle.run_number_laws.specs.RootLaws.{RootsWork, CommitsFindWork, Tur
 use node_ready_laws::turns_stay_ready;
 use run_base_laws::commits_are_recorded;
 use run_ready_laws::{nodes_are_ready, the_run_is_lawful};
+use run_undo_laws::nodes_keep_undo;
 
 /// In every lawful run the numbers of each node that is up are no more than the happenings so far: its clock, the sessions that
 /// it opened, the transactions of its sessions, the calls of its branches. So are the SCNs of every message that was sent, and
@@ -82,6 +83,7 @@ pub fn due_turns_find_able()
 {
     the_run_is_lawful();
     nodes_are_ready();
+    nodes_keep_undo();
     due_is_there();
     numbers_are_below_limits();
 }

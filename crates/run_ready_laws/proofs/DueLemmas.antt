@@ -142,6 +142,7 @@ module _ (asked : List Command) (f : Facts) (t : RunReport) where
     act_so fresh commands.ShowBook is = beside commands.ShowBook is tt flows_so
     act_so fresh commands.ShowNet is = beside commands.ShowNet is tt flows_so
     act_so fresh (commands.ShowDisk n) is = beside (commands.ShowDisk n) is tt flows_so
+    act_so fresh (commands.ShowUndo n) is = beside (commands.ShowUndo n) is tt flows_so
 
     once_so : IsDue asked f t (acts_once asked f t)
     once_so = by t.acted refl

@@ -55,6 +55,7 @@ says_at_once places f t (commands.ShowNeighbors n) = if_up places f n (shows pla
 says_at_once places f t commands.ShowBook = shows places f commands.ShowBook
 says_at_once places f t commands.ShowNet = shows places f commands.ShowNet
 says_at_once places f t (commands.ShowDisk n) = shows places f (commands.ShowDisk n)
+says_at_once places f t (commands.ShowUndo n) = if_up places f n (shows places f (commands.ShowUndo n))
 says_at_once places f t _ = fine
 
 -- CREATE commits first, where the session has a transaction

@@ -44,6 +44,7 @@ IsCommandOver count (commands.Reco n) = IsNode count n
 IsCommandOver count (commands.ShowPending n) = IsNode count n
 IsCommandOver count (commands.ShowNeighbors n) = IsNode count n
 IsCommandOver count (commands.ShowDisk n) = IsNode count n
+IsCommandOver count (commands.ShowUndo n) = IsNode count n
 IsCommandOver count _ = Unit {0}
 
 -- What the reader of scripts gives: at most 16 nodes, each in its place, and commands over them.

@@ -91,6 +91,7 @@ view_form_exact names views.Neighbors = built_exact commands.ShowNeighbors (node
 view_form_exact names views.Book = given_exact commands.ShowBook
 view_form_exact names views.Net = given_exact commands.ShowNet
 view_form_exact names views.Disk = built_exact commands.ShowDisk (node names) nothing (node_exact names)
+view_form_exact names views.Undo = built_exact commands.ShowUndo (node names) nothing (node_exact names)
 
 between_is_number : (least most : ℕ) (t : Token) (n : ℕ) → between_in least most t ≡ Some n → is_number t ≡ true
 between_is_number least most (token.Number k) n e = refl

@@ -169,6 +169,7 @@ view_form_is names views.Neighbors = of_node commands.ShowNeighbors names (λ n 
 view_form_is names views.Book = given_is commands.ShowBook (Fits names) (tt, tt)
 view_form_is names views.Net = given_is commands.ShowNet (Fits names) (tt, tt)
 view_form_is names views.Disk = of_node commands.ShowDisk names (λ n h. ((h, tt), tt))
+view_form_is names views.Undo = of_node commands.ShowUndo names (λ n h. ((h, tt), tt))
 
 form_is : (names : List (List ℕ)) (v : Verb) → Each_is (form names v) (Fits names)
 unfolding form

@@ -51,6 +51,7 @@ room names (commands.ShowNeighbors node) le e = no_more names le
 room names commands.ShowBook le e = no_more names le
 room names commands.ShowNet le e = no_more names le
 room names (commands.ShowDisk node) le e = no_more names le
+room names (commands.ShowUndo node) le e = no_more names le
 
 pub good_leaves_room : (before : Before) (piece : List ℕ) (c : Command) → length before.names ≤ node_limit → judged before piece ≡ Ok c → length (before.names ++ names_made c) ≤ node_limit
 good_leaves_room before piece c le e = room before.names c le (judged_takes before piece c e).sound

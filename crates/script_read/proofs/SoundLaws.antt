@@ -88,6 +88,7 @@ knows names (commands.ShowNeighbors node) e = tested _ e
 knows names commands.ShowBook e = refl
 knows names commands.ShowNet e = refl
 knows names (commands.ShowDisk node) e = tested _ e
+knows names (commands.ShowUndo node) e = tested _ e
 
 good_is_proper : (before : Before) (c : Command) (piece : List ℕ) (count : ℕ) → length before.names ≤ count → IsGood before c piece → IsProper count c
 good_is_proper before c piece count le g =

@@ -64,6 +64,7 @@ nodes_in (commands.ShowNeighbors node) = node ∷ []
 nodes_in commands.ShowBook = []
 nodes_in commands.ShowNet = []
 nodes_in (commands.ShowDisk node) = node ∷ []
+nodes_in (commands.ShowUndo node) = node ∷ []
 
 -- a node that there is
 abbrev pub is_known : ℕ → Bool

@@ -176,13 +176,14 @@ lost_form names (lost.Number k) = given (commands.Lose k)
 lost_form names lost.Next = built (λ x. commands.LoseNext x.0 x.1.0 x.1.1)
     (meant (word_in kind_of) · (word (codes "FROM") ▹ (node names · (word (codes "TO") ▹ node names))))
 
--- PENDING name | NEIGHBORS name | BOOK | NET | DISK name
+-- PENDING name | NEIGHBORS name | BOOK | NET | DISK name | UNDO name
 abbrev pub view_form : List (List ℕ) → View → Grammar Command
 view_form names views.Pending = built commands.ShowPending (node names)
 view_form names views.Neighbors = built commands.ShowNeighbors (node names)
 view_form names views.Book = given commands.ShowBook
 view_form names views.Net = given commands.ShowNet
 view_form names views.Disk = built commands.ShowDisk (node names)
+view_form names views.Undo = built commands.ShowUndo (node names)
 
 -- a number
 abbrev pub is_number : Token → Bool
@@ -204,7 +205,7 @@ is_number _ = false
 -- PUMP [num]
 -- GIVEUP AT name SESSION num
 -- RECO name
--- SHOW PENDING name | SHOW NEIGHBORS name | SHOW BOOK | SHOW NET | SHOW DISK name
+-- SHOW PENDING name | SHOW NEIGHBORS name | SHOW BOOK | SHOW NET | SHOW DISK name | SHOW UNDO name
 unfoldable pub form : List (List ℕ) → Verb → Grammar Command
 form names verbs.Node = node_form
 form names verbs.Cut = built (λ x. commands.Cut x.0 x.1) (two_nodes names)

@@ -34,6 +34,7 @@ IsInRange (commands.ShowNeighbors node) = ⊤
 IsInRange commands.ShowBook = ⊤
 IsInRange commands.ShowNet = ⊤
 IsInRange (commands.ShowDisk node) = ⊤
+IsInRange (commands.ShowUndo node) = ⊤
 
 -- the names of all nodes, in the order of their numbers
 abbrev pub names_in : List Command → List (List ℕ)

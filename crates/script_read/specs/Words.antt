@@ -96,6 +96,7 @@ view_of w = meaning w
     ∷ (codes "BOOK", views.Book)
     ∷ (codes "NET", views.Net)
     ∷ (codes "DISK", views.Disk)
+    ∷ (codes "UNDO", views.Undo)
     ∷ [])
 
 -- what an option of NODE sets

@@ -120,6 +120,10 @@ pub enum Command {
     ShowDisk {
         node: u8,
     },
+    /// Shows the undo that a node's branches hold.
+    ShowUndo {
+        node: u8,
+    },
 }
 
 /// Commands in the order in which they are run.
@@ -190,6 +194,7 @@ impl Duplicate for Command {
             Command::ShowBook => Ok(Command::ShowBook),
             Command::ShowNet => Ok(Command::ShowNet),
             Command::ShowDisk { node } => Ok(Command::ShowDisk { node: *node }),
+            Command::ShowUndo { node } => Ok(Command::ShowUndo { node: *node }),
         }
     }
 }

@@ -187,6 +187,10 @@ fn take_view<'t>(
             let (node, rest) = take_node(alloc, names, tokens)?;
             Ok((Command::ShowDisk { node }, rest))
         }
+        View::Undo => {
+            let (node, rest) = take_node(alloc, names, tokens)?;
+            Ok((Command::ShowUndo { node }, rest))
+        }
     }
 }
 

@@ -1,5 +1,5 @@
 //! A command among those before it: what it is, or why it is bad.
-ghost use Rattle.std.specs.Prelude.{◌≡◌, ◌+◌, ◌<◌, ◌≤◌, ◌++◌, length, position, take, drop, Option, Some, None, IfOk, OnOk};
+ghost use Rattle.std.specs.Prelude.{◌≡◌, ◌+◌, ◌<◌, ◌≤◌, ◌++◌, length, position, take, drop, Option, Some, None, IfOk, OnErr, OnOk};
 ghost use Rattle.std.specs.List.{list_all, list_any};
 ghost use Rattle.std.specs.Str.{bytes_eq};
 ghost use Rattle.dtx_values.specs.Limits.{node_limit};
@@ -121,6 +121,7 @@ fn knows_all(command: &Command) -> bool
         Command::ShowPending { node } => *node != 0,
         Command::ShowNeighbors { node } => *node != 0,
         Command::ShowDisk { node } => *node != 0,
+        Command::ShowUndo { node } => *node != 0,
         _ => true,
     }
 }
@@ -170,6 +171,17 @@ fn accepted(names: &[Name], command: Command) -> Result<Command, Why>
     }
 }
 
+/// Why a command is bad that was not read: it has none of the forms. Fails exactly where memory ran out for it.
+fn unread(err: ReadErr) -> Result<Why, AllocError>
+    ensures form { IfOk result (λ why. (why ≡ Why.Form) × (err ≡ ReadErr.Bad)) }
+    ensures memory { OnErr result (err ≡ ReadErr.NoMemory) }
+{
+    match err {
+        ReadErr::Bad => Ok(Why::Form),
+        ReadErr::NoMemory => Err(AllocError),
+    }
+}
+
 /// A command that `;` ends: itself, or the first reason for which it is bad.
 #[tactic(auto, unfolding(crate::specs::Asked::judged))]
 pub(crate) fn judged(
@@ -190,8 +202,7 @@ pub(crate) fn judged(
     let names = before.names.as_slice();
     match command_of(alloc, names, &text) {
         Ok(command) => Ok(accepted(names, command)),
-        Err(ReadErr::Bad) => Ok(Err(Why::Form)),
-        Err(ReadErr::NoMemory) => Err(AllocError),
+        Err(err) => Ok(Err(unread(err)?)),
     }
 }
 

@@ -56,12 +56,13 @@ const LEFT: [(&[u8], Left); 2] = [(b"KEEP", Left::Keep), (b"LEAVE", Left::Leave)
 const SWITCHES: [(&[u8], bool); 2] = [(b"ON", true), (b"OFF", false)];
 
 /// What SHOW may show.
-const VIEWS: [(&[u8], View); 5] = [
+const VIEWS: [(&[u8], View); 6] = [
     (b"PENDING", View::Pending),
     (b"NEIGHBORS", View::Neighbors),
     (b"BOOK", View::Book),
     (b"NET", View::Net),
     (b"DISK", View::Disk),
+    (b"UNDO", View::Undo),
 ];
 
 /// What an option of NODE may set.

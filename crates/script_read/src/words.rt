@@ -44,6 +44,7 @@ pub enum View {
     Book,
     Net,
     Disk,
+    Undo,
 }
 
 /// What an option of NODE sets.

@@ -28,6 +28,7 @@ proper count (commands.Reco n) p = p.0.0
 proper count (commands.ShowPending n) p = p.0.0
 proper count (commands.ShowNeighbors n) p = p.0.0
 proper count (commands.ShowDisk n) p = p.0.0
+proper count (commands.ShowUndo n) p = p.0.0
 proper count _ p = tt
 
 all_proper : (count : ℕ) (cs : List Command) → AllByRecursion (IsProperRead count) cs → AllByRecursion (IsCommandOver count) cs

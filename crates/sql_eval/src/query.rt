@@ -1,5 +1,5 @@
 //! What a SELECT gives: SQL Language Reference, "SELECT", "COUNT" and "SUM".
-ghost use Rattle.std.specs.Prelude.{◌≡◌, ◌++◌, [], ◌∷◌, map, pos, length, codes, Some, IfOk};
+ghost use Rattle.std.specs.Prelude.{◌≡◌, ◌++◌, [], ◌∷◌, map, pos, length, codes, Some, None, IfOk, IsOk};
 ghost use Rattle.std.specs.Option.{option_copied};
 ghost use Rattle.dtx_values.specs.declared.value.Value.TheVariants.{Null, Number};
 ghost use Rattle.sql_check.specs.Cells.{or_null};
@@ -60,7 +60,8 @@ fn sum_head(alloc: Global, name: &Name) -> Result<Bytes, AllocError>
 }
 
 fn summed_set(alloc: Global, name: &Name, total: Option<Value>) -> Result<Meant, AllocError>
-    ensures { IfOk result (λ meant. meant ≡ summed_set_of name.now total) }
+    ensures set { IfOk result (λ meant. meant ≡ summed_set_of name.now total) }
+    ensures range { total ≡ None → IsOk result }
 {
     match total {
         None => Ok(Meant::Refused(plain(alloc, OUT_OF_RANGE))),

@@ -72,10 +72,10 @@ fn said_by(alloc: Global, store: &mut Store, table: &Name, count: i64) -> Result
     Ok((said, store.free(), store.has_changes(&branch()), rows))
 }
 
-/// What a store of 2,048 extents says to so many changes.
+/// What a store of 1,024 extents says to so many changes.
 fn said_to(alloc: Global, count: i64) -> Result<Said, AllocError> {
     let table = name(alloc, b"t")?;
-    let mut store = store_of(alloc, &table, 2048)?;
+    let mut store = store_of(alloc, &table, 1024)?;
     let said = said_by(alloc, &mut store, &table, count);
     drop(store);
     said
@@ -85,12 +85,12 @@ fn said_to(alloc: Global, count: i64) -> Result<Said, AllocError> {
 fn too_many_bytes_are_refused_and_change_nothing(rt: HostRuntime) {
     let bytes = 5000 * 2025;
     assert!(rt;
-        said_to(rt.alloc(), 5000) == Ok((Err(StoreErr::TooLarge { bytes }), 2048, false, 0))
+        said_to(rt.alloc(), 5000) == Ok((Err(StoreErr::TooLarge { bytes }), 1024, false, 0))
     );
 }
 
 #[test]
 fn the_changes_before_the_limit_are_taken(rt: HostRuntime) {
     // the undo of an insert has no row, so it takes 12 bytes: 13 extents in all
-    assert!(rt; said_to(rt.alloc(), 4000) == Ok((Ok(()), 2048 - 12, true, 4000)));
+    assert!(rt; said_to(rt.alloc(), 4000) == Ok((Ok(()), 1024 - 12, true, 4000)));
 }

@@ -1,7 +1,8 @@
 //! The changes of a statement, where there is space for them.
-ghost use Rattle.std.specs.Prelude.{◌≡◌, true, None, IfOk, OnOk, OnErr};
+ghost use Rattle.std.specs.Prelude.{◌≡◌, ◌<◌, ◌^◌, true, None, IfOk, IsOk, OnOk, OnErr};
 ghost use Rattle.std.specs.List.{All};
-ghost use Rattle.row_store.specs.Store.{AreOfTables, has_table, refusal_of};
+ghost use Rattle.dtx_values.specs.Limits.{changes_limit};
+ghost use Rattle.row_store.specs.Store.{AreOfTables, bytes_with, has_table, refusal_of};
 ghost use Rattle.sql_eval.specs.Laws.{AreChangesOf};
 ghost use Rattle.stmt_run.specs.Run.{answer_of_run, locks_after};
 ghost use Rattle.stmt_run.specs.Keys.{IsFree};
@@ -67,6 +68,7 @@ fn take_in(
 ) -> Result<Option<Refusal>, AllocError>
     requires { AreOfTables store.old.rows changes }
     ensures refusal { IfOk result (λ refusal. refusal ≡ refusal_told (refusal_of store.old branch.now changes)) }
+    ensures large { changes_limit < bytes_with store.old branch.now changes → bytes_with store.old branch.now changes < 2 ^ 64 → IsOk result }
     ensures store { IfOk result (λ refusal. store.new ≡ kept_unless refusal store.old branch.now changes) }
     ensures err { OnErr result (store.new ≡ store.old) }
 {

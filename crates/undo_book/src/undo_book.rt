@@ -1,7 +1,7 @@
 //! The undo of branches in a pool.
 ghost use Rattle.std.specs.Prelude.{◌≡◌, ◌+◌, ◌-◌, ◌≤◌, ◌<◌, [], ◌++◌, length, IfOk, OnOk, OnErr, MatchResult};
 ghost use Rattle.undo_pool.specs.Pool.{all_extents};
-ghost use Rattle.undo_book.specs.Undo.{undo_text, undo_of, undo_extents, whole_in, OthersStay};
+ghost use Rattle.undo_book.specs.Undo.{undo_text, changes_in, undo_of, undo_extents, whole_in, OthersStay};
 
 use crate::UndoSet;
 use dtx_values::Bytes;
@@ -51,9 +51,17 @@ impl UndoBook {
         self.pool.held(owner).div_ceil(4096)
     }
 
-    /// The bytes of an owner's undo. Fails where memory runs out.
+    /// How many bytes an owner's undo takes.
+    pub fn len(&self, owner: u32) -> u32
+        ensures { result ≡ length (undo_text (undo_of self.now owner)) }
+    {
+        self.pool.held(owner)
+    }
+
+    /// The bytes of an owner's undo, which say its changes. Fails where memory runs out.
     pub fn bytes(&self, alloc: Global, owner: u32) -> Result<Bytes, AllocError>
-        ensures { IfOk result (λ bytes. bytes ≡ undo_text (undo_of self.now owner)) }
+        ensures text { IfOk result (λ bytes. bytes ≡ undo_text (undo_of self.now owner)) }
+        ensures said { IfOk result (λ bytes. changes_in bytes ≡ undo_of self.now owner) }
     {
         let mut bytes = vec![in alloc; 0u8; self.pool.held(owner) as usize]?;
         self.pool.back(owner, 0, &mut bytes);

@@ -61,7 +61,7 @@ made_sites places slots are (suc i) slot is =
       kept = found.2.kept ∙ sym (ap flat nodes);
       runs = rw (found.1) found.2.runs;
       holds = rw (disks) found.2.holds;
-      starts = found.2.starts;
+      starts = rw (found.1) found.2.starts;
     }
 
 -- one more is made
@@ -114,6 +114,7 @@ only_show_disk (commands.ShowPending m) n is = absurd cc
 only_show_disk (commands.ShowNeighbors m) n is = absurd cc
 only_show_disk commands.ShowBook n is = absurd cc
 only_show_disk commands.ShowNet n is = absurd cc
+only_show_disk (commands.ShowUndo m) n is = absurd cc
 
 -- what holds of all commands holds of one
 proper_at : (count : ℕ) (asked : List Command) (i : ℕ) (command : Command) → AllByRecursion (IsCommandOver count) asked → slice_get asked i ≡ Some command → IsCommandOver count command
@@ -183,7 +184,7 @@ module _ (w v : World) (n : ℕ) (linked : IsLinked w) (due : due_in w.trace ≡
     kept = order.kept ∙ is.kept;
     runs = order.runs (place_at w.trace.places m) is.runs;
     holds = subst (λ (bytes : List ℕ). HoldRecords (records_at p.facts m) bytes) (sym order.bytes) is.holds;
-    starts = order.starts is.starts;
+    starts = order.starts _ is.starts;
   }
 
   sites_now : SitesAre w.trace.places q v.slots.items

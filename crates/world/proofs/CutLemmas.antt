@@ -147,7 +147,7 @@ module _ (w : World) (begun : Begun) (c : CutTurn) (k : NodeState) (by : Cut_by)
             runs = down_runs (place_at w.trace.places begun.node) slot has.kept;
             holds = subst (λ (bytes : List ℕ). HoldRecords (records_at p.facts begun.node ++ option_to_list (stood s c.tried)) bytes) (sym has.bytes)
                 (subst (λ (r : Option RedoRecord). HoldRecords (records_at p.facts begun.node ++ option_to_list r) (bytes_of (site_disk was.0))) (sym wrote_is) off.holds);
-            starts = has.starts off.starts;
+            starts = has.starts _ off.starts;
           }
 
       own_orders : (slot : NodeSlot) → numbered v.slots.items begun.node ≡ Some slot → HasOrders (cut_orders (is_some o.wrote) by (orders_at p.run_report begun.node)) (site_disk slot)

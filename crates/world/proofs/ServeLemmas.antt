@@ -163,7 +163,7 @@ pub record WasWhole (t : RunReport) (n : ℕ) (place : Place) (k : NodeState) (i
   pub kept : site_kept slot ≡ Some (turn_of place k e.input).after
   pub runs : RunsAt place slot
   pub holds : HoldRecords (rs ++ option_to_list (turn_of place k e.input).wrote) (bytes_of (site_disk slot))
-  pub starts : CanBeStarted bytes_of images_of (site_disk slot)
+  pub starts : CanBeStarted place.undo bytes_of images_of (site_disk slot)
   pub orders : HasOrders (orders_if (is_some (turn_of place k e.input).wrote) (orders_at t n)) (site_disk slot)
 
 -- What a cut turn was.
@@ -174,13 +174,16 @@ pub record WasCut (t : RunReport) (n : ℕ) (place : Place) (k : NodeState) (inc
   pub cut : cut_by t n k c.input (turn_of place k c.input) ≡ by
   pub is_cut : by ≡ By_nothing → ⊥
   pub holds : HoldRecords (rs ++ option_to_list (stood (stands_by by) (turn_of place k c.input).wrote)) (bytes_of (site_disk slot))
-  pub starts : CanBeStarted bytes_of images_of (site_disk slot)
+  pub starts : CanBeStarted place.undo bytes_of images_of (site_disk slot)
   pub orders : OrdersLeft (cut_orders (is_some (turn_of place k c.input).wrote) by (orders_at t n)) (site_disk slot).orders
 
 module _ (t : RunReport) (n : ℕ) (place : Place) (k : NodeState) (incoming : Incoming) (rs : List RedoRecord) (points : List Point) (are : points ≡ t.points) where
   module _ (before after : Node DiskState) (at : place_of before ≡ place) (same : kept_of before ≡ k) (holds : HoldRecords rs (bytes_of (disk_of before))) (orders : HasOrders (orders_at t n) (disk_of before)) where
     outcome_is : (input : Input) → turn_of (place_of before) (kept_of before) input ≡ turn_of place k input
     outcome_is input = ap (λ (x : Place). turn_of x (kept_of before) input) at ∙ ap (λ (x : NodeState). turn_of place x input) same
+
+    starts_at : CanBeStarted (place_of before).undo bytes_of images_of (disk_of after) → CanBeStarted place.undo bytes_of images_of (disk_of after)
+    starts_at starts = subst (λ (x : Place). CanBeStarted x.undo bytes_of images_of (disk_of after)) at starts
 
     passes_are : (input : Input) → passes (kept_of before) input (turn_of (place_of before) (kept_of before) input) ≡ passes k input (turn_of place k input)
     passes_are input = ap (λ (x : NodeState). passes x input (turn_of (place_of before) (kept_of before) input)) same ∙ ap (λ (x : TurnOutput). passes k input x) (outcome_is input)
@@ -200,12 +203,12 @@ module _ (t : RunReport) (n : ℕ) (place : Place) (k : NodeState) (incoming : I
           kept = ap (λ (x : NodeState). Some x) tells.after;
           runs = (s.running, s.place ∙ at);
           holds = subst (λ (r : Option RedoRecord). HoldRecords (rs ++ option_to_list r) (bytes_of (disk_of after))) tells.wrote (holds_next rs e.wrote (bytes_of (disk_of before)) (bytes_of (disk_of after)) s.stored holds);
-          starts = s.starts;
+          starts = starts_at s.starts;
           orders = subst (λ (r : Option RedoRecord). HasOrders (orders_if (is_some r) (orders_at t n)) (disk_of after)) tells.wrote (counts (orders_at t n) (disk_of before) (disk_of after) orders e.wrote s.goes);
         }
 
     module _ (c : CutTurn) (input : IsReadAs incoming c.input) (tried : c.tried ≡ (turn_of place k c.input).wrote) (passed : option_map passes_as c.passes ≡ passes k c.input (turn_of place k c.input))
-        (starts : CanBeStarted bytes_of images_of (disk_of after)) where
+        (starts : CanBeStarted place.undo bytes_of images_of (disk_of after)) where
       abbrev o : TurnOutput
       o = turn_of place k c.input
 
@@ -283,7 +286,7 @@ module _ (t : RunReport) (n : ℕ) (place : Place) (k : NodeState) (incoming : I
 
     node_cut : (c : CutTurn) → NodeFailed before after incoming points (errs.Cut c) → (by : Cut_by) × WasCut t n place k incoming rs c (Up after) by
     node_cut c f =
-        by_place c f.is_cut.input (f.is_cut.tried ∙ ap (λ (x : TurnOutput). x.wrote) (outcome_is c.input)) (f.is_cut.passed ∙ passes_are c.input) f.starts c.at
+        by_place c f.is_cut.input (f.is_cut.tried ∙ ap (λ (x : TurnOutput). x.wrote) (outcome_is c.input)) (f.is_cut.passed ∙ passes_are c.input) (starts_at f.starts) c.at
         (subst (λ (xs : List Point). Stops xs c.at c.passes) are f.stops) f.tried f.stored f.goes f.stands
 
   -- a whole turn of a site's node

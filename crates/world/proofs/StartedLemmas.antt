@@ -64,7 +64,7 @@ module _ (place : Place) (disk : DiskState) (d : DiskOrders) (rs : List RedoReco
 
   -- no order struck, and the node is up
   pub tried_up : (node : Node DiskState) → kept_of node ≡ start_of (rs ++ next_boot rs ∷ []) → place_of node ≡ place → HoldRecords (rs ++ next_boot rs ∷ []) (bytes_of (disk_of node))
-      → IsRunning bytes_of images_of node → CanBeStarted bytes_of images_of (disk_of node)
+      → IsRunning bytes_of images_of node → CanBeStarted place.undo bytes_of images_of (disk_of node)
       → CallsGoByPlan (load_calls (bytes_of disk) ++ append_calls) (Some (plan_of disk.orders)) (Some (plan_of (disk_of node).orders)) false → StartIsTried place d rs (Up node)
   tried_up node kept at stored running starts goes =
       let go = goes_by (disk_of node).orders false goes in
@@ -78,7 +78,7 @@ module _ (place : Place) (disk : DiskState) (d : DiskOrders) (rs : List RedoReco
       }
 
   -- an order struck, and the disk is left, with the power on again
-  pub tried_down : (left : DiskState) (now : NodeSlot) → site_kept now ≡ None → bytes_of (site_disk now) ≡ bytes_of left → CanBeStarted bytes_of images_of (site_disk now) → (site_disk now).orders ≡ powered left.orders
+  pub tried_down : (left : DiskState) (now : NodeSlot) → site_kept now ≡ None → bytes_of (site_disk now) ≡ bytes_of left → CanBeStarted place.undo bytes_of images_of (site_disk now) → (site_disk now).orders ≡ powered left.orders
       → CallsGoByPlan (load_calls (bytes_of disk) ++ append_calls) (Some (plan_of disk.orders)) (Some (plan_of left.orders)) true → StartIsLeft (Some (plan_of disk.orders)) (bytes_of disk) (bytes_of left) → StartIsTried place d rs now
   tried_down left now down same starts power goes stands =
       let go = goes_by left.orders true goes in

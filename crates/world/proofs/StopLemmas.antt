@@ -88,7 +88,7 @@ module _ (w v : World) (n : ℕ) (held : HoldsRun w) (due : IsDueNext w.trace (h
         kept = has.kept ∙ sym here;
         runs = down_runs (place_at w.trace.places n) new has.kept;
         holds = subst (λ (bytes : List ℕ). HoldRecords (records_at p.facts n) bytes) (sym has.bytes) is.holds;
-        starts = has.starts is.starts;
+        starts = has.starts _ is.starts;
       }
 
   leaves : Leaves w v q

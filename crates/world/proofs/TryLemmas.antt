@@ -1,5 +1,5 @@
 -- A start that is due, tried on its disk: where its record stands it may be told, and else its node stays down.
-use Rattle.std.proofs.Common.{◌≡◌, ◌+◌, ℕ, Bool, true, false, if◌then◌else◌, List, [], ◌∷◌, ◌++◌, length, is_some, is_none, Option, Some, None, Result, Ok, Err, OnOk, refl, sym, ap, subst, ◌∙◌, arith}
+use Rattle.std.proofs.Common.{◌≡◌, ◌≤◌, ◌+◌, ℕ, unwrap_or, Bool, true, false, if◌then◌else◌, List, [], ◌∷◌, ◌++◌, length, is_some, is_none, Option, Some, None, Result, Ok, Err, OnOk, refl, sym, ap, subst, ◌∙◌, arith}
 use Rattle.tran_ids.proofs.NumberedLemmas.{set_found, set_leaves, set_length}
 use Rattle.record_log.specs.Held.{HoldRecords, HoldOneList, with_record_if}
 use Rattle.node_rules.specs.Data.{RedoRecord, Place}
@@ -12,7 +12,7 @@ use Rattle.run_rules.specs.Data.happenings
 use Rattle.run_rules.specs.Data.{Command}
 use Rattle.run_rules.specs.Disks.{DiskOrders, Strike, struck}
 use Rattle.run_rules.specs.Due.{Due, Starts, comes_next, due_of}
-use Rattle.run_rules.specs.Facts.{node_at, place_at, records_at, with_boot}
+use Rattle.run_rules.specs.Facts.{no_place, node_at, place_at, records_at, with_boot}
 use Rattle.run_rules.specs.Lawful.{IsNode, boots}
 use Rattle.run_rules.specs.RunReport.{Past, RunReport, orders_at}
 use Rattle.run_rules.proofs.AtNodeLemmas.{item_there}
@@ -75,12 +75,19 @@ module _ (w : World) (n : ℕ) (linked : IsLinked w) (due : due_in w.trace ≡ S
   up_is : up_at p n ≡ None
   up_is = ap (λ (o : Option ℕ). if has_to_fall o n then None else node_at p.facts n) linked.upright ∙ start_is_down
 
+  -- it has few undo extents
+  undo_fits : (place_at w.trace.places n).undo ≤ 1024
+  undo_fits =
+      let it = item_there w.trace.places n start_there.0 start_there.1 in
+      subst (λ (x : Place). x.undo ≤ 1024) (sym (ap (λ (o : Option Place). unwrap_or o no_place) it.1)) (linked.held.script.of_a_script.each n it.0 it.1).undo.1
+
   -- its site can be started
-  pub can_start : HoldOneList → (slot : NodeSlot) → numbered w.slots.items n ≡ Some slot → CanStart slot
+  pub can_start : HoldOneList → (slot : NodeSlot) → numbered w.slots.items n ≡ Some slot → CanStart (place_at w.trace.places n) slot
   can_start one slot at =
       let is : SiteIs w.trace.places p n slot = linked.held.slots n slot at in
       let seldom = few w.trace n linked.held.script start_there in
       record {
+        undo = undo_fits;
         down = is.kept ∙ up_is;
         starts = is.starts;
         boots = λ others holds.

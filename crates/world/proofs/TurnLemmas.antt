@@ -128,7 +128,7 @@ pub record HasTurned (place : Place) (keeps : Option NodeState) (rs : List RedoR
   pub kept : site_kept slot ≡ keeps
   pub runs : RunsAt place slot
   pub holds : HoldRecords rs (bytes_of (site_disk slot))
-  pub starts : CanBeStarted bytes_of images_of (site_disk slot)
+  pub starts : CanBeStarted place.undo bytes_of images_of (site_disk slot)
 
 module _ (w v : World) (begun : Begun) (input : Input) (k : NodeState) (by : Cut_by) (under : TurnIsUnderWay begun input k w by) (u : Turn) where
   abbrev p : Past

@@ -45,7 +45,7 @@ pub record IsOrdered (before after : NodeSlot) : Type 0 where
   pub kept : site_kept after ≡ site_kept before
   pub runs : (place : Place) → RunsAt place before → RunsAt place after
   pub bytes : bytes_of (site_disk after) ≡ bytes_of (site_disk before)
-  pub starts : CanBeStarted bytes_of images_of (site_disk before) → CanBeStarted bytes_of images_of (site_disk after)
+  pub starts : (undo : ℕ) → CanBeStarted undo bytes_of images_of (site_disk before) → CanBeStarted undo bytes_of images_of (site_disk after)
 
 -- after orders to disks each site is as it was but for them
 pub record OrdersStand (before after : World) : Type 0 where

@@ -50,7 +50,7 @@ pub record SiteIs (places : List Place) (p : Past) (n : ℕ) (slot : NodeSlot) :
   pub kept : site_kept slot ≡ up_at p n
   pub runs : RunsAt (place_at places n) slot
   pub holds : HoldRecords (records_at p.facts n) (bytes_of (site_disk slot))
-  pub starts : CanBeStarted bytes_of images_of (site_disk slot)
+  pub starts : CanBeStarted (place_at places n).undo bytes_of images_of (site_disk slot)
 
 -- each site is
 abbrev pub SitesAre : List Place → Past → List NodeSlot → Type 0

@@ -43,7 +43,7 @@ pub record NodeServed (before after : Node DiskState) (incoming : Incoming) (poi
   pub goes : CallsGoByPlan (turn_calls e.wrote) (Some (plan_of (disk_of before).orders)) (Some (plan_of (disk_of after).orders)) false
   pub running : IsRunning bytes_of images_of after
   pub place : place_of after ≡ place_of before
-  pub starts : CanBeStarted bytes_of images_of (disk_of after)
+  pub starts : CanBeStarted (place_of before).undo bytes_of images_of (disk_of after)
 
 -- the node of a site has
 abbrev pub HasServed : NodeSlot → NodeSlot → Incoming → List Point → DurableTurn → Type 0
@@ -58,7 +58,7 @@ pub record NodeFailed (before after : Node DiskState) (incoming : Incoming) (poi
   pub stored : AtCut (λ place wrote passes. CutStores place wrote (bytes_of (disk_of before)) (bytes_of (disk_of after))) err
   pub goes : AtCut (λ place wrote passes. CutByPlan place wrote (Some (plan_of (disk_of before).orders)) (Some (plan_of (disk_of after).orders))) err
   pub stands : AtCut (λ place wrote passes. CutStands place wrote (Some (plan_of (disk_of before).orders)) (bytes_of (disk_of before)) (bytes_of (disk_of after))) err
-  pub starts : CanBeStarted bytes_of images_of (disk_of after)
+  pub starts : CanBeStarted (place_of before).undo bytes_of images_of (disk_of after)
 
 -- the node of a site came to no end
 abbrev pub HasFailed : NodeSlot → NodeSlot → Incoming → List Point → TurnErr → Type 0

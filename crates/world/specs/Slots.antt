@@ -30,7 +30,7 @@ pub record IsMade (place : Place) (slot : NodeSlot) : Type 0 where
   pub kept : site_kept slot ≡ Some made
   pub runs : RunsAt place slot
   pub holds : HoldRecords (records.Boot 1 ∷ []) (bytes_of (site_disk slot))
-  pub starts : CanBeStarted bytes_of images_of (site_disk slot)
+  pub starts : CanBeStarted place.undo bytes_of images_of (site_disk slot)
   pub orders : HasOrders no_orders (site_disk slot)
 
 -- each is made, in its place

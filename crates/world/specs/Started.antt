@@ -1,5 +1,5 @@
 -- What a start of a node leaves of its site, where an order may strike its disk.
-use Rattle.std.specs.Prelude.{◌≡◌, ◌≢◌, ◌+◌, ◌<◌, ◌^◌, ◌∷◌, ◌++◌, [], ℕ, if◌then◌else◌, List, length, is_none, Some, None}
+use Rattle.std.specs.Prelude.{◌≡◌, ◌≢◌, ◌+◌, ◌<◌, ◌≤◌, ◌^◌, ◌∷◌, ◌++◌, [], ℕ, if◌then◌else◌, List, length, is_none, Some, None}
 use Rattle.record_log.specs.Held.{HoldRecords, with_record_if}
 use Rattle.node_rules.specs.Data.{RedoRecord, Place}
 use Rattle.node_rules.specs.Turn.{start_of}
@@ -10,10 +10,11 @@ use Rattle.world.specs.declared.slot.NodeSlot.{NodeSlot}
 use Rattle.world_parts.specs.Orders.{HasOrders, stands_in}
 use Rattle.world.specs.NodeSlot.{site_kept, site_disk, bytes_of, images_of, RunsAt}
 
--- A node that is down, and that can be started from its disk.
-pub record CanStart (slot : NodeSlot) : Type 0 where
+-- A node of this place that is down, and that can be started from its disk.
+pub record CanStart (place : Place) (slot : NodeSlot) : Type 0 where
+  pub undo : place.undo ≤ 1024
   pub down : site_kept slot ≡ None
-  pub starts : CanBeStarted bytes_of images_of (site_disk slot)
+  pub starts : CanBeStarted place.undo bytes_of images_of (site_disk slot)
   pub boots : (rs : List RedoRecord) → HoldRecords rs (bytes_of (site_disk slot)) → last_boot rs + 1 < 2 ^ 32
 
 -- A start of a node of this place was tried, whose disk had these orders and held these records: the node is up where no order struck.
@@ -21,7 +22,7 @@ pub record StartIsTried (place : Place) (d : DiskOrders) (rs : List RedoRecord) 
   pub kept : site_kept slot ≡ (if is_none (struck 3 d) then Some (start_of (rs ++ next_boot rs ∷ [])) else None)
   pub runs : RunsAt place slot
   pub holds : HoldRecords (with_record_if (stands_in (struck 3 d)) rs (next_boot rs)) (bytes_of (site_disk slot))
-  pub starts : CanBeStarted bytes_of images_of (site_disk slot)
+  pub starts : CanBeStarted place.undo bytes_of images_of (site_disk slot)
   pub orders : HasOrders (after_append 3 d) (site_disk slot)
 
 -- the start of a site was tried, whatever orders its disk had

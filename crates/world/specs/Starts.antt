@@ -36,7 +36,7 @@ pub record HasBoot (w : World) (n : ℕ) (slot : NodeSlot) : Type 0 where
   pub kept : site_kept slot ≡ (if is_none (struck 3 (orders_at (past_of w.trace).run_report n)) then Some (start_of (with_boot (past_of w.trace).facts n (boot_at w n))) else None)
   pub runs : RunsAt (place_at w.trace.places n) slot
   pub holds : HoldRecords (with_boot (past_of w.trace).facts n (boot_at w n)) (bytes_of (site_disk slot))
-  pub starts : CanBeStarted bytes_of images_of (site_disk slot)
+  pub starts : CanBeStarted (place_at w.trace.places n).undo bytes_of images_of (site_disk slot)
   pub orders : HasOrders (after_append 3 (orders_at (past_of w.trace).run_report n)) (site_disk slot)
 
 -- The start of a node is due, and its record stands; all other parts of the world are as before.

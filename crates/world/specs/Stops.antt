@@ -10,7 +10,7 @@ use Rattle.world.specs.NodeSlot.{site_kept, site_disk, bytes_of, images_of}
 pub record HasStopped (before after : NodeSlot) : Type 0 where
   pub kept : site_kept after ≡ None
   pub bytes : bytes_of (site_disk after) ≡ bytes_of (site_disk before)
-  pub starts : CanBeStarted bytes_of images_of (site_disk before) → CanBeStarted bytes_of images_of (site_disk after)
+  pub starts : (undo : ℕ) → CanBeStarted undo bytes_of images_of (site_disk before) → CanBeStarted undo bytes_of images_of (site_disk after)
 
 -- A disk whose power is on again, with the orders that have not struck.
 pub record IsPowered (before after : NodeSlot) : Type 0 where

@@ -111,7 +111,7 @@ pub record IsTurned (w : World) (n : ℕ) (o : TurnOutput) (slot : NodeSlot) : T
   pub kept : site_kept slot ≡ Some o.after
   pub runs : RunsAt (place_at w.trace.places n) slot
   pub holds : HoldRecords (records_at (past_of w.trace).facts n ++ option_to_list o.wrote) (bytes_of (site_disk slot))
-  pub starts : CanBeStarted bytes_of images_of (site_disk slot)
+  pub starts : CanBeStarted (place_at w.trace.places n).undo bytes_of images_of (site_disk slot)
   pub orders : HasOrders (orders_if (is_some o.wrote) (orders_at (past_of w.trace).run_report n)) (site_disk slot)
 
 -- The node did this, and its record stands on its disk.
@@ -142,7 +142,7 @@ stood false tried = None
 -- say so. An order may have stopped the disk.
 pub record IsCutOff (w : World) (n : ℕ) (o : TurnOutput) (by : Cut_by) (slot : NodeSlot) : Type 0 where
   pub holds : HoldRecords (records_at (past_of w.trace).facts n ++ option_to_list (stood (stands_by by) o.wrote)) (bytes_of (site_disk slot))
-  pub starts : CanBeStarted bytes_of images_of (site_disk slot)
+  pub starts : CanBeStarted (place_at w.trace.places n).undo bytes_of images_of (site_disk slot)
   pub orders : OrdersLeft (cut_orders (is_some o.wrote) by (orders_at (past_of w.trace).run_report n)) (site_disk slot).orders
 
 -- The turn was cut.

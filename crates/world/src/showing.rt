@@ -20,6 +20,7 @@ use pending_view::{PendingRows, neighbors_view, pending, pending_view};
 use script_read::Command;
 use std::alloc::{AllocError, Global};
 use tran_ids::node_name;
+use undo_view::undo_lines;
 use world_parts::{Says, disk_lines, fine, if_may, refused, refused_with, shows};
 
 /// The codes of DTX-01, DTX-04, DTX-12, DTX-13 and DTX-14.
@@ -54,6 +55,7 @@ impl World {
             Command::Reco { node } => self.says_reco(alloc, *node),
             Command::ShowPending { node } => self.says_pending(alloc, *node),
             Command::ShowNeighbors { node } => self.says_neighbors(alloc, *node),
+            Command::ShowUndo { node } => self.says_undo(alloc, *node),
             Command::ShowBook => shows(alloc, book_lines(alloc, self.trace.book(), self.names())?),
             Command::ShowNet => shows(alloc, self.net.lines(alloc, self.names())?),
             // The bytes of a disk are shown apart.
@@ -221,6 +223,20 @@ impl World {
             Some(up) => {
                 let lines = neighbors_view(alloc, self.names(), up.kept())?;
                 shows(alloc, lines)
+            }
+            None => self.refused_node(alloc, STOPPED, node),
+        }
+    }
+
+    #[tactic(auto, using(crate::proofs::DueLemmas::due_steps))]
+    fn says_undo(&self, alloc: Global, node: u8) -> Result<Says, AllocError>
+        requires { IsLinked self.now }
+        ensures { IfOk result (λ says. says ≡ says_by self.now.trace.places (past_of self.now.trace).facts (past_of self.now.trace).run_report (script.ShowUndo node)) }
+    {
+        match node_at(&self.slots, node) {
+            Some(up) => {
+                let undos = up.undo()?;
+                shows(alloc, undo_lines(alloc, undos.as_slice())?)
             }
             None => self.refused_node(alloc, STOPPED, node),
         }

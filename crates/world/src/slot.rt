@@ -1,5 +1,5 @@
 //! A node of a run: up, or down with its disk alone.
-ghost use Rattle.std.specs.Prelude.{◌≡◌, ◌∷◌, [], Some, None, is_some, option_map, IfOk, OnOk};
+ghost use Rattle.std.specs.Prelude.{◌≡◌, ◌≤◌, ℕ, ◌∷◌, [], Some, None, is_some, option_map, IfOk, OnOk};
 ghost use Rattle.block_disk.specs.Orders.{ordered, plan_of, powered};
 ghost use Rattle.redo_record.specs.declared.place.Place.{Place as PlaceBy};
 ghost use Rattle.redo_record.specs.declared.record.RedoRecord.TheVariants as records;
@@ -83,7 +83,7 @@ impl NodeSlot {
         ensures kept { site_kept self.new ≡ site_kept self.old }
         ensures runs { (place : PlaceBy) → RunsAt place self.old → RunsAt place self.new }
         ensures bytes { bytes_of (site_disk self.new) ≡ bytes_of (site_disk self.old) }
-        ensures starts { CanBeStarted bytes_of images_of (site_disk self.old) → CanBeStarted bytes_of images_of (site_disk self.new) }
+        ensures starts { (undo : ℕ) → CanBeStarted undo bytes_of images_of (site_disk self.old) → CanBeStarted undo bytes_of images_of (site_disk self.new) }
         ensures plan { Some (plan_of (site_disk self.new).orders) ≡ ordered (Some (plan_of (site_disk self.old).orders)) order }
     {
         match self {
@@ -96,7 +96,7 @@ impl NodeSlot {
     pub fn stop(&mut self, alloc: Global)
         ensures kept { site_kept self.new ≡ None }
         ensures bytes { bytes_of (site_disk self.new) ≡ bytes_of (site_disk self.old) }
-        ensures starts { CanBeStarted bytes_of images_of (site_disk self.old) → CanBeStarted bytes_of images_of (site_disk self.new) }
+        ensures starts { (undo : ℕ) → CanBeStarted undo bytes_of images_of (site_disk self.old) → CanBeStarted undo bytes_of images_of (site_disk self.new) }
         ensures power { (site_disk self.new).orders ≡ powered (site_disk self.old).orders }
     {
         let running = mem::replace(self, NodeSlot::Down(MemDisk::new(alloc)));
@@ -107,7 +107,7 @@ impl NodeSlot {
     /// Starts the node of this place, which is down, from its disk. An order may strike its start, and then the disk is left, with
     /// the power on again. Fails where memory runs out.
     pub fn start(&mut self, alloc: Global, place: Place) -> Result<(), AllocError>
-        requires ready { CanStart self.old }
+        requires ready { CanStart place self.old }
         ensures tried { OnOk result (TriedFrom place self.old self.new) }
     {
         let resting = mem::replace(self, NodeSlot::Down(MemDisk::new(alloc)));
@@ -120,10 +120,11 @@ impl NodeSlot {
 /// A node of this place, just made on an empty disk. Fails where memory runs out.
 #[tactic(auto, using(crate::proofs::StartedLemmas::made_without))]
 pub fn made(alloc: Global, place: Place) -> Result<NodeSlot, AllocError>
+    requires { place.undo ≤ 1024 }
     ensures kept { IfOk result (λ slot. site_kept slot ≡ Some made_by) }
     ensures runs { IfOk result (RunsAt place) }
     ensures holds { IfOk result (λ slot. HoldRecords (records.Boot 1 ∷ []) (bytes_of (site_disk slot))) }
-    ensures starts { IfOk result (λ slot. CanBeStarted bytes_of images_of (site_disk slot)) }
+    ensures starts { IfOk result (λ slot. CanBeStarted place.undo bytes_of images_of (site_disk slot)) }
     ensures orders { IfOk result (λ slot. HasOrders no_orders (site_disk slot)) }
 {
     match Node::make(alloc, MemDisk::new(alloc), place) {
@@ -141,7 +142,7 @@ pub fn made(alloc: Global, place: Place) -> Result<NodeSlot, AllocError>
 fn stopped(slot: NodeSlot) -> NodeSlot
     ensures kept { site_kept result ≡ None }
     ensures bytes { bytes_of (site_disk result) ≡ bytes_of (site_disk slot) }
-    ensures starts { CanBeStarted bytes_of images_of (site_disk slot) → CanBeStarted bytes_of images_of (site_disk result) }
+    ensures starts { (undo : ℕ) → CanBeStarted undo bytes_of images_of (site_disk slot) → CanBeStarted undo bytes_of images_of (site_disk result) }
     ensures power { (site_disk result).orders ≡ powered (site_disk slot).orders }
 {
     match slot {
@@ -154,7 +155,7 @@ fn stopped(slot: NodeSlot) -> NodeSlot
 fn rested(disk: MemDisk) -> NodeSlot
     ensures kept { site_kept result ≡ None }
     ensures bytes { bytes_of (site_disk result) ≡ bytes_of disk }
-    ensures starts { CanBeStarted bytes_of images_of disk → CanBeStarted bytes_of images_of (site_disk result) }
+    ensures starts { (undo : ℕ) → CanBeStarted undo bytes_of images_of disk → CanBeStarted undo bytes_of images_of (site_disk result) }
     ensures power { (site_disk result).orders ≡ powered disk.orders }
 {
     let mut disk = disk;
@@ -164,7 +165,7 @@ fn rested(disk: MemDisk) -> NodeSlot
 
 // The node started from its disk, or the disk where an order struck the start.
 fn started(alloc: Global, place: Place, slot: NodeSlot) -> Result<NodeSlot, AllocError>
-    requires ready { CanStart slot }
+    requires ready { CanStart place slot }
     ensures tried { IfOk result (TriedFrom place slot) }
 {
     match slot {
@@ -176,7 +177,7 @@ fn started(alloc: Global, place: Place, slot: NodeSlot) -> Result<NodeSlot, Allo
 // The node started from this disk, or the disk where an order struck the start.
 #[tactic(auto, using(crate::proofs::StartedLemmas::start_leaves))]
 fn start_disk(alloc: Global, place: Place, disk: MemDisk) -> Result<NodeSlot, AllocError>
-    requires ready { CanStart (Down disk) }
+    requires ready { CanStart place (Down disk) }
     ensures tried { IfOk result (TriedFrom place (Down disk)) }
 {
     // Only for the proof: the disk's bytes are those of a slice, so they are fewer than 2^63.

@@ -1,7 +1,8 @@
 //! The nodes of a run, by their numbers, from 1.
-ghost use Rattle.std.specs.Prelude.{◌≡◌, length, Some, None, is_some, option_map, IfOk};
+ghost use Rattle.std.specs.Prelude.{◌≡◌, ◌≤◌, ℕ, length, Some, None, is_some, option_map, IfOk};
 ghost use Rattle.std.specs.Option.{option_copied};
 ghost use Rattle.tran_ids.specs.Listed.{numbered};
+ghost use Rattle.redo_record.specs.declared.place.Place.{Place as PlaceBy};
 ghost use Rattle.run_rules.specs.Commands.{has_transaction as has_transaction_by, is_enabled as is_enabled_by};
 ghost use Rattle.node_disk.specs.OnDisk.{kept_of};
 ghost use Rattle.world.specs.Slots.{kept_at, AreMade};
@@ -65,6 +66,7 @@ pub fn is_enabled(slots: &[NodeSlot], node: u8) -> bool
 
 /// Nodes of these places, each just made on an empty disk. Fails where memory runs out.
 pub fn made_all(alloc: Global, places: &[Place]) -> Result<Vec<NodeSlot>, AllocError>
+    requires { (n : ℕ) (p : PlaceBy) → numbered places.now n ≡ Some p → p.undo ≤ 1024 }
     ensures count { IfOk result (λ slots. length slots.items ≡ length places.now) }
     ensures made { IfOk result (λ slots. AreMade places.now slots.items) }
 {

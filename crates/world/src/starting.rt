@@ -3,6 +3,7 @@ ghost use Rattle.std.specs.Prelude.{◌≡◌, Some, None, length, OnOk, OnErr};
 ghost use Rattle.node_rules.specs.Words.{numbered};
 ghost use Rattle.run_rules.specs.Disks.{struck};
 ghost use Rattle.run_rules.specs.Due.{Starts};
+ghost use Rattle.run_rules.specs.Facts.{place_at};
 ghost use Rattle.run_rules.specs.Lawful.{IsNode};
 ghost use Rattle.run_rules.specs.RunReport.{orders_at as orders_of};
 ghost use Rattle.run_trace.specs.Recorded.{Extends, past_of};
@@ -35,7 +36,7 @@ fn try_at(
     place: Place,
 ) -> Result<(), AllocError>
     requires there { IsNode (length slots.old.items) node }
-    requires ready { (slot : NodeSlotBy) → numbered slots.old.items node ≡ Some slot → CanStart slot }
+    requires ready { (slot : NodeSlotBy) → numbered slots.old.items node ≡ Some slot → CanStart place slot }
     ensures { OnOk result (TriesAt place node slots.old.items slots.new.items) }
 {
     slots[usize::from(node) - 1].start(alloc, place)
@@ -85,7 +86,7 @@ impl World {
         requires still { StillReports self.old }
         requires there { IsNode (length self.old.trace.places) node }
         requires inside { IsNode (length self.old.slots.items) node }
-        requires ready { (slot : NodeSlotBy) → numbered self.old.slots.items node ≡ Some slot → CanStart slot }
+        requires ready { (slot : NodeSlotBy) → numbered self.old.slots.items node ≡ Some slot → CanStart (place_at self.old.trace.places node) slot }
         ensures tried { OnOk result (IsTriedAt node self.old self.new) }
         ensures left { OnErr result (StillReports self.new) }
         ensures same { self.new ≡ record self.old { slots = self.new.slots } }

@@ -74,6 +74,7 @@ module _ (asked : List Command) (f : Facts) (t : RunReport) where
   act_comes commands.ShowBook is = tt
   act_comes commands.ShowNet is = tt
   act_comes (commands.ShowDisk n) is = tt
+  act_comes (commands.ShowUndo n) is = tt
 
   command_comes : Comes (next_command asked f)
   command_comes = by (nat_lt f.command (length asked)) refl

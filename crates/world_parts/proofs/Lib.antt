@@ -1,4 +1,3 @@
-pub mod DiskLines
 pub mod ToStopLemmas
 pub mod BegunLemmas
 pub mod OrderLemmas

@@ -265,6 +265,7 @@ module _ (Q : ℕ → Type 0) (ls : List AnswerLine) where
   says_one places f t (commands.Reco n) = few_say (is_up f n) _ _ (few_say (is_enabled (node_at f n)) _ _ (inl tt) (inl tt)) (inl tt)
   says_one places f t (commands.ShowPending n) = few_say (is_up f n) _ _ (inl tt) (inl tt)
   says_one places f t (commands.ShowNeighbors n) = few_say (is_up f n) _ _ (inl tt) (inl tt)
+  says_one places f t (commands.ShowUndo n) = few_say (is_up f n) _ _ (inl tt) (inl tt)
   says_one places f t _ = inl tt
 
 -- ---- one happening more

@@ -1,64 +1,10 @@
 //! The bytes of a disk as SHOW DISK prints them.
-ghost use Rattle.std.specs.Prelude.{◌≡◌, ◌*◌, ◌<◌, ◌++◌, length, take, drop, flat_map, IfOk, OnOk};
-ghost use Rattle.tran_ids.specs.Numbers.{hex8 as hex8_of};
-ghost use Rattle.run_rules.specs.Shown.{hex2, disk_line as line_of, disk_lines as lines_of, shown_disk};
+ghost use Rattle.std.specs.Prelude.{◌≡◌, IfOk};
+ghost use Rattle.run_rules.specs.Shown.{shown_disk};
 
-use dtx_values::{Bytes, Listing, Texts};
+use dtx_values::{Listing, Texts};
+use report::byte_lines;
 use std::alloc::{AllocError, Global};
-use tran_ids::hex_digit;
-
-/// How many bytes stand in a line.
-const LINE: usize = 32;
-
-/// A place as eight hexadecimal digits.
-#[tactic(auto, using(crate::proofs::DiskLines::hex8_is))]
-fn put_place(out: &mut Vec<u8>, place: usize) -> Result<(), AllocError>
-    ensures { OnOk result (out.new.items ≡ out.old.items ++ hex8_of place) }
-{
-    out.extend_from_slice(&[
-        hex_digit((place / 0x1000_0000 % 16) as u8),
-        hex_digit((place / 0x100_0000 % 16) as u8),
-        hex_digit((place / 0x10_0000 % 16) as u8),
-        hex_digit((place / 0x1_0000 % 16) as u8),
-        hex_digit((place / 0x1000 % 16) as u8),
-        hex_digit((place / 0x100 % 16) as u8),
-        hex_digit((place / 0x10 % 16) as u8),
-        hex_digit((place % 16) as u8),
-    ])
-}
-
-/// Bytes as two hexadecimal digits each.
-fn put_bytes(out: &mut Vec<u8>, bytes: &[u8]) -> Result<(), AllocError>
-    ensures { OnOk result (out.new.items ≡ out.old.items ++ flat_map hex2 bytes.now) }
-{
-    for byte in bytes {
-        out.extend_from_slice(&[hex_digit(byte / 16), hex_digit(byte % 16)])?;
-    }
-    Ok(())
-}
-
-/// The bytes of the line that begins at a place.
-#[tactic(auto, using(crate::proofs::DiskLines::bytes_of_line))]
-fn line_at(bytes: &[u8], place: usize) -> &[u8]
-    requires { place < length bytes.now }
-    ensures { result.now ≡ take 32 (drop place bytes.now) }
-{
-    let (_, rest) = bytes.split_at(place);
-    let (line, _) = rest.split_at(LINE.min(rest.len()));
-    line
-}
-
-/// The line of bytes that begins at a place.
-fn disk_line(alloc: Global, bytes: &[u8], place: usize) -> Result<Bytes, AllocError>
-    requires { place < length bytes.now }
-    ensures { IfOk result (λ line. line ≡ line_of bytes.now place) }
-{
-    let mut out = Vec::new(alloc);
-    put_place(&mut out, place)?;
-    out.push(b' ')?;
-    put_bytes(&mut out, line_at(bytes, place))?;
-    Ok(Listing::of(out))
-}
 
 /// The lines of a disk's bytes, or a word where there are none.
 pub fn disk_lines(alloc: Global, bytes: &[u8]) -> Result<Texts, AllocError>
@@ -68,17 +14,5 @@ pub fn disk_lines(alloc: Global, bytes: &[u8]) -> Result<Texts, AllocError>
         let none = Listing::of(Vec::from_slice(alloc, b"empty")?);
         return Ok(Listing::of(vec![in alloc; none]?));
     }
-    lines(alloc, bytes)
-}
-
-/// A line for each 32 bytes, and one for the rest.
-#[tactic(auto, using(crate::proofs::DiskLines::one_more))]
-fn lines(alloc: Global, bytes: &[u8]) -> Result<Texts, AllocError>
-    ensures { IfOk result (λ lines. lines ≡ lines_of bytes.now) }
-{
-    let mut lines = Vec::new(alloc);
-    for i in 0..(bytes.len() + 31) / 32 {
-        lines.push(disk_line(alloc, bytes, LINE * i)?)?;
-    }
-    Ok(Listing::of(lines))
+    Ok(Listing::of(byte_lines(alloc, bytes)?))
 }

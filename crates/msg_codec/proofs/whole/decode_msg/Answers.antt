@@ -1,5 +1,6 @@
 use Rattle.std.proofs.Common.{◌≡◌, ℕ, List, None, arith}
 use Rattle.wire_msg.specs.declared.msg.Msg.{Msg}
+use Rattle.msg_codec.specs.declared.wire_err.WireErr.TheVariants as wires
 use Rattle.msg_codec.specs.Message.{IsMessage, message_of}
 use Rattle.msg_codec.proofs.MessageLaws.{message_is_found, message_is_spelled}
 use Rattle.msg_codec.proofs.whole.decode_msg.Goals as goal
@@ -13,5 +14,7 @@ none_is_spelled bytes none m h =
     let found = message_is_found bytes m h in
     absurd cc
 
-pub returns-in-Err-NoSpelling-clause-refused : goal.returns-in-Err-NoSpelling-clause-refused
-returns-in-Err-NoSpelling-clause-refused c = λ h. none_is_spelled c.args.bytes.now (rw c.in-Err-NoSpelling.field-0-is at c.in-Err-NoSpelling.ensures)
+pub returns-in-Err-clause-refused : goal.returns-in-Err-clause-refused
+returns-in-Err-clause-refused c = λ h.
+    let one : c.wire_err.result ≡ wires.NotAMessage = cc in
+    none_is_spelled c.args.bytes.now (rw (c.wire_err.ensures.none one) at c.in-Err.ensures)

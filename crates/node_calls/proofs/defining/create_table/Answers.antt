@@ -16,7 +16,7 @@ returns-then-is_used-clause-gives c =
     subst (λ d. IfOk c.refuse.result (λ draft. GivesDraft d k draft)) (sym (table_refused k c.args.session c.args.table.now (sym c.is_used.ensures.used ∙ c.if-is_used.true)))
     (at_node c.refuse.result (λ draft j. GivesDraft (refuses j c.args.session (ora 955 [])) j draft) k c.refuse.ensures)
 
-pub write-requires : goal.write-requires
-write-requires c =
+pub write-requires-clause-follow : goal.write-requires-clause-follow
+write-requires-clause-follow c =
     let m = c.args.memory.now in
     subst (λ (t : Table). MayFollow (stored_in m) (records.Table t)) (sym c.in_ok-copy.ensures) (table_follows (kept_in m) c.args.table.now c.requires (sym c.is_used.ensures.used ∙ c.if-is_used.false))

@@ -4,7 +4,7 @@ use Rattle.node_disk.proofs.MakeLaws.{none_booted, none_had, made_so}
 use Rattle.node_disk.proofs.making.first.Goals as goal
 
 pub started-requires-clause-had : goal.started-requires-clause-had
-started-requires-clause-had c = none_had
+started-requires-clause-had c = none_had c.args.place.undo
 
 pub started-requires-clause-boots : goal.started-requires-clause-boots
 started-requires-clause-boots c = omega (arith, none_booted)

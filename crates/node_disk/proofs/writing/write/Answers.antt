@@ -5,24 +5,24 @@ use Rattle.node_disk.proofs.TurnLaws.{startable_while, stands_next}
 use Rattle.node_disk.proofs.writing.write.Goals as goal
 
 pub returns-in-Ok-clause-any_start : goal.returns-in-Ok-clause-any_start
-returns-in-Ok-clause-any_start g c s stands next =
+returns-in-Ok-clause-any_start g c undo s stands next =
     let d = g.D.Disk in
     let old = disk_of c.args.log.now in
-    startable_while d.moment d.images_since c.records_follow.ensures.acks old (disk_of c.put.new.log) (d.content old) s c.args.effects.wrote stands next c.put.ensures.any_moment
+    startable_while d.moment d.images_since c.records_follow.ensures.acks c.records_fit_doubts.ensures.acks undo old (disk_of c.put.new.log) (d.content old) s c.args.effects.wrote stands next c.put.ensures.any_moment
 
 pub returns-in-Ok-clause-stands : goal.returns-in-Ok-clause-stands
-returns-in-Ok-clause-stands g c s t stands next stores =
+returns-in-Ok-clause-stands g c undo s t stands next stores =
     let d = g.D.Disk in
-    stands_next c.records_follow.ensures.acks (d.content (disk_of c.args.log.now)) (d.content (disk_of c.put.new.log)) s t c.args.effects.wrote stands next stores c.in-Ok.ensures.written.stored
+    stands_next c.records_follow.ensures.acks c.records_fit_doubts.ensures.acks undo (d.content (disk_of c.args.log.now)) (d.content (disk_of c.put.new.log)) s t c.args.effects.wrote stands next stores c.in-Ok.ensures.written.stored
 
 pub returns-in-Err-Cut-clause-any_start : goal.returns-in-Err-Cut-clause-any_start
-returns-in-Err-Cut-clause-any_start g c s stands next =
+returns-in-Err-Cut-clause-any_start g c undo s stands next =
     let d = g.D.Disk in
     let old = disk_of c.args.log.now in
-    startable_while d.moment d.images_since c.records_follow.ensures.acks old (disk_of c.put.new.log) (d.content old) s c.args.effects.wrote stands next c.put.ensures.any_moment
+    startable_while d.moment d.images_since c.records_follow.ensures.acks c.records_fit_doubts.ensures.acks undo old (disk_of c.put.new.log) (d.content old) s c.args.effects.wrote stands next c.put.ensures.any_moment
 
 pub returns-in-Err-NoMemory-clause-any_start : goal.returns-in-Err-NoMemory-clause-any_start
-returns-in-Err-NoMemory-clause-any_start g c s stands next =
+returns-in-Err-NoMemory-clause-any_start g c undo s stands next =
     let d = g.D.Disk in
     let old = disk_of c.args.log.now in
-    startable_while d.moment d.images_since c.records_follow.ensures.acks old (disk_of c.put.new.log) (d.content old) s c.args.effects.wrote stands next c.put.ensures.any_moment
+    startable_while d.moment d.images_since c.records_follow.ensures.acks c.records_fit_doubts.ensures.acks undo old (disk_of c.put.new.log) (d.content old) s c.args.effects.wrote stands next c.put.ensures.any_moment

@@ -1,6 +1,5 @@
 use Rattle.std.proofs.Common.{◌≡◌, ◌++◌, drop}
-use Rattle.row_store.specs.Made.{changes_in}
 use Rattle.row_store.proofs.placing.copies.Given as goal
 
 abbrev pub invariant-loop-change : goal.invariant-loop-change
-invariant-loop-change l = changes_in l.copies.items ++ drop l.change-index l.changes ≡ l.changes
+invariant-loop-change l = l.copies.items ++ drop l.change-index l.changes ≡ l.changes

@@ -1,7 +1,7 @@
-use Rattle.std.proofs.Common.{◌≡◌, [], unwrap_or, sym, ap, subst, ◌∙◌}
+use Rattle.std.proofs.Common.{◌≡◌, sym, ap, subst, ◌∙◌}
 use Rattle.std.specs.Prelude.{IfOk}
 use Rattle.std.specs.Option.{option_copied}
-use Rattle.row_store.specs.Pending.{changes_of}
+use Rattle.row_store.specs.ByBranch.{changes_kept}
 use Rattle.row_store.specs.Places.{rows_at}
 use Rattle.row_store.specs.TablePlaces.{left_by}
 use Rattle.row_store.proofs.ScanLaws.{same_left}
@@ -12,5 +12,5 @@ returns-in-None-clause-rows c =
     let table = c.args.table.now in
     let ps = c.args.places.now in
     subst (λ all. IfOk c.refs.result (λ rows. rows.items ≡ all))
-    (ap rows_at (same_left table ps) ∙ ap (λ own. rows_at (left_by table (changes_of (unwrap_or (option_copied own) [])) ps)) (sym c.in-None.is))
+    (ap rows_at (same_left table ps) ∙ ap (λ own. rows_at (left_by table (changes_kept (option_copied own)) ps)) (sym c.in-None.is))
     c.refs.ensures.rows

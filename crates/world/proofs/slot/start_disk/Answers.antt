@@ -14,6 +14,6 @@ returns-in-Ok c =
 pub returns-in-Err-Fault : goal.returns-in-Err-Fault
 returns-in-Err-Fault c =
     record {
-      tried = λ d rs has holds. tried_down c.args.place c.args.disk d rs has holds c.in-Err-Fault.field-0.disk c.rested.result c.rested.ensures.kept c.rested.ensures.bytes (c.rested.ensures.starts c.in-Err-Fault.ensures.startable) c.rested.ensures.power
+      tried = λ d rs has holds. tried_down c.args.place c.args.disk d rs has holds c.in-Err-Fault.field-0.disk c.rested.result c.rested.ensures.kept c.rested.ensures.bytes (c.rested.ensures.starts c.args.place.undo c.in-Err-Fault.ensures.startable) c.rested.ensures.power
           (c.in-Err-Fault.ensures.failed (search rules)).run.plan (c.in-Err-Fault.ensures.failed (search rules)).left;
     }

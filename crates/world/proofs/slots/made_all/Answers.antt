@@ -1,10 +1,21 @@
-use Rattle.std.proofs.Common.{◌≡◌, ◌<◌, ◌+◌, ℕ, List, [], ◌∷◌, ◌++◌, length, length-append, take, ap, sym, subst, ◌∙◌, arith}
+use Rattle.std.proofs.Common.{◌≡◌, ◌<◌, ◌≤◌, ◌+◌, ℕ, Some, List, [], ◌∷◌, ◌++◌, length, length-append, take, ap, sym, subst, ◌∙◌, arith}
 use Rattle.std.proofs.lemmas.List.{take_more}
+use Rattle.std.proofs.lemmas.Option.{slice_get-get_or}
+use Rattle.std.specs.List.{slice_get}
 use Rattle.node_rules.specs.Data.{Place}
 use Rattle.world.specs.declared.slot.NodeSlot.{NodeSlot}
 use Rattle.world.specs.Slots.{AreMade, IsMade}
 use Rattle.world.proofs.BeginLemmas.{made_more}
 use Rattle.world.proofs.slots.made_all.Goals as goal
+
+pub made-requires : goal.made-requires
+made-requires c =
+    let i = c.loop-place.place-index in
+    let places = c.args.places.now in
+    let place = c.place-item.result in
+    let inside : i < length places = omega arith in
+    let there : slice_get places i ≡ Some place = slice_get-get_or places i place inside ∙ ap (λ (p : Place). Some p) (sym c.place-item.is) in
+    subst (λ (p : Place). p.undo ≤ 1024) (sym c.in_ok-place.ensures) (c.requires (i + 1) place there)
 
 pub loop-place-preserved : goal.loop-place-preserved
 loop-place-preserved c =

@@ -4,7 +4,7 @@ use Rattle.redo_log.specs.Plans.{append_calls, begin_calls}
 use Rattle.record_log.specs.Held.{HoldRecords}
 use Rattle.record_log.specs.Log.{disk_of as disk_of_log}
 use Rattle.node_disk.specs.OnDisk.{place_of, kept_of, disk_of}
-use Rattle.node_disk.proofs.MakeLaws.{holds_first, ready_made, stands_made, may_be_begun, may_be_made, may_be_empty}
+use Rattle.node_disk.proofs.MakeLaws.{holds_first, ready_made, undo_made, stands_made, may_be_begun, may_be_made, may_be_empty}
 use Rattle.node_disk.proofs.CutLaws.{starts_if_only}
 use Rattle.node_disk.proofs.PlanLaws.{untouched_same, run_untouched, run_over, fault_over, fault_early}
 use Rattle.node_disk.proofs.node.Node.make.Goals as goal
@@ -18,7 +18,7 @@ returns-in-Ok-begin-clause-made g c =
     let bytes = d.content (disk_of node) in
     let hold = holds_first c.in-Ok.memory.boot bytes c.in-Ok.ensures.boot (began.written.stored [] new.made) in
     let kept = began.kept ∙ c.in-Ok.ensures.kept in
-    let stands = stands_made node.memory bytes hold kept in
+    let stands = stands_made (place_of node).undo node.memory bytes hold kept in
     record {
       kept = kept;
       place_is = began.place ∙ c.in-Ok.ensures.place;
@@ -26,8 +26,9 @@ returns-in-Ok-begin-clause-made g c =
       next = record {
         running = record { usable = began.ready.usable; intact = began.ready.intact; durable = began.ready.durable; stands = stands };
         ready = ready_made c.starts_are_ready.ensures (place_of node) (kept_of node) kept;
+        undo = undo_made c.starts_have_undo.ensures (place_of node) (kept_of node) kept;
       };
-      startable = starts_if_only d.content d.images (disk_of node) began.ready.durable (stands.0, stands.1, stands.2);
+      startable = let made = stands_made c.args.place.undo node.memory bytes hold kept in starts_if_only c.args.place.undo d.content d.images (disk_of node) began.ready.durable (made.0, made.1, made.2);
       run = run_over d begin_calls append_calls c.args.disk (disk_of_log c.in-Ok-create.log) (disk_of node) new.run began.written.run;
     }
 

@@ -5,8 +5,8 @@ use Rattle.record_log.specs.Calls.{NotLoaded}
 use Rattle.record_log.specs.declared.err.LoadWhy.{LoadWhy}
 use Rattle.record_log.specs.Held.{GrowsByPlan}
 use Rattle.record_log.specs.Log.{disk_of as disk_of_log}
-use Rattle.node_rules.specs.Data.{RedoRecord}
-use Rattle.node_disk.specs.Starts.{MayBeHad, next_boot}
+use Rattle.node_rules.specs.Data.{RedoRecord, Place}
+use Rattle.node_disk.specs.Starts.{MayBeHad, CanBeStarted, next_boot}
 use Rattle.node_disk.specs.OnDisk.{disk_of}
 use Rattle.node_disk.specs.Calls.{HasRestarted}
 use Rattle.node_disk.proofs.StartLaws.{had_of, startable_loaded, startable_again, left_loading, left_writing}
@@ -17,41 +17,41 @@ use Rattle.node_disk.proofs.node.Node.start.Goals as goal
 pub begin_again-requires-clause-had : goal.begin_again-requires-clause-had
 begin_again-requires-clause-had g c =
     let d = g.D.Disk in
-    subst MayBeHad (sym c.as_slice.ensures) (had_of d.content d.images c.args.disk c.in-Ok.records c.requires.startable c.in-Ok.ensures.loaded.only)
+    subst (MayBeHad c.args.place.undo) (sym c.as_slice.ensures) (had_of c.args.place.undo d.content d.images c.args.disk c.in-Ok.records c.requires.startable c.in-Ok.ensures.loaded.only)
 
 pub returns-in-Ok-begin_again-clause-any_moment : goal.returns-in-Ok-begin_again-clause-any_moment
 returns-in-Ok-begin_again-clause-any_moment g c =
     let d = g.D.Disk in
-    startable_again d.moment d.images_since c.args.disk (disk_of_log c.in-Ok.log) (disk_of c.in-Ok-begin_again.node) (d.images c.args.disk) c.requires.startable.crashed c.in-Ok.ensures.read.any_moment
+    startable_again c.args.place.undo d.moment d.images_since c.args.disk (disk_of_log c.in-Ok.log) (disk_of c.in-Ok-begin_again.node) (d.images c.args.disk) c.requires.startable.crashed c.in-Ok.ensures.read.any_moment
     c.in-Ok-begin_again.ensures.startable
 
 pub returns-in-Err-begin_again-clause-any_moment : goal.returns-in-Err-begin_again-clause-any_moment
 returns-in-Err-begin_again-clause-any_moment g c =
     let d = g.D.Disk in
-    startable_again d.moment d.images_since c.args.disk (disk_of_log c.in-Ok.log) c.in-Err-begin_again.err.disk (d.images c.args.disk) c.requires.startable.crashed c.in-Ok.ensures.read.any_moment
+    startable_again c.args.place.undo d.moment d.images_since c.args.disk (disk_of_log c.in-Ok.log) c.in-Err-begin_again.err.disk (d.images c.args.disk) c.requires.startable.crashed c.in-Ok.ensures.read.any_moment
     c.in-Err-begin_again.ensures.startable
 
 pub returns-in-Err-clause-any_moment : goal.returns-in-Err-clause-any_moment
 returns-in-Err-clause-any_moment g c =
     let d = g.D.Disk in
-    startable_loaded d.moment d.images_since c.args.disk c.in-Err.field-0.disk (d.images c.args.disk) c.requires.startable.crashed c.in-Err.ensures.read.any_moment
+    startable_loaded c.args.place.undo d.moment d.images_since c.args.disk c.in-Err.field-0.disk (d.images c.args.disk) c.requires.startable.crashed c.in-Err.ensures.read.any_moment
 
 pub returns-in-Ok-begin_again-clause-startable : goal.returns-in-Ok-begin_again-clause-startable
 returns-in-Ok-begin_again-clause-startable g c =
     let d = g.D.Disk in
-    starts_running d.content d.images c.in-Ok-begin_again.node c.in-Ok-begin_again.ensures.next.running
+    subst (λ (p : Place). CanBeStarted p.undo d.content d.images (disk_of c.in-Ok-begin_again.node)) c.in-Ok-begin_again.ensures.place (starts_running d.content d.images c.in-Ok-begin_again.node c.in-Ok-begin_again.ensures.next.running)
 
 pub returns-in-Err-begin_again-clause-startable : goal.returns-in-Err-begin_again-clause-startable
 returns-in-Err-begin_again-clause-startable g c =
     let d = g.D.Disk in
-    can_start d.content d.images d.moment d.images_since g.met.D.Disk.reads_an_image g.met.D.Disk.now_counts (disk_of_log c.in-Ok.log) c.in-Err-begin_again.err.disk c.in-Err-begin_again.ensures.startable
+    can_start c.args.place.undo d.content d.images d.moment d.images_since g.met.D.Disk.reads_an_image g.met.D.Disk.now_counts (disk_of_log c.in-Ok.log) c.in-Err-begin_again.err.disk c.in-Err-begin_again.ensures.startable
 
 pub returns-in-Err-clause-startable : goal.returns-in-Err-clause-startable
 returns-in-Err-clause-startable g c =
     let d = g.D.Disk in
     let disk = c.in-Err.field-0.disk in
-    can_start d.content d.images d.moment d.images_since g.met.D.Disk.reads_an_image g.met.D.Disk.now_counts c.args.disk disk
-    (startable_loaded d.moment d.images_since c.args.disk disk (d.images c.args.disk) c.requires.startable.crashed c.in-Err.ensures.read.any_moment)
+    can_start c.args.place.undo d.content d.images d.moment d.images_since g.met.D.Disk.reads_an_image g.met.D.Disk.now_counts c.args.disk disk
+    (startable_loaded c.args.place.undo d.moment d.images_since c.args.disk disk (d.images c.args.disk) c.requires.startable.crashed c.in-Err.ensures.read.any_moment)
 
 pub returns-in-Ok-begin_again-clause-started : goal.returns-in-Ok-begin_again-clause-started
 returns-in-Ok-begin_again-clause-started g c =

@@ -5,14 +5,21 @@ use Rattle.node_rules.specs.Records.{nothing_stored, stored_by}
 use Rattle.node_rules.specs.Turn.{with_doubt_of, kept_by}
 use Rattle.node_memory.specs.Parts.{kept_in}
 use Rattle.node_memory.specs.After.{with_stored}
+use Rattle.node_memory.specs.Room.{AllHaveRoom}
 use Rattle.node_ready_laws.specs.Following.{MayAllFollow}
 use Rattle.node_memory.specs.Doubts.{with_keys_of}
 use Rattle.node_memory.proofs.DoubtLaws.{locks_at_start}
 use Rattle.node_memory.proofs.StartLaws.{started}
 use Rattle.node_memory.proofs.memory.Memory.start.Goals as goal
 
-pub replay-requires : goal.replay-requires
-replay-requires c = subst (λ (k : NodeState). MayAllFollow k.stored c.args.records.now) (sym c.requires.none) c.requires.follow
+pub replay-requires-clause-idle : goal.replay-requires-clause-idle
+replay-requires-clause-idle c = ap (λ (k : NodeState). k.owns) c.requires.none
+
+pub replay-requires-clause-follow : goal.replay-requires-clause-follow
+replay-requires-clause-follow c = subst (λ (k : NodeState). MayAllFollow k.stored c.args.records.now) (sym c.requires.none) c.requires.follow
+
+pub replay-requires-clause-room : goal.replay-requires-clause-room
+replay-requires-clause-room c = subst (λ (k : NodeState). AllHaveRoom c.args.self.now.place.undo k.stored c.args.records.now) (sym c.requires.none) c.requires.room
 
 pub returns-clause-kept : goal.returns-clause-kept
 returns-clause-kept c =

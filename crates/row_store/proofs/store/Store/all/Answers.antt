@@ -12,12 +12,12 @@ pub returns-in-Some : goal.returns-in-Some
 returns-in-Some c =
     let b = c.args.branch.now in
     let table = c.args.table.now in
-    let owns = c.self.inside.owns in
+    let owns = c.self.inside.pending.owns in
     let tables = c.self.inside.tables in
     let ps = c.in-Some.places.now in
     let cs = changes_of (sets_at owns b) in
     subst (λ all. IfOk c.refs_seen.result (λ rows. rows.items ≡ all))
-    (ap (λ sets. rows_at (left_by table (changes_of sets) ps)) c.sets.ensures
+    (ap (λ own. rows_at (left_by table own ps)) c.sets.ensures
     ∙ seen_left tables table cs ps (sym c.in-Some.ensures) c.refs_seen.ensures.rising (placed_at tables owns b c.self.invariant.own)
     ∙ ap (λ s. seen_by s b table) c.self.view_is)
     c.refs_seen.ensures.rows
@@ -26,7 +26,7 @@ pub returns-in-None : goal.returns-in-None
 returns-in-None c =
     let b = c.args.branch.now in
     let table = c.args.table.now in
-    let owns = c.self.inside.owns in
+    let owns = c.self.inside.pending.owns in
     let tables = c.self.inside.tables in
     let cs = changes_of (sets_at owns b) in
     let none : c.new.result.items ≡ [] = search rules in

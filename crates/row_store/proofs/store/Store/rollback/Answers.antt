@@ -1,10 +1,11 @@
-use Rattle.std.proofs.Common.{sym, subst}
-use Rattle.row_store.specs.AllPlaced.{AllPlaced}
-use Rattle.row_store.proofs.StoreLaws.{placed_drop}
+use Rattle.std.proofs.Common.{ap, ◌∙◌}
+use Rattle.row_store.specs.TablePlaces.{rows_in}
+use Rattle.row_store.specs.Store.{rolled_back}
+use Rattle.row_store.proofs.HeldLaws.{contents_of, leave_for}
 use Rattle.row_store.proofs.store.Store.rollback.Goals as goal
 
 pub invariant_of-self : goal.invariant_of-self
-invariant_of-self c = record {
-  own = subst (AllPlaced c.self.inside.tables) (sym c.remove.ensures.dropped) (placed_drop c.self.inside.tables c.self.inside.owns c.args.branch.now c.self.invariant.own);
-  held = c.self.invariant.held;
-}
+invariant_of-self c = leave_for c.self.inside.tables c.self.inside.pending c.remove.new.self c.args.branch.now c.remove.ensures.dropped c.self.invariant
+
+pub returns : goal.returns
+returns c = ap (contents_of (rows_in c.self.inside.tables)) c.remove.ensures.dropped ∙ ap (λ s. rolled_back s c.args.branch.now) c.self.view_is

@@ -16,8 +16,8 @@ returns-in-Some-clause-row c =
     let key = c.args.key.now in
     let rows = rows_of_table (rows_in c.self.inside.tables) table in
     c.as_ref.ensures.value
-    ∙ ap (λ last. unwrap_or last (get rows key)) (c.in-Some.ensures ∙ ap (λ sets. last_at (changes_of sets) table key None) c.sets.ensures)
-    ∙ sym (get_applied table key rows (changes_of (sets_at c.self.inside.owns b))) ∙ ap (λ s. get (seen_by s b table) key) c.self.view_is
+    ∙ ap (λ last. unwrap_or last (get rows key)) (c.in-Some.ensures ∙ ap (λ cs. last_at cs table key None) c.sets.ensures)
+    ∙ sym (get_applied table key rows (changes_of (sets_at c.self.inside.pending.owns b))) ∙ ap (λ s. get (seen_by s b table) key) c.self.view_is
 
 pub returns-in-None-clause-row : goal.returns-in-None-clause-row
 returns-in-None-clause-row c =
@@ -26,19 +26,19 @@ returns-in-None-clause-row c =
     let key = c.args.key.now in
     let rows = rows_of_table (rows_in c.self.inside.tables) table in
     c.get-committed.ensures.row
-    ∙ ap (λ last. unwrap_or last (get rows key)) (c.in-None.ensures ∙ ap (λ sets. last_at (changes_of sets) table key None) c.sets.ensures)
-    ∙ sym (get_applied table key rows (changes_of (sets_at c.self.inside.owns b))) ∙ ap (λ s. get (seen_by s b table) key) c.self.view_is
+    ∙ ap (λ last. unwrap_or last (get rows key)) (c.in-None.ensures ∙ ap (λ cs. last_at cs table key None) c.sets.ensures)
+    ∙ sym (get_applied table key rows (changes_of (sets_at c.self.inside.pending.owns b))) ∙ ap (λ s. get (seen_by s b table) key) c.self.view_is
 
 pub returns-in-Some-clause-ordered : goal.returns-in-Some-clause-ordered
 returns-in-Some-clause-ordered c =
     let b = c.args.branch.now in
     let table = c.args.table.now in
     let rows = rows_of_table (rows_in c.self.inside.tables) table in
-    subst (λ s. are_in_order (seen_by s b table)) c.self.view_is (apply_in_order table rows (changes_of (sets_at c.self.inside.owns b)) c.get-committed.ensures.ordered)
+    subst (λ s. are_in_order (seen_by s b table)) c.self.view_is (apply_in_order table rows (changes_of (sets_at c.self.inside.pending.owns b)) c.get-committed.ensures.ordered)
 
 pub returns-in-None-clause-ordered : goal.returns-in-None-clause-ordered
 returns-in-None-clause-ordered c =
     let b = c.args.branch.now in
     let table = c.args.table.now in
     let rows = rows_of_table (rows_in c.self.inside.tables) table in
-    subst (λ s. are_in_order (seen_by s b table)) c.self.view_is (apply_in_order table rows (changes_of (sets_at c.self.inside.owns b)) c.get-committed.ensures.ordered)
+    subst (λ s. are_in_order (seen_by s b table)) c.self.view_is (apply_in_order table rows (changes_of (sets_at c.self.inside.pending.owns b)) c.get-committed.ensures.ordered)

@@ -1,4 +1,4 @@
-use Rattle.std.proofs.Common.{[], None, unwrap_or, sym, ap, subst, ◌∙◌}
+use Rattle.std.proofs.Common.{[], unwrap_or, sym, ap, subst, ◌∙◌}
 use Rattle.std.specs.List.Sorted.{IsStrictlySortedBy}
 use Rattle.sql_eval.specs.Rows.{get}
 use Rattle.row_store.specs.Places.{rows_at}

@@ -1,8 +1,12 @@
-use Rattle.std.proofs.Common.{◌≡◌, ℕ, List, length, replicate, refl, ap, subst, ◌∙◌, arith}
+use Rattle.std.proofs.Common.{◌≡◌, ℕ, List, Some, length, replicate, refl, ap, subst, ◌∙◌, arith}
 use Rattle.node_rules.specs.Data.{Place}
+use Rattle.node_rules.specs.Words.{numbered}
 use Rattle.world.specs.Slots.{AreMade}
 use Rattle.world.proofs.NewLemmas.{new_linked, new_orders}
 use Rattle.world.proofs.world.World.new.Goals as goal
+
+pub made_all-requires : goal.made_all-slots-requires
+made_all-requires c = λ n p at. (c.requires.script.each n p (subst (λ (ps : List Place). numbered ps n ≡ Some p) c.as_slice.ensures at)).undo.1
 
 pub returns-clause-linked : goal.returns-clause-linked
 returns-clause-linked c =
