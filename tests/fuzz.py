@@ -14,12 +14,14 @@ joined, nothing is held, and all is recovered. Of each run is asked that
       is told exactly where a forced one differs from the decision; the numbers at a node never fall, and each decision has a
       new one;
     - the records on each disk are those of which the book tells, in that order;
+    - each branch that SHOW UNDO shows holds its bytes over 4,096, rounded up, in extents, and all together no more extents than
+      their node has; branches stand in the order of their ids;
     - once all is recovered, no branch is in doubt and none is collecting, and the rows at each node are those that the
-      committed changes on its disk leave; they stay so when every node is stopped and started again.
+      committed changes on its disk leave; they stay so when every node is stopped and started again, and no undo is left then.
 
 With --small-pools each node has one to three extents of undo and many rows are long, more branches are forced, and nodes stop
 and start more often. Then the second program (model/) runs each script too, and has to print the same: so it is compared which
-statements are refused with ORA-30036, and by how many extents.
+statements are refused with ORA-30036, and by how many extents, and what SHOW UNDO prints.
 
 A script on which something fails is written to fuzz_SEED.dtx, and its line says what. The last line is `N runs, M failed`; the
 exit status is 1 where one failed.
@@ -35,11 +37,12 @@ from functools import partial
 
 from disk_records import BOOKED, rows_of
 from fuzz_scripts import DBA, TABLE, SmallPools, Writer
-from runs import TOP, Unended, disk_of, proved, records_of, run, script_of, texts_in
+from runs import TOP, Unended, disk_of, proved, records_of, run, script_of, texts_in, undo_of
 
 sys.path.append(str(TOP / "tests/model"))
 from script import play  # of the second program
 
+EXTENT = 4096  # bytes
 ROUNDS = 20  # of recovery: orders of the script may still strike on the way, and a decision may go up and down a deep tree
 
 
@@ -63,6 +66,7 @@ class Plan:
         # an order that is left strikes one START, or two
         self.add([f"STOP {node}" for node in nodes] + [f"START {node}" for node in nodes] * 3)
         self.later_rows = self.add(queries)
+        self.undo = self.add([f"SHOW UNDO {node}" for node in nodes])
 
     def add(self, commands):
         """Adds commands, and gives their numbers."""
@@ -177,6 +181,27 @@ def check_rows(plan, ran):
             need(ran.texts[query][1:-1] == due, f"the rows of {node} are not {due}, but {ran.texts[query]}")
 
 
+def extents_of(command):
+    """The undo extents of the node that the command makes."""
+    words = command.split()
+    return int(words[words.index("UNDO") + 1]) if "UNDO" in words else 64
+
+
+def check_undo(plan, ran):
+    """Undo is held in extents of the node, and is gone in the end."""
+    extents = {node: extents_of(command) for node, command in zip(plan.nodes, plan.commands)}
+    for number, command in enumerate(plan.commands, 1):
+        lines = ran.texts[number]
+        if not command.startswith("SHOW UNDO") or lines[0].startswith("DTX-01"):
+            continue
+        held = undo_of(lines)
+        need([id for id, _, _ in held] == sorted(id for id, _, _ in held), f"{number}: branches in another order")
+        need(all(count == -(-len(found) // EXTENT) for _, count, found in held), f"{number}: the extents of some undo")
+        need(sum(count for _, count, _ in held) <= extents[command.split()[2]], f"{number}: more extents than there are")
+    for number in plan.undo:
+        need(ran.texts[number] == ["no undo"], f"in the end undo is held: {ran.texts[number]}")
+
+
 def check_pending(plan, ran):
     """Whoever could be recovered is."""
     for number in plan.pending:
@@ -206,6 +231,7 @@ def try_seed(program, with_small_pools, seed):
         check_disks(plan, ran, book)
         check_pending(plan, ran)
         check_rows(plan, ran)
+        check_undo(plan, ran)
         if with_small_pools:
             check_alike(plan, ran)
     except (Wrong, Unended) as wrong:

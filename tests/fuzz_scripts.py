@@ -47,6 +47,14 @@ class Writer:
     def session(self):
         return self.random.randint(1, TRANSACTIONS)
 
+    def teller(self):
+        """The session of a story."""
+        return self.session()
+
+    def boot(self, name):
+        """About so often the node has started."""
+        return 1
+
     def script(self):
         commands = [self.made(name) for name in self.nodes]
         commands += self.prepared()
@@ -229,7 +237,7 @@ class Writer:
 
     def story(self):
         """A transaction from its first change to its end, with at most a few things that go wrong on its way."""
-        name, session = self.node(), self.session()
+        name, session = self.node(), self.teller()
         at = f"AT {name} SESSION {session}: "
         # the latest stands last
         self.begun[name, session] = self.begun.pop((name, session), 0) + 1
@@ -244,7 +252,8 @@ class Writer:
         if self.is_held:
             yield from [f"PUMP {self.random.randint(1, 12)}", self.disturbance(), "PUMP"]
         if forced:
-            yield from self.outcomes(f"{name}.{self.nodes.index(name) + 1:08x}.1.{session}.{self.begun[name, session]}")
+            begun = f"{self.boot(name)}.{session}.{self.begun[name, session]}"
+            yield from self.outcomes(f"{name}.{self.nodes.index(name) + 1:08x}.{begun}")
         yield from self.aftermath()
 
     def unheard(self):
@@ -284,12 +293,31 @@ class Writer:
 
 
 class SmallPools(Writer):
-    """Nodes of little undo space, whose rows are long: what is in doubt, or stopped and started, holds it."""
+    """Nodes of little undo space, whose rows are long: what is in doubt, or stopped and started, holds it.
+
+    Each story has a session of its own, so that its branches are known when they are to be forced.
+    """
 
     forced = 0.6
 
+    def __init__(self, seed):
+        super().__init__(seed)
+        self.tellers = TRANSACTIONS
+        self.boots = dict.fromkeys(self.nodes, 1)
+
     def undo(self):
-        return [f"UNDO {self.pick([1, 1, 2, 3])}"]
+        return [f"UNDO {self.pick([1, 1, 1, 2, 3])}"]
+
+    def teller(self):
+        self.tellers += 1
+        return self.tellers
+
+    def boot(self, name):
+        return self.boots[name]
+
+    def restart(self, name):
+        self.boots[name] += 1
+        return [f"STOP {name}", f"START {name}"]
 
     def width(self):
         return self.pick([1, 990, 990, 991, 1500, 2000, 2001])  # four changes with 990 letters fill an extent
@@ -300,10 +328,12 @@ class SmallPools(Writer):
     def restarted(self):
         """Nodes stop and start, or recover, and it is tried whether undo space is left behind that."""
         for name in self.nodes:
-            yield from self.pick([[], [], [f"STOP {name}", f"START {name}"], [f"START {name}"], [f"RECO {name}"]])
+            yield f"SHOW UNDO {name}"
+            yield from self.restart(name) if self.chance(0.3) else self.pick([[], [f"START {name}"], [f"RECO {name}"]])
             self.keys += 1
             for change in f"INSERT INTO {TABLE} VALUES ({self.keys}, 0, '')", self.change(name):
                 yield f"AT {name} SESSION {PROBER}: {change}"
+            yield f"SHOW UNDO {name}"
             yield f"AT {name} SESSION {PROBER}: ROLLBACK"
 
     def outcomes(self, root):

@@ -62,6 +62,18 @@ def disk_of(lines):
     return b"" if lines == ["empty"] else b"".join(bytes.fromhex(line.split(" ")[1]) for line in lines)
 
 
+def undo_of(lines):
+    """The undo that SHOW UNDO shows: of each branch the numbers of its id, its extents and its bytes."""
+    held = []
+    for line in [] if lines == ["no undo"] else lines:
+        first, _, rest = line.partition(" ")
+        if "." in first:
+            held.append((tuple(map(int, first.split("."))), int(rest), bytearray()))
+        else:
+            held[-1][2].extend(bytes.fromhex(rest))
+    return held
+
+
 def records_of(disk):
     """The records that a disk stands for: a cell is a gate, which is open where its byte is 1, a length and a record."""
     found, place = [], 0

@@ -1,7 +1,7 @@
 #!/usr/bin/env python3
 """Compares the proved program with a second one, written from the rules alone, on random scripts of many nodes.
 
-    tests/model/compare_nodes.py [COUNT [SEED [PROGRAM]]]
+    tests/model/compare_nodes.py [--small-pools] [COUNT [SEED [PROGRAM]]]
 
 COUNT scripts (300 where it is left out) are made from SEED on, and PROGRAM is the proved program where it is left out,
 of ./prove or release/. A script on which the two differ is written to differs_SEED.dtx, and the first line that differs is
@@ -10,6 +10,9 @@ printed. The last line is `N scripts, M differ`; the exit status is 1 where one 
 The second program is script.py and what it imports; random_nodes.py makes the scripts. They have two to six nodes with
 links, synonyms and sessions, and most of their transactions reach over several links. Messages are held, lost and repeated,
 pairs cut, nodes stopped in the middle of disk writes and by comments, branches in doubt are forced, and all is shown.
+
+With --small-pools random_pools.py makes them: nodes have one to three extents of undo, many branches are in doubt, forced or
+over a stop and a start, and SHOW UNDO is compared with them, and where ORA-30036 comes and for how many extents.
 """
 
 import itertools
@@ -19,6 +22,7 @@ import sys
 
 from proved_program import proved_program
 from random_nodes import Writer
+from random_pools import PoolWriter
 
 
 def first_difference(due, printed):
@@ -27,10 +31,10 @@ def first_difference(due, printed):
     return next((pair for pair in pairs if pair[0] != pair[1]), None)
 
 
-def main(count="300", seed="0", program=None):
+def main(kind, count="300", seed="0", program=None):
     program, differing = program or proved_program(), 0
     for number in range(int(seed), int(seed) + int(count)):
-        writer = Writer(number)
+        writer = kind(number)
         script = writer.script()
         ran = subprocess.run([program], input=script, capture_output=True, timeout=60)
         difference = first_difference(writer.printed(), ran.stdout)
@@ -43,4 +47,5 @@ def main(count="300", seed="0", program=None):
 
 
 if __name__ == "__main__":
-    sys.exit(main(*sys.argv[1:]))
+    words = sys.argv[1:]
+    sys.exit(main(PoolWriter, *words[1:]) if words[:1] == ["--small-pools"] else main(Writer, *words))
