@@ -51,7 +51,7 @@ fn why_text(why: &Why) -> &[u8]
 
 // Writes a number in decimal.
 #[tactic(auto, using(tran_ids::proofs::NumberLemmas::decimal_is))]
-fn write_decimal<K: Sink>(sink: &mut K, number: u64) -> Result<(), Failed>
+fn write_decimal<K: Sink>(sink: &mut K, number: u32) -> Result<(), Failed>
     ensures ok { OnOk result (Appends (K.written sink.old) (K.written sink.new) (decimal number)) }
     ensures err { OnErr result (AppendsPrefix (K.written sink.old) (K.written sink.new) (decimal number)) }
     ensures cause { HasCause (K.faults sink.old) (K.faults sink.new) result }
@@ -66,7 +66,7 @@ fn write_refusal<K: Sink>(sink: &mut K, line: u32, why: Why) -> Result<(), Faile
     ensures cause { HasCause (K.faults sink.old) (K.faults sink.new) result }
 {
     write_whole(sink, b"line ")?;
-    write_decimal(sink, u64::from(line))?;
+    write_decimal(sink, line)?;
     write_whole(sink, b": ")?;
     write_whole(sink, why_text(&why))?;
     write_whole(sink, b"\n")
