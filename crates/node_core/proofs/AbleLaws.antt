@@ -3,7 +3,6 @@
 use Rattle.std.proofs.Common.{◌≡◌, ℕ, ◌+◌, ◌<◌, ◌≤◌, ◌^◌, List, length, is_some, Option, None, Some, IfSome, refl, ap, subst, sym, arith}
 use Rattle.tran_ids.specs.declared.branch.BranchId.{BranchId}
 use Rattle.tran_ids.specs.Listed.{item_at}
-use Rattle.row_store.specs.Store.{is_in_doubt}
 use Rattle.node_rules.specs.Data.{Stmt, RedoRecord, Live, Msg, Place, Input}
 use Rattle.node_rules.specs.declared.session.Finished.{Finished}
 use Rattle.node_rules.specs.Data.inputs

@@ -1,5 +1,5 @@
 -- What a turn asks of its messages and of the clock, from what the laws of bytes say of them.
-use Rattle.std.proofs.Common.{◌≡◌, ◌<◌, ◌^◌, ◌-◌, ℕ, List, [], ◌∷◌, max, arith}
+use Rattle.std.proofs.Common.{◌<◌, ◌^◌, ◌-◌, ℕ, List, [], ◌∷◌, max, arith}
 use Rattle.std.specs.List.{AllByRecursion}
 use Rattle.node_rules.specs.Data.{Answer, Kind, Msg, Input}
 use Rattle.node_rules.specs.Data.answers

@@ -9,6 +9,7 @@ use Rattle.tran_ids.proofs.ListedLemmas.{put_or_before, drop_gone, drop_leaves}
 use Rattle.sql_eval.specs.Rows.{change_length}
 use Rattle.row_store.specs.Own.{before, undo_length}
 use Rattle.row_store.specs.Store.{AreOfTables, has_table, used_extents, extents_of_sets}
+use Rattle.row_store.specs.Undone.{RowsAreInOrder}
 use Rattle.node_rules.specs.Data.{Change, ChangeSet, BranchId, Decision, Keyed, Sealed, Owned, Doubt}
 use Rattle.node_rules.specs.Data.decisions
 use Rattle.node_rules.specs.Words.{same, same_text, item_at, put_item, drop_item}
@@ -18,7 +19,7 @@ use Rattle.node_rules.specs.Records.{held_back, settled, doubt_over}
 use Rattle.node_ready_laws.proofs.ListLemmas.{all_weaker, all_both, all_last, all_dropped}
 use Rattle.node_ready_laws.proofs.TableLemmas.{rows_changed, rows_added}
 use Rattle.node_undo_laws.specs.Changed.{changes_at}
-use Rattle.node_undo_laws.specs.Kept.{RowsAreInOrder, UndoIsOf, UndoIsHeld, UndoStands}
+use Rattle.node_undo_laws.specs.Kept.{UndoIsOf, UndoIsHeld, UndoStands}
 use Rattle.node_undo_laws.specs.Keys.{are_of_one_key}
 use Rattle.node_undo_laws.proofs.HolderLemmas.{LeaveKeys}
 use Rattle.node_undo_laws.proofs.OrderLemmas.{order_stays, order_with}

@@ -6,6 +6,7 @@ use Rattle.std.specs.List.{AllByRecursion}
 use Rattle.std.specs.List.Sorted.{IsStrictlySortedBy}
 use Rattle.dtx_values.specs.Order.{value_cmp}
 use Rattle.sql_eval.specs.Meaning.{satisfies, written}
+use Rattle.row_store.specs.Undone.{RowsAreInOrder}
 use Rattle.stmt_view_laws.specs.Views.{AreInKeyOrder}
 use Rattle.stmt_view_laws.proofs.OrderLemmas.{changes_keep_order}
 use Rattle.node_rules.specs.Data.{Value, Change, Table, Stmt, Keyed}
@@ -13,7 +14,6 @@ use Rattle.node_rules.specs.Data.stmts
 use Rattle.node_rules.specs.Words.{same_text}
 use Rattle.node_rules.specs.Rows.{TableRows, same_value, keys_of, apply_all, with_table, rows_of_table}
 use Rattle.node_ready_laws.proofs.ListLemmas.{all_last}
-use Rattle.node_undo_laws.specs.Kept.{RowsAreInOrder}
 use Rattle.node_undo_laws.proofs.UndoLemmas.{AreDifferent}
 
 -- ---- keys that are written

@@ -3,16 +3,12 @@
 use Rattle.std.specs.Prelude.{◌≡◌, ℕ, ◌≤◌, List}
 use Rattle.std.specs.List.{AllByRecursion}
 use Rattle.row_store.specs.Store.{used_extents}
-use Rattle.stmt_view_laws.specs.Views.{AreInKeyOrder}
+use Rattle.row_store.specs.Undone.{RowsAreInOrder}
 use Rattle.node_rules.specs.Data.{BranchId, ChangeSet, Owned, Doubt, Place}
 use Rattle.node_rules.specs.Rows.{TableRows, changes_of, undo_of, undo_over}
 use Rattle.node_rules.specs.NodeState.{NodeState, sets_at}
 use Rattle.node_undo_laws.specs.Changed.{ChangesAreOfLives}
 use Rattle.node_undo_laws.specs.Keys.{KeysHeld}
-
--- the rows of each table stand in the order of their keys
-abbrev pub RowsAreInOrder : List TableRows → Type 0
-RowsAreInOrder rows = AllByRecursion (λ t. AreInKeyOrder t.rows) rows
 
 -- the undo of a branch's statements is the rows from before all their changes
 abbrev pub UndoIsOf : List TableRows → List ChangeSet → Type 0

@@ -16,7 +16,7 @@ use Rattle.sql_eval.specs.Rows.{get, apply}
 use Rattle.row_store.specs.Own.{is_change_of, before}
 use Rattle.row_store.specs.Pending.{undo_over}
 use Rattle.row_store.specs.Tables.{TableRows, apply_all, rows_of_table}
-use Rattle.row_store.specs.Undone.{AreInOrder, AreNamedApart}
+use Rattle.row_store.specs.Undone.{RowsAreInOrder, AreNamedApart}
 use Rattle.row_store.proofs.InOrder.{are_in_order, apply_in_order}
 use Rattle.row_store.proofs.Lookups.{get_applied}
 use Rattle.row_store.proofs.Named.{apply_next, apply_none}
@@ -67,19 +67,19 @@ finds_all c [] apart = tt
 finds_all c (t ∷ ts) apart =
     ((λ is. ap (λ h. cond h t.rows (rows_of_table ts c.table)) (swapped c.table t.table is)), further c t ts (rows_of_table ts c.table) apart.0 (finds_all c ts apart.1))
 
-back_by : (c : Change) (found : List Keyed) (ts : List TableRows) → AreInOrder ts → Finds found c ts → apply_all (apply_all ts (c ∷ [])) (before found c ∷ []) ≡ ts
+back_by : (c : Change) (found : List Keyed) (ts : List TableRows) → RowsAreInOrder ts → Finds found c ts → apply_all (apply_all ts (c ∷ [])) (before found c ∷ []) ≡ ts
 back_by c found [] ordered finds = refl
 back_by c found (t ∷ ts) ordered finds =
     let head = row_back t.table t.rows c (get found c.key) (λ is. ap (λ rows. get rows c.key) (finds.0 is)) ordered.0 in
     let rest = back_by c found ts ordered.1 finds.1 in
     (λ i. let x : TableRows = record { table = t.table; rows = head i } in x ∷ rest i)
 
-pub one_back : (c : Change) (ts : List TableRows) → AreInOrder ts → AreNamedApart ts → apply_all (apply_all ts (c ∷ [])) (before (rows_of_table ts c.table) c ∷ []) ≡ ts
+pub one_back : (c : Change) (ts : List TableRows) → RowsAreInOrder ts → AreNamedApart ts → apply_all (apply_all ts (c ∷ [])) (before (rows_of_table ts c.table) c ∷ []) ≡ ts
 one_back c ts ordered apart = back_by c (rows_of_table ts c.table) ts ordered (finds_all c ts apart)
 
 -- ---- all changes
 
-pub still_in_order : (cs : List Change) (ts : List TableRows) → AreInOrder ts → AreInOrder (apply_all ts cs)
+pub still_in_order : (cs : List Change) (ts : List TableRows) → RowsAreInOrder ts → RowsAreInOrder (apply_all ts cs)
 still_in_order cs [] ordered = tt
 still_in_order cs (t ∷ ts) ordered = (apply_in_order t.table t.rows cs ordered.0, still_in_order cs ts ordered.1)
 
@@ -92,7 +92,7 @@ pub still_apart : (cs : List Change) (ts : List TableRows) → AreNamedApart ts 
 still_apart cs [] apart = tt
 still_apart cs (t ∷ ts) apart = (apart_from cs t ts apart.0, still_apart cs ts apart.1)
 
-pub all_back : (rows : List TableRows) (cs : List Change) → AreInOrder rows → AreNamedApart rows → apply_all (apply_all rows cs) (reverse (undo_over rows cs)) ≡ rows
+pub all_back : (rows : List TableRows) (cs : List Change) → RowsAreInOrder rows → AreNamedApart rows → apply_all (apply_all rows cs) (reverse (undo_over rows cs)) ≡ rows
 all_back rows [] ordered apart = apply_none (apply_all rows []) ∙ apply_none rows
 all_back rows (c ∷ cs) ordered apart =
     let now = apply_all rows (c ∷ []) in

@@ -8,8 +8,8 @@ use Rattle.sql_eval.specs.Rows.{keys_of}
 use Rattle.row_store.specs.Tables.{TableRows}
 
 -- the keys of each table's rows rise
-abbrev pub AreInOrder : List TableRows → Type 0
-AreInOrder rows = AllByRecursion (λ t. IsStrictlySortedBy value_cmp (keys_of t.rows)) rows
+abbrev pub RowsAreInOrder : List TableRows → Type 0
+RowsAreInOrder rows = AllByRecursion (λ t. IsStrictlySortedBy value_cmp (keys_of t.rows)) rows
 
 -- no two tables have one name
 abbrev pub AreNamedApart : List TableRows → Type 0

@@ -1,5 +1,5 @@
 //! The rows of a node, with what branches have changed of them.
-ghost use Rattle.std.specs.Prelude.{◌≡◌, ◌-◌, ◌<◌, ◌≤◌, ◌^◌, List, [], ◌∷◌, ◌++◌, false, None, flat_map, length, nat_lt, IfOk, OnOk, OnErr, IsErrOf};
+ghost use Rattle.std.specs.Prelude.{◌≡◌, ◌-◌, ◌<◌, ◌≤◌, ◌^◌, List, [], ◌∷◌, ◌++◌, false, None, flat_map, length, nat_lt, IfOk, OnOk, OnErr, IsErrOf, MatchResult};
 ghost use Rattle.std.specs.List.{list_any};
 ghost use Rattle.std.specs.List.Sorted.{IsStrictlySortedBy};
 ghost use Rattle.std.specs.Option.{option_copied};
@@ -299,10 +299,7 @@ impl Store {
         }
         let undo = self.seen(alloc, branch, changes)?;
         let need = self.needed(branch, &undo)?;
-        let free = self.room();
-        if need > free {
-            return Err(StoreErr::Full { need, free });
-        }
+        fits(need, self.room())?;
         Ok(undo)
     }
 
@@ -368,6 +365,16 @@ impl Store {
         make_places(alloc, &mut self.tables, changes.as_slice())?;
         self.pending.push(alloc, branch, changes, undo)
     }
+}
+
+// Whether what is needed is free. That it is not is never answered as out of memory.
+fn fits(need: u64, free: u64) -> Result<(), StoreErr>
+    ensures { MatchResult result (λ _. need ≤ free) (λ err. (err ≡ StoreErr.Full need free) × (free < need)) }
+{
+    if need > free {
+        return Err(StoreErr::Full { need, free });
+    }
+    Ok(())
 }
 
 // Copies of the keys of rows.

@@ -30,7 +30,7 @@ refused bytes with_book line why w run BadScript bad nothing ends =
     subst (λ (a : Asked). IsErr a × (run ≡ nothing_done) × Appends w.before w.now (due_of a with_book run)) (sym bad) (refl, nothing, ends)
 refused bytes with_book line why w run WriteFault bad nothing ends =
     subst (λ (a : Asked). ((a ≡ Ok run.commands) × RunIsWhole run ⊎ (IsErr a × (run ≡ nothing_done))) × TextIsCut w (due_of a with_book run)) (sym bad) (inr (refl, nothing), ends)
-refused bytes with_book line why w run NoMemory bad nothing ends = (inr nothing, ends)
+refused bytes with_book line why w run NoMemory bad nothing ends = absurd ends
 refused bytes with_book line why w run Done bad nothing ends = absurd ends
 refused bytes with_book line why w run Usage bad nothing ends = absurd ends
 refused bytes with_book line why w run ReadFault bad nothing ends = absurd ends

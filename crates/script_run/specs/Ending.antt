@@ -113,11 +113,11 @@ pub record EndsUnread (r : Read) (w : Written) (run : Run) (status : Status) : T
   pub nothing : run ≡ nothing_done
   pub explained : EndsExplained w status ⊎ ((status ≡ NoMemory) × Keeps w.before w.now)
 
--- how the writing of the line ends that refuses a script which is bad on this line, for this reason
+-- how the writing of the line ends that refuses a script which is bad on this line, for this reason; it takes no memory
 abbrev pub EndsRefused : Written → ℕ → Why → Status → Type 0
 EndsRefused w line why BadScript = Appends w.before w.now (refusal_line line why)
 EndsRefused w line why WriteFault = TextIsCut w (refusal_line line why)
-EndsRefused w line why NoMemory = Keeps w.before w.now
+EndsRefused w line why NoMemory = ⊥
 EndsRefused w line why Done = ⊥
 EndsRefused w line why Usage = ⊥
 EndsRefused w line why ReadFault = ⊥

@@ -1,13 +1,17 @@
 //! The lines that are written in place of a report.
-ghost use Rattle.std.specs.Prelude.{◌≡◌, IfOk};
+ghost use Rattle.std.specs.Prelude.{◌≡◌, OnOk, OnErr};
+ghost use Rattle.std.specs.Io.KnownBytes.{Appends};
+ghost use Rattle.dtx_ports.specs.Causes.{HasCause};
+ghost use Rattle.dtx_ports.specs.Whole.{AppendsPrefix};
+ghost use Rattle.tran_ids.specs.Numbers.{decimal};
 ghost use Rattle.script_run.specs.Headline.{IsRun, nothing_done};
 ghost use Rattle.script_run.specs.Ending.{ending_of, EndsExplained, EndsRefused, refusal_line, why_text as text_of};
 
 use crate::outcome::{Outcome, Run, Status};
-use dtx_ports::{Sink, write_whole};
+use dtx_ports::{Failed, Sink, write_whole};
+use itoa::Buffer;
 use script_read::Why;
-use std::alloc::{AllocError, Global};
-use tran_ids::put_decimal;
+use std::alloc::Global;
 
 /// Writes how the program is called.
 fn explain_words<K: Sink>(sink: &mut K) -> Status
@@ -45,28 +49,35 @@ fn why_text(why: &Why) -> &[u8]
     }
 }
 
-/// What is written of a script whose first bad command is on this line. Fails where memory runs out.
-fn refusal(alloc: Global, line: u32, why: Why) -> Result<Vec<u8>, AllocError>
-    ensures { IfOk result (λ text. text.items ≡ refusal_line line why) }
+// Writes a number in decimal.
+#[tactic(auto, using(tran_ids::proofs::NumberLemmas::decimal_is))]
+fn write_decimal<K: Sink>(sink: &mut K, number: u32) -> Result<(), Failed>
+    ensures ok { OnOk result (Appends (K.written sink.old) (K.written sink.new) (decimal number)) }
+    ensures err { OnErr result (AppendsPrefix (K.written sink.old) (K.written sink.new) (decimal number)) }
+    ensures cause { HasCause (K.faults sink.old) (K.faults sink.new) result }
 {
-    let mut text = Vec::new(alloc);
-    text.extend_from_slice(b"line ")?;
-    put_decimal(&mut text, u64::from(line))?;
-    text.extend_from_slice(b": ")?;
-    text.extend_from_slice(why_text(&why))?;
-    text.push(b'\n')?;
-    Ok(text)
+    write_whole(sink, Buffer::new().format(number).as_bytes())
 }
 
-/// Writes which line is bad, and why.
-pub fn explain_line<K: Sink>(alloc: Global, line: u32, why: Why, sink: &mut K) -> Status
+// Writes which line is bad, and why, piece by piece, so that it takes no memory. At an error only a prefix was written.
+fn write_refusal<K: Sink>(sink: &mut K, line: u32, why: Why) -> Result<(), Failed>
+    ensures ok { OnOk result (Appends (K.written sink.old) (K.written sink.new) (refusal_line line why)) }
+    ensures err { OnErr result (AppendsPrefix (K.written sink.old) (K.written sink.new) (refusal_line line why)) }
+    ensures cause { HasCause (K.faults sink.old) (K.faults sink.new) result }
+{
+    write_whole(sink, b"line ")?;
+    write_decimal(sink, line)?;
+    write_whole(sink, b": ")?;
+    write_whole(sink, why_text(&why))?;
+    write_whole(sink, b"\n")
+}
+
+/// Writes which line is bad, and why. No memory is taken, so it is never out of memory.
+pub fn explain_line<K: Sink>(line: u32, why: Why, sink: &mut K) -> Status
     ensures { EndsRefused (record { before = K.written sink.old; now = K.written sink.new; faults_before = K.faults sink.old; faults_now = K.faults sink.new }) line why result }
 {
-    match refusal(alloc, line, why) {
-        Ok(text) => match write_whole(sink, &text) {
-            Ok(()) => Status::BadScript,
-            Err(_) => Status::WriteFault,
-        },
-        Err(_) => Status::NoMemory,
+    match write_refusal(sink, line, why) {
+        Ok(()) => Status::BadScript,
+        Err(_) => Status::WriteFault,
     }
 }

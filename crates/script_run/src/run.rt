@@ -80,7 +80,7 @@ fn run_bytes<K: Sink>(alloc: Global, with_book: bool, bytes: &[u8], sink: &mut K
             run: Run::empty(alloc),
         },
         Err(ScriptErr::Bad { line, why }) => return Outcome {
-            status: explain_line(alloc, line, why, sink),
+            status: explain_line(line, why, sink),
             run: Run::empty(alloc),
         },
     };
