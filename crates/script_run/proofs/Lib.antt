@@ -4,5 +4,6 @@ pub mod ScriptLemmas
 pub mod Headlines
 pub mod FewLemmas
 pub mod AskLemmas
+mod Pieces
 mod WordLemmas
 mod MadeLemmas
