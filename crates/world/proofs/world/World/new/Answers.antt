@@ -5,7 +5,7 @@ use Rattle.world.specs.Slots.{AreMade}
 use Rattle.world.proofs.NewLemmas.{new_linked, new_orders}
 use Rattle.world.proofs.world.World.new.Goals as goal
 
-pub made_all-requires : goal.made_all-slots-requires
+pub made_all-requires : goal.made_all-requires
 made_all-requires c = λ n p at. (c.requires.script.each n p (subst (λ (ps : List Place). numbered ps n ≡ Some p) c.as_slice.ensures at)).undo.1
 
 pub returns-clause-linked : goal.returns-clause-linked
