@@ -6,7 +6,7 @@ import sql
 from across import begin, room_at_root
 from forced import force, purge
 from phases import COMPLETE, collect, committed, in_doubt, roll_back, rolled_back
-from records import LinkMade, RecoverySet, SynonymMade, TableMade
+from records import LinkMade, RecoverySet, StrengthSet, SynonymMade, TableMade
 from statements import (
     Advise,
     Commit,
@@ -18,6 +18,7 @@ from statements import (
     Purge,
     Recovery,
     Rollback,
+    Strength,
 )
 from tables import Refused, Table
 from tokens import Outside
@@ -28,7 +29,7 @@ CRASH_COMMENT = re.compile(rb"ORA-2PC-CRASH-TEST-([1-9]|10)")
 def call(turn, session, text):
     """A call of a session: its answer, or messages to those who have to answer first."""
     try:
-        statement = sql.read(text)
+        statement = sql.read(text, turn.node.have)
     except Outside:
         turn.end(session, [b"ORA-00900: invalid SQL statement"])
         return
@@ -45,7 +46,7 @@ def call(turn, session, text):
 def carry_out(turn, session, statement):
     if isinstance(statement, OnTable):
         live = turn.node.begin(session, session.call.session)
-        begin(turn, live, statement, room_at_root(live))
+        begin(turn, live, statement, room_at_root(turn.node, live))
     elif isinstance(statement, Create):
         create(turn, session, statement)
     elif isinstance(statement, Commit):
@@ -61,6 +62,9 @@ def carry_out(turn, session, statement):
         turn.end(session, [b"Session altered."])
     elif isinstance(statement, Recovery):
         turn.node.append(RecoverySet(statement.is_on))
+        turn.end(session, [b"System altered."])
+    elif isinstance(statement, Strength):
+        turn.node.append(StrengthSet(statement.strength))
         turn.end(session, [b"System altered."])
 
 

@@ -55,6 +55,7 @@ class Memory:
     boot: int = 0
     clock: int = 0
     recovers: bool = True
+    strength: int | None = None  # that was set, and counts in place of the node's own
     tables: dict = field(default_factory=dict)
     links: dict = field(default_factory=dict)
     synonyms: dict = field(default_factory=dict)
@@ -110,6 +111,9 @@ class Memory:
 
     def apply_RecoverySet(self, record):
         self.recovers = record.is_on
+
+    def apply_StrengthSet(self, record):
+        self.strength = record.strength
 
     def keep(self, record, **more):
         self.lives.pop(record.id, None)
@@ -195,12 +199,13 @@ class Memory:
 class Node:
     """A node: its place, its disk, the records that stand there, and what it knows while it is up."""
 
-    def __init__(self, name, number, strength, links, undo):
+    def __init__(self, name, number, strength, links, undo, have):
         self.name = name
         self.number = number
         self.strength = strength
         self.links = links
         self.undo = undo
+        self.have = have
         self.disk = Disk()
         self.disk.bytes = b"\0"
         self.records = []
@@ -245,7 +250,7 @@ class Node:
         if session.branch is None:
             session.seq += 1
             session.branch = BranchId(self.number, self.memory.boot, number, session.seq)
-            live = Live(session.branch, session.branch, None, 1, self.strength)
+            live = Live(session.branch, session.branch, None, 1, self.strength_now())
             self.memory.lives[live.id] = live
         return self.memory.lives[session.branch]
 
@@ -253,5 +258,9 @@ class Node:
         """A branch in a session of its own."""
         branch = BranchId(self.number, self.memory.boot, self.memory.next_session, 1)
         self.memory.next_session += 1
-        self.memory.lives[branch] = Live(branch, root, parent, depth, self.strength)
+        self.memory.lives[branch] = Live(branch, root, parent, depth, self.strength_now())
         return branch
+
+    def strength_now(self):
+        """The strength of a branch that begins now, which it keeps."""
+        return self.strength if self.memory.strength is None else self.memory.strength

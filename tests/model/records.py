@@ -97,6 +97,15 @@ class RecoverySet(Record):
 
 
 @dataclass
+class StrengthSet(Record):
+    kind = 5
+    strength: int
+
+    def fields(self):
+        return b"\2" + number(self.strength, 4)
+
+
+@dataclass
 class OfBranch(Record):
     id: BranchId
     word: ClassVar[str]

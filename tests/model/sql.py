@@ -16,8 +16,10 @@ from statements import (
     Recovery,
     Rollback,
     Select,
+    Strength,
     Update,
 )
+from features import NONE
 from tokens import Outside, Tokens, is_name
 
 LEAST, MOST = -(2**63), 2**63 - 1
@@ -28,6 +30,10 @@ ADVICE = {"NOTHING": 0, "COMMIT": 1, "ROLLBACK": 2}
 
 class Reader(Tokens):
     """Reads a statement from its tokens."""
+
+    def __init__(self, text, have):
+        super().__init__(text)
+        self.have = have  # later features
 
     # ---- parts
 
@@ -220,9 +226,19 @@ class Reader(Tokens):
         if self.one_of("SESSION", "SYSTEM") == "SESSION":
             self.words("ADVISE")
             return Advise(ADVICE[self.one_of(*ADVICE)])
+        if "strength" in self.have and self.may("word", "SET"):
+            return self.strength()
         is_on = self.one_of("ENABLE", "DISABLE") == "ENABLE"
         self.words("DISTRIBUTED", "RECOVERY")
         return Recovery(is_on)
+
+    def strength(self):
+        self.words("COMMIT_POINT_STRENGTH")
+        self.must("sign", "=")
+        strength = self.take("number")
+        if strength > 255:
+            raise Outside
+        return Strength(strength)
 
     def execute(self):
         call = self.one_of("DBMS_TRANSACTION.PURGE_MIXED", "DBMS_TRANSACTION.PURGE_LOST_DB_ENTRY")
@@ -238,9 +254,9 @@ def check_distinct(names):
         raise Outside
 
 
-def read(text):
+def read(text, have=NONE):
     """The statement of a text."""
-    reader = Reader(text)
+    reader = Reader(text, have)
     forms = {
         "CREATE": reader.create,
         "INSERT": reader.insert,

@@ -109,6 +109,13 @@ class Recovery:
 
 
 @dataclass
+class Strength:
+    """ALTER SYSTEM SET COMMIT_POINT_STRENGTH."""
+
+    strength: int
+
+
+@dataclass
 class Purge:
     of_mixed: bool
     id: bytes

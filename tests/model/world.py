@@ -4,6 +4,7 @@ from asked import of_gone, on_ask_of_live, prepared_again, recover, told
 from across import on_exec, on_open, on_opened, on_reply
 from client import call, carry_out, give_up
 from disk import Crash, Struck
+from features import NONE
 from forced import neighbors, pending
 from here import extents
 from messages import Network
@@ -68,7 +69,8 @@ def ignore(_turn, _branch, _message):
 
 
 class World:
-    def __init__(self):
+    def __init__(self, have=NONE):
+        self.have = have
         self.nodes = []
         self.names = []
         self.network = Network()
@@ -221,7 +223,7 @@ class World:
     # ---- commands that answer ok where they may be carried out
 
     def do_NODE(self, name, strength, links, undo):
-        self.nodes.append(Node(name, len(self.nodes) + 1, strength, links, undo))
+        self.nodes.append(Node(name, len(self.nodes) + 1, strength, links, undo, self.have))
         self.names.append(name)
 
     def do_CUT(self, one, other):
