@@ -51,7 +51,8 @@ def open_edge(turn, live, link, target, statement, room):
         raise Refused("ORA-02020: too many database links in use")
     edge = len(live.edges) + 1
     live.waits = Wait(edge, link, statement, room - 1, is_opening=True)
-    turn.send("Open", live.id, BranchId(target, 0, 0, 0), Open(edge, live.root, live.depth + 1))
+    kind = "Open" if live.read_at is None else "OpenAt"
+    turn.send(kind, live.id, BranchId(target, 0, 0, 0), Open(edge, live.root, live.depth + 1, live.read_at))
 
 
 def pass_on(turn, live, edge, statement, room):
@@ -84,7 +85,7 @@ def on_open(turn, message):
     parent, asked = message.sender, message.body
     opened = turn.memory.opened
     if (parent, asked.edge) not in opened:
-        opened[parent, asked.edge] = turn.node.open(asked.root, parent, asked.depth)
+        opened[parent, asked.edge] = turn.node.open(parent, asked)
     turn.send("Opened", opened[parent, asked.edge], parent, asked.edge)
 
 

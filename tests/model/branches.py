@@ -72,6 +72,7 @@ class Live:
     parent: BranchId | None
     depth: int
     strength: int
+    read_at: int | None = None  # the SCN whose rows a READ ONLY transaction sees
     advice: int = 0
     comment: bytes = b""
     changes: list[Change] = field(default_factory=list)

@@ -18,6 +18,8 @@ from statements import (
     Purge,
     Recovery,
     Rollback,
+    Select,
+    SetReadOnly,
     Strength,
 )
 from tables import Refused, Table
@@ -33,14 +35,29 @@ def call(turn, session, text):
     except Outside:
         turn.end(session, [b"ORA-00900: invalid SQL statement"])
         return
-    needs_rollback = session.is_broken and isinstance(statement, (OnTable, Create, Commit))
-    if needs_rollback:
-        turn.end(session, [b"ORA-02067: transaction or savepoint rollback required"])
-        return
     try:
+        check(turn, session, statement)
         carry_out(turn, session, statement)
     except Refused as refused:
         turn.end(session, [str(refused).encode()])
+
+
+def check(turn, session, statement):
+    """Refuses what the transaction of the session does not take."""
+    if isinstance(statement, SetReadOnly) and session.branch is not None:
+        raise Refused("ORA-01453: SET TRANSACTION must be first statement of transaction")
+    if session.is_broken and isinstance(statement, (OnTable, Create, Commit)):
+        raise Refused("ORA-02067: transaction or savepoint rollback required")
+    if is_reader(turn, session) and is_write(statement):
+        raise Refused("DTX-21: write in a read-only transaction")
+
+
+def is_reader(turn, session):
+    return session.branch is not None and turn.memory.lives[session.branch].read_at is not None
+
+
+def is_write(statement):
+    return isinstance(statement, OnTable) and not (isinstance(statement, Select) and not statement.for_update)
 
 
 def carry_out(turn, session, statement):
@@ -52,7 +69,10 @@ def carry_out(turn, session, statement):
     elif isinstance(statement, Commit):
         commit(turn, session, statement.comment)
     elif isinstance(statement, Rollback):
-        rollback(turn, session)
+        rollback(turn, session, [b"Rollback complete."])
+    elif isinstance(statement, SetReadOnly):
+        turn.node.begin(session, session.call.session, turn.memory.clock)
+        turn.end(session, [b"Transaction set."])
     elif isinstance(statement, Force):
         force(turn, session, statement)
     elif isinstance(statement, Purge):
@@ -72,6 +92,9 @@ def commit(turn, session, comment):
     if session.branch is None:
         turn.end(session, COMPLETE)
         return
+    if is_reader(turn, session):
+        rollback(turn, session, COMPLETE)
+        return
     live = turn.memory.lives[session.branch]
     session.call.root = live.id
     session.branch = None
@@ -81,11 +104,12 @@ def commit(turn, session, comment):
     collect(turn, live, True, comment)
 
 
-def rollback(turn, session):
+def rollback(turn, session, lines):
+    """Ends a transaction of which nothing stays."""
     if session.branch is not None:
         roll_back(turn, turn.memory.lives[session.branch])
     session.branch, session.is_broken = None, False
-    turn.end(session, [b"Rollback complete."])
+    turn.end(session, lines)
 
 
 def create(turn, session, statement):

@@ -12,7 +12,9 @@ def extents(undo):
 
 
 def view(memory, live, table):
-    """The committed rows of a table with a branch's own changes."""
+    """The committed rows of a table with a branch's own changes, or those at the SCN of a READ ONLY transaction."""
+    if live.read_at is not None:
+        return memory.versions.rows_at(table.name, live.read_at)
     rows = dict(table.rows)
     for change in live.changes:
         if change.table == table.name:
@@ -59,6 +61,8 @@ def run_here(node, live, statement):
     table = memory.tables[statement.table]
     check_columns(table, statement)
     check_types(table, statement)
+    if live.read_at is not None and live.read_at < memory.versions.floor():
+        raise Refused("ORA-01555: snapshot too old")
     rows = view(memory, live, table)
     if isinstance(statement, Insert):
         return insert(node, live, table, rows, inserted(table, statement))

@@ -15,6 +15,7 @@ class Open(NamedTuple):
     edge: int
     root: BranchId
     depth: int
+    read_at: int | None = None  # the SCN of a READ ONLY transaction, in OpenAt
 
 
 class Exec(NamedTuple):
@@ -41,7 +42,7 @@ class Message:
     kind: str
     sender: BranchId
     receiver: BranchId
-    # of Open, Exec, Reply and Prepare what stands above, of Opened the edge, of Committed the SCN
+    # of Open, OpenAt, Exec, Reply and Prepare what stands above, of Opened the edge, of Committed the SCN
     body: object = None
     clock: int = 0
 

@@ -18,6 +18,7 @@ from branches import (
 from disk import Disk
 from statements import Create
 from tables import Change, Refused, put
+from versions import Versions
 
 FIRST_REMOTE_SESSION = 65
 
@@ -66,6 +67,7 @@ class Memory:
     sessions: dict[int, Session] = field(default_factory=dict)
     opened: dict[tuple, BranchId] = field(default_factory=dict)  # by parent and edge
     next_session: int = FIRST_REMOTE_SESSION
+    versions: Versions = field(default_factory=Versions)
 
     # ---- locks, changes, undo
 
@@ -82,7 +84,8 @@ class Memory:
             lock = self.locks.setdefault((table, key), Lock(branch, writes))
             lock.is_written = lock.is_written or writes
 
-    def commit(self, changes):
+    def commit(self, scn, changes):
+        self.versions.commit(scn, changes)
         for change in changes:
             put(self.tables[change.table].rows, change)
 
@@ -142,7 +145,7 @@ class Memory:
     def apply_Decided(self, record):
         decision = Decision(True, record.scn)
         kept = self.keep(record, state=COMMITTED, decision=decision, number=record.scn)
-        self.commit(record.changes)
+        self.commit(record.scn, record.changes)
         self.release(record.id)
         if not kept.neighbours():
             del self.kept[record.id]
@@ -153,7 +156,7 @@ class Memory:
         if not record.decision.is_commit:
             del self.kept[record.id]
             return
-        self.commit(kept.changes)
+        self.commit(record.decision.scn, kept.changes)
         kept.state, kept.decision, kept.number = COMMITTED, record.decision, record.decision.scn
         self.clock = max(self.clock, record.decision.scn)
 
@@ -162,7 +165,7 @@ class Memory:
         self.release(record.id)
         kept.state = FORCED_ROLLBACK
         if record.decision.is_commit:
-            self.commit(kept.changes)
+            self.commit(record.decision.scn, kept.changes)
             kept.state, kept.number = FORCED_COMMIT, record.decision.scn
             if not record.is_given:
                 self.clock = max(self.clock, record.decision.scn)
@@ -245,20 +248,20 @@ class Node:
     def session(self, number):
         return self.memory.sessions.setdefault(number, Session())
 
-    def begin(self, session, number):
+    def begin(self, session, number, read_at=None):
         """The root of a session's transaction, which begins where there is none."""
         if session.branch is None:
             session.seq += 1
             session.branch = BranchId(self.number, self.memory.boot, number, session.seq)
-            live = Live(session.branch, session.branch, None, 1, self.strength_now())
+            live = Live(session.branch, session.branch, None, 1, self.strength_now(), read_at)
             self.memory.lives[live.id] = live
         return self.memory.lives[session.branch]
 
-    def open(self, root, parent, depth):
+    def open(self, parent, asked):
         """A branch in a session of its own."""
         branch = BranchId(self.number, self.memory.boot, self.memory.next_session, 1)
         self.memory.next_session += 1
-        self.memory.lives[branch] = Live(branch, root, parent, depth, self.strength_now())
+        self.memory.lives[branch] = Live(branch, asked.root, parent, asked.depth, self.strength_now(), asked.read_at)
         return branch
 
     def strength_now(self):

@@ -16,6 +16,7 @@ from statements import (
     Recovery,
     Rollback,
     Select,
+    SetReadOnly,
     Strength,
     Update,
 )
@@ -240,6 +241,10 @@ class Reader(Tokens):
             raise Outside
         return Strength(strength)
 
+    def set_read_only(self):
+        self.words("TRANSACTION", "READ", "ONLY")
+        return SetReadOnly()
+
     def execute(self):
         call = self.one_of("DBMS_TRANSACTION.PURGE_MIXED", "DBMS_TRANSACTION.PURGE_LOST_DB_ENTRY")
         self.must("sign", "(")
@@ -269,6 +274,8 @@ def read(text, have=NONE):
         "EXECUTE": reader.execute,
         "EXEC": reader.execute,
     }
+    later = {"SET": ("readonly", reader.set_read_only)}
+    forms |= {word: form for word, (feature, form) in later.items() if feature in have}
     form = forms.get(reader.take("word"))
     if form is None:
         raise Outside

@@ -80,6 +80,11 @@ class Select(OnTable):
 
 
 @dataclass
+class SetReadOnly:
+    """SET TRANSACTION READ ONLY."""
+
+
+@dataclass
 class Commit:
     comment: bytes
 

@@ -54,7 +54,7 @@ def receive(turn, message):
     """What a message does at the branch that it is for."""
     memory = turn.memory
     memory.clock = max(memory.clock, message.clock, message.body if message.kind == "Committed" else 0)
-    if message.kind == "Open":
+    if message.kind in ("Open", "OpenAt"):
         on_open(turn, message)
     elif message.receiver in memory.lives:
         OF_LIVE.get(message.kind, ignore)(turn, memory.lives[message.receiver], message)
