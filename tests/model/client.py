@@ -3,10 +3,11 @@
 import re
 
 import sql
-from across import begin, room_at_root
+from across import begin, go_back, room_at_root
 from forced import force, purge
 from phases import COMPLETE, collect, committed, in_doubt, roll_back, rolled_back
 from records import LinkMade, RecoverySet, StrengthSet, SynonymMade, TableMade
+from savepoints import note_calls, take_step
 from statements import (
     Advise,
     Commit,
@@ -18,6 +19,8 @@ from statements import (
     Purge,
     Recovery,
     Rollback,
+    RollbackTo,
+    Savepoint,
     Select,
     SetReadOnly,
     Strength,
@@ -46,10 +49,16 @@ def check(turn, session, statement):
     """Refuses what the transaction of the session does not take."""
     if isinstance(statement, SetReadOnly) and session.branch is not None:
         raise Refused("ORA-01453: SET TRANSACTION must be first statement of transaction")
-    if session.is_broken and isinstance(statement, (OnTable, Create, Commit)):
+    if session.is_broken and isinstance(statement, (OnTable, Create, Commit, Savepoint, RollbackTo)):
         raise Refused("ORA-02067: transaction or savepoint rollback required")
+    if isinstance(statement, RollbackTo) and statement.name not in savepoints(turn, session):
+        raise Refused(f"DTX-22: savepoint {statement.name} is not set")
     if is_reader(turn, session) and is_write(statement):
         raise Refused("DTX-21: write in a read-only transaction")
+
+
+def savepoints(turn, session):
+    return {} if session.branch is None else turn.memory.lives[session.branch].savepoints
 
 
 def is_reader(turn, session):
@@ -62,7 +71,7 @@ def is_write(statement):
 
 def carry_out(turn, session, statement):
     if isinstance(statement, OnTable):
-        live = turn.node.begin(session, session.call.session)
+        live = next_step(turn, session)
         begin(turn, live, statement, room_at_root(turn.node, live))
     elif isinstance(statement, Create):
         create(turn, session, statement)
@@ -70,6 +79,11 @@ def carry_out(turn, session, statement):
         commit(turn, session, statement.comment)
     elif isinstance(statement, Rollback):
         rollback(turn, session, [b"Rollback complete."])
+    elif isinstance(statement, Savepoint):
+        set_savepoint(turn, session, statement.name)
+    elif isinstance(statement, RollbackTo):
+        live = next_step(turn, session)
+        go_back(turn, live, live.savepoints[statement.name])
     elif isinstance(statement, SetReadOnly):
         turn.node.begin(session, session.call.session, turn.memory.clock)
         turn.end(session, [b"Transaction set."])
@@ -86,6 +100,20 @@ def carry_out(turn, session, statement):
     elif isinstance(statement, Strength):
         turn.node.append(StrengthSet(statement.strength))
         turn.end(session, [b"System altered."])
+
+
+def next_step(turn, session):
+    """The root of the session's transaction, at its next step."""
+    live = turn.node.begin(session, session.call.session)
+    take_step(live, live.taken + 1)
+    return live
+
+
+def set_savepoint(turn, session, name):
+    live = next_step(turn, session)
+    note_calls(live)
+    live.savepoints[name] = live.taken
+    turn.end(session, [b"Savepoint created."])
 
 
 def commit(turn, session, comment):

@@ -1,5 +1,6 @@
 """A statement at the node of its table: its refusals, its changes and its locks."""
 
+from savepoints import length, note_run
 from statements import Condition, Insert, Select, Update
 from tables import Change, Refused, answered, check_columns, check_types, counted, inserted, put, updated
 
@@ -75,6 +76,7 @@ def run_here(node, live, statement):
         lines = answered(table, statement, [row for _, row in found])
         if statement.for_update:
             memory.lock(live.id, table.name, keys, False)
+            note_run(live, [], table.name, keys)
         return lines
     check_free(memory, live, table, keys)
     if isinstance(statement, Update):
@@ -94,8 +96,7 @@ def insert(node, live, table, rows, made):
 def change(node, live, table, rows, changes, done):
     """Takes in the changes where they and their undo fit."""
     memory = node.memory
-    length = live.length + sum(len(change.bytes()) for change in changes)
-    if length > MOST_CHANGED:
+    if live.length + length(changes) > MOST_CHANGED:
         raise Refused("DTX-16: changes of one branch too large")
     held = memory.undo.get(live.id, b"")
     undo = held + memory.undo_of({table.name: rows}, changes)
@@ -103,7 +104,7 @@ def change(node, live, table, rows, changes, done):
     if needed > node.undo - sum(map(extents, memory.undo.values())):
         raise Refused(f"ORA-30036: unable to extend segment by {needed} in undo tablespace 'UNDOTBS1'")
     memory.undo[live.id] = undo
-    live.changes += changes
-    live.length = length
-    memory.lock(live.id, table.name, [change.key for change in changes], True)
+    keys = [change.key for change in changes]
+    note_run(live, changes, table.name, keys)
+    memory.lock(live.id, table.name, keys, True)
     return counted(len(changes), done)

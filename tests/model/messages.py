@@ -25,6 +25,13 @@ class Exec(NamedTuple):
     statement: OnTable
 
 
+class Back(NamedTuple):
+    """Asks a branch to go back to where it was after an earlier call."""
+
+    call: int
+    keep: int
+
+
 class Reply(NamedTuple):
     call: int
     weight: int | None
@@ -42,7 +49,7 @@ class Message:
     kind: str
     sender: BranchId
     receiver: BranchId
-    # of Open, OpenAt, Exec, Reply and Prepare what stands above, of Opened the edge, of Committed the SCN
+    # of Open, OpenAt, Exec, Back, Reply and Prepare what stands above, of Opened the edge, of Committed the SCN
     body: object = None
     clock: int = 0
 

@@ -79,6 +79,11 @@ class Memory:
         """Locks that FOR UPDATE took on keys without a change."""
         self.locks = {key: lock for key, lock in self.locks.items() if lock.holder != branch or lock.is_written}
 
+    def keep_locks(self, branch, keys, changed):
+        """Of a branch that goes back: those of these keys, as FOR UPDATE takes them where they are not changed."""
+        others = {key: lock for key, lock in self.locks.items() if lock.holder != branch}
+        self.locks = others | {key: Lock(branch, key in changed) for key in keys}
+
     def lock(self, branch, table, keys, writes):
         for key in keys:
             lock = self.locks.setdefault((table, key), Lock(branch, writes))

@@ -15,6 +15,8 @@ from statements import (
     Purge,
     Recovery,
     Rollback,
+    RollbackTo,
+    Savepoint,
     Select,
     SetReadOnly,
     Strength,
@@ -221,7 +223,18 @@ class Reader(Tokens):
         self.may("word", "WORK")
         if self.may("word", "FORCE"):
             return Force(False, self.quoted(MOST_TEXT), None)
+        if "savepoint" in self.have and self.may("word", "TO"):
+            return self.rollback_to()
         return Rollback()
+
+    def rollback_to(self):
+        """Behind TO the word SAVEPOINT is a name where nothing follows it."""
+        if self.may("word", "SAVEPOINT") and not self.left:
+            return RollbackTo("SAVEPOINT")
+        return RollbackTo(self.identifier())
+
+    def savepoint(self):
+        return Savepoint(self.identifier())
 
     def alter(self):
         if self.one_of("SESSION", "SYSTEM") == "SESSION":
@@ -274,7 +287,7 @@ def read(text, have=NONE):
         "EXECUTE": reader.execute,
         "EXEC": reader.execute,
     }
-    later = {"SET": ("readonly", reader.set_read_only)}
+    later = {"SET": ("readonly", reader.set_read_only), "SAVEPOINT": ("savepoint", reader.savepoint)}
     forms |= {word: form for word, (feature, form) in later.items() if feature in have}
     form = forms.get(reader.take("word"))
     if form is None:

@@ -85,6 +85,18 @@ class SetReadOnly:
 
 
 @dataclass
+class Savepoint:
+    name: str
+
+
+@dataclass
+class RollbackTo:
+    """ROLLBACK TO a savepoint."""
+
+    name: str
+
+
+@dataclass
 class Commit:
     comment: bytes
 

@@ -1,7 +1,7 @@
 """A run of a script: its nodes, their network, and the lines that answer each command."""
 
 from asked import of_gone, on_ask_of_live, prepared_again, recover, told
-from across import on_exec, on_open, on_opened, on_reply
+from across import on_back, on_exec, on_open, on_opened, on_reply
 from client import call, carry_out, give_up
 from disk import Crash, Struck
 from features import NONE
@@ -27,6 +27,7 @@ MOST_DELIVERIES = 4096
 OF_LIVE = {
     "Opened": on_opened,
     "Exec": on_exec,
+    "Back": on_back,
     "Reply": on_reply,
     "Prepare": on_prepare,
     "Prepared": on_vote,
