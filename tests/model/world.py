@@ -20,6 +20,7 @@ from phases import (
     on_rolled_back,
     on_vote,
 )
+from settle import blocked_lines, branches_up, is_due
 from tables import Refused
 from turns import Turn
 
@@ -79,9 +80,11 @@ class World:
         self.points = {}  # for the root of a transaction, the number of the place at which its first node stops
         self.reached = {}  # the same of those whose place was reached
         self.holds = False
-        # of the command that runs: its number, its deliveries, the answers of calls that ended, the nodes that were struck
+        # of the command that runs: its number, its deliveries and whether they ended at the limit, the answers of calls that
+        # ended, the nodes that were struck
         self.number = 0
         self.deliveries = 0
+        self.is_over = False
         self.answers = {}
         self.stopped = []
 
@@ -175,21 +178,27 @@ class World:
     def run(self, command, text):
         """The lines of a command."""
         self.number += 1
-        self.deliveries, self.answers, self.stopped = 0, {}, []
+        self.deliveries, self.is_over, self.answers, self.stopped = 0, False, {}, []
         try:
             own = self.carried_out(command, text)
         except Refused as refused:
             own = [str(refused).encode()]
-        if not self.holds:
-            self.deliver_all()
+        if command != ["SETTLE"]:
+            self.end_by_delivering()
         if own is None:
             own = self.answers.pop(self.number, [b"waiting"])
         lines = [(self.number, line) for line in own]
         lines += [(number, line) for number, answer in sorted(self.answers.items()) for line in answer]
         lines += [(self.number, line) for line in self.stopped]
-        if self.deliveries == MOST_DELIVERIES and self.network.in_flight:
+        if self.is_over:
             lines.append((self.number, b"DTX-05: deliveries ended at 4096"))
         return lines
+
+    def end_by_delivering(self):
+        if not self.holds:
+            self.deliver_all()
+        if self.deliveries == MOST_DELIVERIES and self.network.in_flight:
+            self.is_over = True
 
     def carried_out(self, command, text):
         """The own answer of a command, None where that is what its call comes to."""
@@ -198,6 +207,8 @@ class World:
             return self.call(rest[0], rest[1], text)
         if word == "SHOW":
             return self.shown(*rest)
+        if word == "SETTLE":
+            return self.settled()
         getattr(self, "do_" + word)(*rest)
         return [b"ok"]
 
@@ -214,12 +225,37 @@ class World:
             return [line.encode() for line in self.book] or [b"no entries"]
         if what == "NET":
             return self.network.lines(self.names) or [b"no messages in flight"]
+        if what == "BLOCKED":
+            return blocked_lines(self.nodes, self.network)
         if what == "DISK":
             return disk_lines(self.node(place, must_be_up=False).disk.bytes)
         memory = self.node(place).memory
         if what == "UNDO":
             return undo_lines(memory.undo)
         return (pending if what == "PENDING" else neighbors)(memory, self.names)
+
+    # ---- rounds of RECO
+
+    def settled(self):
+        """Rounds until no branch is due, as many at most as there are branches. Without one it delivers as others do."""
+        if self.holds:
+            return [b"DTX-20: hold is on"]
+        most, rounds = branches_up(self.nodes), 0
+        while is_due(self.nodes) and rounds < most:
+            self.round()
+            rounds += 1
+        is_settled = not is_due(self.nodes)
+        if rounds == 0:
+            self.deliver_all()
+        return [(b"settled, rounds %d" if is_settled else b"DTX-19: not settled after %d rounds") % rounds]
+
+    def round(self):
+        """A RECO at each node, with deliveries of its own."""
+        for node in self.nodes:
+            if node.is_up and node.memory.recovers:
+                self.deliveries = 0
+                self.turn(node, recover)
+                self.end_by_delivering()
 
     # ---- commands that answer ok where they may be carried out
 
