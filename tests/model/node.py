@@ -2,7 +2,7 @@
 
 from __future__ import annotations
 
-from dataclasses import dataclass, field
+from dataclasses import dataclass, field, replace
 
 import records
 from branches import (
@@ -15,12 +15,14 @@ from branches import (
     Kept,
     Live,
 )
-from disk import Disk
+from image import image_of
+from logs import Logs
 from statements import Create
 from tables import Change, Refused, put
 from versions import Versions
 
 FIRST_REMOTE_SESSION = 65
+MOST_BODY = 16_777_216
 
 
 @dataclass
@@ -143,9 +145,13 @@ class Memory:
 
     def apply_Sealed(self, record):
         self.keep(record)
-        for change in record.changes:
-            self.lock(record.id, change.table, [change.key], True)
-        self.undo[record.id] = self.undo_of({}, record.changes)
+        self.hold(record)
+
+    def hold(self, branch):
+        """The locks and the undo of a branch in doubt."""
+        for change in branch.changes:
+            self.lock(branch.id, change.table, [change.key], True)
+        self.undo[branch.id] = self.undo_of({}, branch.changes)
 
     def apply_Decided(self, record):
         decision = Decision(True, record.scn)
@@ -192,6 +198,16 @@ class Memory:
     def apply_Hidden(self, record):
         self.kept[record.id].is_hidden = True
 
+    def apply_Image(self, image):
+        """At a start the Image stands in place of the records before it."""
+        self.boot, self.clock, self.recovers, self.strength = image.boot, image.clock, image.recovers, image.strength
+        self.links, self.synonyms = dict(image.links), dict(image.synonyms)
+        self.tables = {table.name: table.copy() for table in image.tables}
+        self.versions = Versions(rows={table.name: dict(table.rows) for table in image.tables}, top=image.top)
+        self.kept = {kept.id: replace(kept, acked=set()) for kept in image.kept}
+        for kept in filter(Kept.is_in_doubt, image.kept):
+            self.hold(kept)
+
     # ---- undo
 
     def undo_of(self, views, changes):
@@ -205,17 +221,17 @@ class Memory:
 
 
 class Node:
-    """A node: its place, its disk, the records that stand there, and what it knows while it is up."""
+    """A node: its place, its two logs, the records that ever came to stand there, and what it knows while it is up."""
 
-    def __init__(self, name, number, strength, links, undo, have):
+    def __init__(self, name, number, strength, links, undo, form, have):
         self.name = name
         self.number = number
         self.strength = strength
         self.links = links
         self.undo = undo
+        self.form = form  # of the records that it writes
         self.have = have
-        self.disk = Disk()
-        self.disk.bytes = b"\0"
+        self.logs = Logs()
         self.records = []
         self.memory = Memory()
         self.append(records.Boot(1))
@@ -226,26 +242,42 @@ class Node:
             raise Refused(f"DTX-01: node {self.name} is stopped")
 
     def append(self, record):
-        """Appends a record. It stands, and takes effect, where it can be read, also where an order struck."""
-        before = self.disk.count()
+        """Appends a record. It takes effect where it stands, also where an order struck."""
+        log = self.logs.active
+        before = len(log.records)
         try:
-            self.disk.append(record.bytes())
+            log.append(record, record.bytes(self.form))
         finally:
-            if self.disk.count() > before:
+            if len(log.records) > before:
                 self.records.append(record)
                 self.memory.apply(record)
 
+    def checkpoint(self):
+        """Writes an Image to the spare log, which is the active one from then on."""
+        image = image_of(self.memory, self.logs.active.generation() + 1)
+        body = image.bytes(self.newest_form())
+        if len(body) > MOST_BODY:
+            raise Refused("DTX-17: image too large")
+        spare = self.logs.spare
+        spare.renew()
+        spare.append(image, body)
+        self.form = self.newest_form()
+
+    def newest_form(self):
+        return records.NEW if "format" in self.have else records.OLD
+
     def halt(self):
-        """A stop leaves the disk alone."""
+        """A stop leaves the disks alone."""
         self.is_up = False
         self.memory = None
 
     def start(self):
         self.is_up = True
         self.memory = Memory()
-        self.disk.load()
-        for record in self.records:
+        self.logs.load()
+        for record in self.logs.active.records:
             self.memory.apply(record)
+        self.form = self.newest_form()
         self.append(records.Boot(self.memory.boot + 1))
 
     # ---- branches

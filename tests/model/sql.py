@@ -215,7 +215,7 @@ class Reader(Tokens):
 
     def scn(self):
         scn = self.take("number")
-        if scn >= 2**48:
+        if scn >= (2**64 if "format" in self.have else 2**48):
             raise Outside
         return scn
 

@@ -20,6 +20,7 @@ from phases import (
     on_rolled_back,
     on_vote,
 )
+from records import OLD
 from settle import blocked_lines, branches_up, is_due
 from tables import Refused
 from turns import Turn
@@ -228,7 +229,7 @@ class World:
         if what == "BLOCKED":
             return blocked_lines(self.nodes, self.network)
         if what == "DISK":
-            return disk_lines(self.node(place, must_be_up=False).disk.bytes)
+            return disk_lines(self.node(place, must_be_up=False).logs.active.disk.bytes)
         memory = self.node(place).memory
         if what == "UNDO":
             return undo_lines(memory.undo)
@@ -259,8 +260,8 @@ class World:
 
     # ---- commands that answer ok where they may be carried out
 
-    def do_NODE(self, name, strength, links, undo):
-        self.nodes.append(Node(name, len(self.nodes) + 1, strength, links, undo, self.have))
+    def do_NODE(self, name, strength, links, undo, form=OLD):
+        self.nodes.append(Node(name, len(self.nodes) + 1, strength, links, undo, form, self.have))
         self.names.append(name)
 
     def do_CUT(self, one, other):
@@ -289,12 +290,26 @@ class World:
             node.must_be_up()
         self.network.start(place)
 
-    def do_CRASH(self, place, _word, write, how, left):
-        disk = self.node(place, must_be_up=False).disk
-        disk.crash = Crash(write, left, b"") if how == "KEEP" else Crash(write, None, left)
+    def do_CHECKPOINT(self, place):
+        node = self.node(place)
+        try:
+            node.checkpoint()
+        except Struck:
+            self.struck(node)
+            node.must_be_up()
 
-    def do_FAULT(self, place, call):
-        self.node(place, must_be_up=False).disk.fault = call
+    def do_CRASH(self, place, *order):
+        """SPARE may stand first."""
+        *_, write, how, left = order
+        self.disk(place, order).crash = Crash(write, left, b"") if how == "KEEP" else Crash(write, None, left)
+
+    def do_FAULT(self, place, *order):
+        self.disk(place, order).fault = order[-1]
+
+    def disk(self, place, order):
+        """The disk that an order is for: the one that is active now, or the other."""
+        logs = self.node(place, must_be_up=False).logs
+        return (logs.spare if order[0] == "SPARE" else logs.active).disk
 
     def do_HOLD(self, switch):
         self.holds = switch == "ON"
