@@ -4,7 +4,7 @@ FEATURES = frozenset("strength readonly savepoint settle checkpoint format".spli
 NONE = frozenset()
 
 
-class Unknown(Exception):
+class Unknown(ValueError):
     """No feature has this name."""
 
 
