@@ -288,10 +288,10 @@ def shown(part):
     return str(list(part)) if isinstance(part, bytes) else str(part)
 
 
-def printed(script):
+def printed(script, have=NONE):
     """The exit status of print_script, and what it prints."""
     try:
-        lines = [" ".join(map(shown, command)) for command in read(script)]
+        lines = [" ".join(map(shown, command)) for command in read(script, have)]
         return 0, "".join(line + "\n" for line in lines).encode()
     except Bad as bad:
         return 1, b"line %d: %s\n" % (bad.args[0], bad.args[1].encode())

@@ -1,7 +1,7 @@
 #!/usr/bin/env python3
 """Compares the proved program with a second one, written from the rules alone, on random scripts of many nodes.
 
-    tests/model/compare_nodes.py [COUNT [SEED [PROGRAM]]]
+    tests/model/compare_nodes.py [--have F,F..] [COUNT [SEED [PROGRAM]]]
 
 COUNT scripts (300 where it is left out) are made from SEED on, and PROGRAM is the proved program where it is left out,
 of ./prove or release/. A script on which the two differ is written to differs_SEED.dtx, and the first line that differs is
@@ -9,7 +9,9 @@ printed. The last line is `N scripts, M differ`; the exit status is 1 where one 
 
 The second program is script.py and what it imports; random_nodes.py makes the scripts. They have two to six nodes with
 links, synonyms and sessions, and most of their transactions reach over several links. Messages are held, lost and repeated,
-pairs cut, nodes stopped in the middle of disk writes and by comments, branches in doubt are forced, and all is shown.
+pairs cut, nodes stopped in the middle of disk writes and by comments, branches in doubt are forced, and all is shown. With
+--have they have later forms too (random_later.py), those that PROGRAM has: strength, readonly, savepoint, settle, checkpoint,
+format, or all of them by `all`.
 """
 
 import itertools
@@ -17,8 +19,9 @@ import pathlib
 import subprocess
 import sys
 
+from features import asked
 from proved_program import proved_program
-from random_nodes import Writer
+from random_later import writer
 
 
 def first_difference(due, printed):
@@ -27,13 +30,18 @@ def first_difference(due, printed):
     return next((pair for pair in pairs if pair[0] != pair[1]), None)
 
 
-def main(count="300", seed="0", program=None):
+def main(*words):
+    have, words = asked(words)
+    return compare(have, *words)
+
+
+def compare(have, count="300", seed="0", program=None):
     program, differing = program or proved_program(), 0
     for number in range(int(seed), int(seed) + int(count)):
-        writer = Writer(number)
-        script = writer.script()
+        written = writer(number, have)
+        script = written.script()
         ran = subprocess.run([program], input=script, capture_output=True, timeout=60)
-        difference = first_difference(writer.printed(), ran.stdout)
+        difference = first_difference(written.printed(), ran.stdout)
         if ran.returncode != 0 or difference:
             differing += 1
             pathlib.Path(f"differs_{number}.dtx").write_bytes(script)

@@ -8,16 +8,14 @@ With --have it has later forms too: strength, readonly, savepoint, settle, check
 
 import sys
 
-from features import NONE, features
+from features import asked
 from script import play
 
 USAGE = b"usage: dtx [--book] [--make N]\n"
 
 
 def main(*words):
-    have = NONE
-    if words[:1] == ("--have",):
-        have, words = features(words[1]), words[2:]
+    have, words = asked(words)
     if words not in ((), ("--book",)):
         sys.stdout.buffer.write(USAGE)
         return 2

@@ -4,15 +4,18 @@ FEATURES = frozenset("strength readonly savepoint settle checkpoint format".spli
 NONE = frozenset()
 
 
-class Unknown(ValueError):
-    """No feature has this name."""
-
-
 def features(text):
     """The features of a list of names with commas; `all` names all of them, and `undo` one that every run has."""
     names = set(text.split(",")) - {"", "undo"}
     if "all" in names:
         return FEATURES
     if not names <= FEATURES:
-        raise Unknown(text)
+        raise ValueError(f"there is no feature {', '.join(names - FEATURES)}")
     return frozenset(names)
+
+
+def asked(words):
+    """The features that `--have F,F..` names, where it stands first, and the words behind it."""
+    if words[:1] == ("--have",):
+        return features(words[1]), words[2:]
+    return NONE, words
