@@ -88,7 +88,8 @@ class LaterForms:
             if self.chance(self.disturbed / 2):
                 yield self.disturbance()
         if self.chance(0.8):
-            yield at + self.pick([self.commit, lambda: "ROLLBACK", lambda: f"CREATE TABLE U{self.session()} (K NUMBER PRIMARY KEY)"])()
+            made = f"CREATE TABLE U{self.session()} (K NUMBER PRIMARY KEY)"
+            yield at + self.pick([self.commit(), "ROLLBACK", made])
 
     def written(self):
         """Commits of another session, at times so many that the rows of before are no longer kept, or a checkpoint."""

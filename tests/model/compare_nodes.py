@@ -9,9 +9,10 @@ printed. The last line is `N scripts, M differ`; the exit status is 1 where one 
 
 The second program is script.py and what it imports; random_nodes.py makes the scripts. They have two to six nodes with
 links, synonyms and sessions, and most of their transactions reach over several links. Messages are held, lost and repeated,
-pairs cut, nodes stopped in the middle of disk writes and by comments, branches in doubt are forced, and all is shown. With
---have they have later forms too (random_later.py), those that PROGRAM has: strength, readonly, savepoint, settle, checkpoint,
-format, or all of them by `all`.
+pairs cut, nodes stopped in the middle of disk writes and by comments, branches in doubt are forced, and all is shown.
+
+With --have they have later forms too (random_later.py), those that PROGRAM has: strength, readonly, savepoint, settle,
+checkpoint, format, or all of them by `all`.
 """
 
 import itertools

@@ -1,4 +1,4 @@
-"""The later forms of scripts and statements. Each is behind a switch: the second program runs with any of them, or with none."""
+"""The later forms of scripts and statements, each behind a switch: the second program runs with any of them, or with none."""
 
 FEATURES = frozenset("strength readonly savepoint settle checkpoint format".split())
 NONE = frozenset()

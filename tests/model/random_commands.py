@@ -19,7 +19,7 @@ FIXED = ["", ";", "\n;", "FROB;", "HOLD;", "SHOW;", "LOSE NEXT;", "CRASH A WRITE
 
 
 LATER_KINDS = {"readonly": "OpenAT", "savepoint": "Back"}
-LATER_FIXED = ["SETTLE A;", "SETTLE SETTLE;", "CHECKPOINT;", "FAULT A SPARE 1;", "CRASH A WRITE 1 SPARE KEEP 2;", "SHOW BLOCKED A;"]
+LATER_FIXED = ["SETTLE A;", "SETTLE SETTLE;", "CHECKPOINT;", "FAULT A SPARE 1;", "CRASH A WRITE 1 SPARE KEEP 2;"]
 
 
 class Writer:

@@ -29,8 +29,8 @@ class Writer(OfNodes):
 
     def alter(self):
         if self.has("strength", 0.5):
-            number = self.pick([0, 1, 5, 100, 200, 255, "007", 256])
-            return self.pick(["ALTER SYSTEM SET COMMIT_POINT_STRENGTH = {}", "alter system set commit_point_strength={}"]).format(number)
+            form = self.pick(["ALTER SYSTEM SET COMMIT_POINT_STRENGTH = {}", "alter system set commit_point_strength={}"])
+            return form.format(self.pick([0, 1, 5, 100, 200, 255, "007", 256]))
         return super().alter()
 
     def given_scn(self):
