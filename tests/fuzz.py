@@ -1,7 +1,7 @@
 #!/usr/bin/env python3
 """Runs random scripts in which anything may happen, and tests what holds of every run.
 
-    tests/fuzz.py [--small-pools] [--count N] [--seed S] [--jobs J] [PROGRAM]
+    tests/fuzz.py [--small-pools] [--have F,F..] [--count N] [--seed S] [--jobs J] [PROGRAM]
 
 N scripts (1,000 where it is left out) are made from seed S on, J at a time, and PROGRAM is the proved program where it is left
 out. fuzz_scripts.py makes them: one to five nodes, transactions over links, and among them disk orders,
@@ -23,6 +23,10 @@ With --small-pools each node has one to three extents of undo and many rows are 
 and start more often. Then the second program (model/) runs each script too, and has to print the same: so it is compared which
 statements are refused with ORA-30036, and by how many extents, and what SHOW UNDO prints.
 
+With --have the scripts have later forms too (fuzz_later.py), those that PROGRAM has: strength, readonly, savepoint, settle,
+checkpoint, format, or all of them by `all`. Then too the second program has to print the same. Where disks may begin with an
+Image, or have records of another format, it alone says whether their records and the rows are right.
+
 A script on which something fails is written to fuzz_SEED.dtx, and its line says what. The last line is `N runs, M failed`; the
 exit status is 1 where one failed.
 """
@@ -36,11 +40,13 @@ from collections import defaultdict
 from functools import partial
 
 from disk_records import BOOKED, rows_of
-from fuzz_scripts import DBA, TABLE, SmallPools, Writer
+from fuzz_later import writer
+from fuzz_scripts import DBA, TABLE, SmallPools
 from runs import TOP, Unended, disk_of, proved, records_of, run, script_of, texts_in, undo_of
 
 sys.path.append(str(TOP / "tests/model"))
-from script import play  # of the second program
+from features import features  # of the second program
+from script import play
 
 EXTENT = 4096  # bytes
 ROUNDS = 20  # of recovery: orders of the script may still strike on the way, and a decision may go up and down a deep tree
@@ -210,30 +216,31 @@ def check_pending(plan, ran):
             need(state not in (["prepared"], ["collecting"]), f"after recovery: {row}")
 
 
-def check_alike(plan, ran):
+def check_alike(plan, ran, have):
     """The second program prints the same under each command."""
-    status, report = play(script_of(plan.commands))
+    status, report = play(script_of(plan.commands), have=have)
     due = texts_in(report)
     need(status == ran.status, f"the second program ends with status {status}")
     for number, command in enumerate(plan.commands, 1):
         need(due[number] == ran.texts[number], f"{number} {command}: {ran.texts[number]}, by the second program {due[number]}")
 
 
-def try_seed(program, with_small_pools, seed):
+def try_seed(asked, seed):
     """Runs the script of a seed. The line of its failure, None where there is none."""
-    plan = Plan((SmallPools if with_small_pools else Writer)(seed))
+    plan = Plan(writer(seed, asked.small_pools, asked.have))
     try:
-        ran = run(program, plan.commands)
+        ran = run(asked.program, plan.commands)
         need(ran.status == 0, f"status {ran.status}")
         check_answers(plan, ran)
         lines = ran.texts[plan.book]
         book = Book([] if lines == ["no entries"] else lines)
-        check_disks(plan, ran, book)
         check_pending(plan, ran)
-        check_rows(plan, ran)
         check_undo(plan, ran)
-        if with_small_pools:
-            check_alike(plan, ran)
+        if not asked.have & {"checkpoint", "format"}:
+            check_disks(plan, ran, book)
+            check_rows(plan, ran)
+        if asked.small_pools or asked.have:
+            check_alike(plan, ran, asked.have)
     except (Wrong, Unended) as wrong:
         pathlib.Path(f"fuzz_{seed}.dtx").write_bytes(script_of(plan.commands))
         return f"FAIL {seed}: {wrong}"
@@ -243,6 +250,7 @@ def try_seed(program, with_small_pools, seed):
 def words():
     parser = argparse.ArgumentParser(description=__doc__.splitlines()[0])
     parser.add_argument("--small-pools", action="store_true")
+    parser.add_argument("--have", type=features, default="", metavar="F,F..")
     parser.add_argument("--count", type=int, default=1000)
     parser.add_argument("--seed", type=int, default=0)
     parser.add_argument("--jobs", type=int, default=os.cpu_count())
@@ -256,7 +264,7 @@ def main(asked):
     failed = 0
     seeds = range(asked.seed, asked.seed + asked.count)
     with multiprocessing.Pool(asked.jobs) as pool:
-        for failure in pool.imap_unordered(partial(try_seed, asked.program, asked.small_pools), seeds, chunksize=8):
+        for failure in pool.imap_unordered(partial(try_seed, asked), seeds, chunksize=8):
             if failure:
                 failed += 1
                 print(failure, flush=True)

@@ -18,6 +18,7 @@ class Writer:
     """Writes one script, by its seed."""
 
     forced = 0.3  # of so many transactions the branches in doubt are forced
+    kinds = KINDS  # of messages
 
     def __init__(self, seed):
         self.random = random.Random(seed)
@@ -206,7 +207,7 @@ class Writer:
         if pair and share < 0.6:
             return f"JOIN {pair[0]} {pair[1]}"
         if share < 0.85:
-            return f"LOSE NEXT {self.pick(KINDS)} FROM {self.node()} TO {self.node()}"
+            return f"LOSE NEXT {self.pick(self.kinds)} FROM {self.node()} TO {self.node()}"
         return f"LOSE {self.message()}"
 
     def delivery(self):
@@ -273,7 +274,7 @@ class Writer:
 
     def disturbance(self):
         """What comes between a transaction and its end."""
-        lost = f"LOSE NEXT {self.pick(KINDS[4:])} FROM {self.node()} TO {self.node()}"
+        lost = f"LOSE NEXT {self.pick(self.kinds[4:])} FROM {self.node()} TO {self.node()}"
         lost = self.pick([lost, f"LOSE NEXT COMMITTED FROM {self.node()} TO {self.node()}"])
         return self.pick([self.order, self.order, self.network, lambda: lost, lambda: lost, lambda: f"STOP {self.node()}"])()
 

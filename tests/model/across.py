@@ -2,12 +2,15 @@
 
 from dataclasses import replace
 
-from branches import BranchId, Edge, Wait
+from branches import BranchId, Edge, Wait, WaitBack
 from here import run_here
-from messages import GONE, Exec, Open, Reply
+from messages import GONE, Back, Exec, Open, Reply
+from savepoints import calls_since, note_calls, take_step, undo_after
 from tables import Refused
 
 MOST_BRANCHES, MOST_DEPTH = 64, 8
+MOST_IN_LARGER_TREES = 256  # where the strength is a parameter
+WENT_BACK = [b"Rollback complete."]
 
 
 def begin(turn, live, statement, room):
@@ -50,7 +53,8 @@ def open_edge(turn, live, link, target, statement, room):
         raise Refused("ORA-02020: too many database links in use")
     edge = len(live.edges) + 1
     live.waits = Wait(edge, link, statement, room - 1, is_opening=True)
-    turn.send("Open", live.id, BranchId(target, 0, 0, 0), Open(edge, live.root, live.depth + 1))
+    kind = "Open" if live.read_at is None else "OpenAt"
+    turn.send(kind, live.id, BranchId(target, 0, 0, 0), Open(edge, live.root, live.depth + 1, live.read_at))
 
 
 def pass_on(turn, live, edge, statement, room):
@@ -60,8 +64,31 @@ def pass_on(turn, live, edge, statement, room):
     turn.send("Exec", live.id, edge.child, Exec(edge.call, room, advice, statement))
 
 
+def go_back(turn, live, step):
+    """Takes a branch, and those below it, back to where they were after a step of it."""
+    left = calls_since(live, step)
+    undo_after(turn.memory, live, step)
+    take_step(live, live.taken)
+    go_on_back(turn, live, left)
+
+
+def go_on_back(turn, live, left):
+    """Asks the next of the children that have to go back too, and answers once all did."""
+    if not left:
+        finish(turn, live, WENT_BACK)
+        return
+    (place, keep), *rest = left
+    edge = live.edges[place - 1]
+    edge.call += 1
+    live.waits = WaitBack(place, rest)
+    if live.parent is None:
+        turn.node.session(live.id.session).call.link = edge.link
+    turn.send("Back", live.id, edge.child, Back(edge.call, keep))
+
+
 def finish(turn, live, result):
-    """Answers the statement that a branch took: at a root to the client, else to the parent."""
+    """Answers the call that a branch took: at a root to the client, else to the parent."""
+    note_calls(live)
     if live.parent is not None:
         live.reply = Reply(live.taken, live.weight(), live.count(), result)
         turn.send("Reply", live.id, live.parent, live.reply)
@@ -73,8 +100,9 @@ def finish(turn, live, result):
     turn.end(session, result)
 
 
-def room_at_root(live):
-    return max(0, MOST_BRANCHES - live.count())
+def room_at_root(node, live):
+    most = MOST_IN_LARGER_TREES if "strength" in node.have else MOST_BRANCHES
+    return max(0, most - live.count())
 
 
 def on_open(turn, message):
@@ -82,7 +110,7 @@ def on_open(turn, message):
     parent, asked = message.sender, message.body
     opened = turn.memory.opened
     if (parent, asked.edge) not in opened:
-        opened[parent, asked.edge] = turn.node.open(asked.root, parent, asked.depth)
+        opened[parent, asked.edge] = turn.node.open(parent, asked)
     turn.send("Opened", opened[parent, asked.edge], parent, asked.edge)
 
 
@@ -97,11 +125,25 @@ def on_opened(turn, live, message):
 
 def on_exec(turn, live, message):
     asked = message.body
-    if asked.call == live.taken and live.reply is not None:
-        turn.send("Reply", live.id, live.parent, live.reply)
-    if asked.call > live.taken:
-        live.taken, live.reply, live.advice = asked.call, None, asked.advice
+    if is_new(turn, live, asked.call):
+        live.advice = asked.advice
         begin(turn, live, asked.statement, asked.room)
+
+
+def on_back(turn, live, message):
+    if is_new(turn, live, message.body.call):
+        go_back(turn, live, message.body.keep)
+
+
+def is_new(turn, live, call):
+    """Takes a call of the parent where it is new, and answers a repeat of the last one in the same way."""
+    if call == live.taken and live.reply is not None:
+        turn.send("Reply", live.id, live.parent, live.reply)
+    if call <= live.taken:
+        return False
+    live.reply = None
+    take_step(live, call)
+    return True
 
 
 def on_reply(turn, live, message):
@@ -113,4 +155,7 @@ def on_reply(turn, live, message):
         return
     live.waits = None
     edge.weight, edge.count = answer.weight, answer.count
-    finish(turn, live, answer.result)
+    if isinstance(waits, WaitBack) and answer.result != GONE:
+        go_on_back(turn, live, waits.left)
+    else:
+        finish(turn, live, answer.result)

@@ -31,7 +31,7 @@ def prepared_again(turn, kept, message):
 
 def of_gone(turn, message):
     """The answer of a branch that is gone."""
-    if message.kind == "Exec":
+    if message.kind in ("Exec", "Back"):
         turn.send("Reply", message.receiver, message.sender, Reply(message.body.call, None, 1, GONE))
         return
     answers = {

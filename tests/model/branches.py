@@ -50,7 +50,7 @@ class Edge:
     link: str
     weight: int | None = None
     count: int = 1  # of the branches from the child down
-    call: int = 0  # the number of the last statement that was sent
+    call: int = 0  # the number of the last statement, or Back, that was sent
     vote: str = UNASKED
 
 
@@ -66,12 +66,32 @@ class Wait:
 
 
 @dataclass
+class WaitBack:
+    """A branch that goes back waits for the child of an edge, before it asks the next: pairs of an edge and a call."""
+
+    edge: int
+    left: list[tuple[int, int]]
+    is_opening = False
+
+
+@dataclass
+class Note:
+    """What a branch did in a step, and the last call on each edge at the end of that."""
+
+    step: int
+    changes: list[Change] = field(default_factory=list)
+    keys: set[tuple] = field(default_factory=set)  # that it wrote: pairs of a table and a key
+    calls: list[int] = field(default_factory=list)
+
+
+@dataclass
 class Live:
     id: BranchId
     root: BranchId
     parent: BranchId | None
     depth: int
     strength: int
+    read_at: int | None = None  # the SCN whose rows a READ ONLY transaction sees
     advice: int = 0
     comment: bytes = b""
     changes: list[Change] = field(default_factory=list)
@@ -79,9 +99,12 @@ class Live:
     edges: list[Edge] = field(default_factory=list)
     phase: str = WORKING
     is_on_path: bool = False  # the walk to the commit point site comes to it
-    taken: int = 0  # the number of the last statement that it took
+    # the number of the last call that it took, which is its step: of a client at the root, else a statement or Back
+    taken: int = 0
     reply: tuple | None = None  # and the answer
-    waits: Wait | None = None
+    waits: Wait | WaitBack | None = None
+    notes: list[Note] = field(default_factory=list)  # in order of steps
+    savepoints: dict[str, int] = field(default_factory=dict)  # the step of each
 
     def weight(self):
         if self.changes:

@@ -3,6 +3,8 @@
 import re
 from dataclasses import dataclass
 
+from features import NONE
+
 BLANKS = b" \t\r\n"
 LIMIT = 2**32 - 1
 KIND_NAMES = (
@@ -10,6 +12,7 @@ KIND_NAMES = (
     " Forgotten Rollback Ask"
 ).split()
 KINDS = {name.upper(): name for name in KIND_NAMES}
+LATER_KINDS = {"readonly": "OpenAt", "savepoint": "Back"}
 RESERVED = frozenset(
     "SELECT FROM WHERE AND INTO VALUES SET FOR IS NOT NULL INSERT UPDATE DELETE CREATE TABLE SYNONYM ALTER".split()
 )
@@ -46,11 +49,22 @@ FORMS = (
     "SHOW DISK node",
     "SHOW UNDO node",
 )
+LATER_FORMS = {
+    "settle": ("SETTLE", "SHOW BLOCKED"),
+    "checkpoint": (
+        "CHECKPOINT node",
+        "CRASH node SPARE WRITE count KEEP num",
+        "CRASH node SPARE WRITE count LEAVE hex",
+        "FAULT node SPARE CALL count",
+    ),
+}
 HEAD = "AT node SESSION session"
 RANGES = {"num": (0, LIMIT), "count": (1, LIMIT), "session": (1, 64)}
 # words that are kept behind the first argument: they tell orders apart
-KEPT = ("WRITE", "KEEP", "LEAVE")
-OPTIONS = {"STRENGTH": (0, 255), "LINKS": (1, 64), "UNDO": (1, 1024)}
+KEPT = ("SPARE", "WRITE", "KEEP", "LEAVE")
+# the range of each option of NODE, and what is usual
+OPTIONS = {"STRENGTH": (0, 255, 1), "LINKS": (1, 64, 4), "UNDO": (1, 1024, 64)}
+LATER_OPTIONS = {"format": {"FORMAT": (1, 2, 2)}}
 
 
 class Bad(Exception):
@@ -146,7 +160,21 @@ def hex_bytes(token):
     return bytes.fromhex(token[0])
 
 
-def of_form(form, found):
+def kinds(have):
+    """The kinds of messages, by their names in capitals."""
+    return KINDS | {kind.upper(): kind for feature, kind in LATER_KINDS.items() if feature in have}
+
+
+def forms(have):
+    return FORMS + sum((LATER_FORMS[feature] for feature in sorted(LATER_FORMS.keys() & have)), ())
+
+
+def options(have):
+    """The options of NODE."""
+    return OPTIONS | {word: of for feature in LATER_OPTIONS.keys() & have for word, of in LATER_OPTIONS[feature].items()}
+
+
+def of_form(form, found, have=NONE):
     """The arguments of tokens of a form: a node as a name in a list of its own."""
     need(len(form) == len(found))
     arguments = []
@@ -154,8 +182,8 @@ def of_form(form, found):
         if part in RANGES:
             arguments.append(ranged(token, *RANGES[part]))
         elif part == "kind":
-            need(token in KINDS)
-            arguments.append(KINDS[token])
+            need(token in kinds(have))
+            arguments.append(kinds(have)[token])
         elif part in ("node", "other"):
             need(part == "node" or [name(token)] != arguments[-1])
             arguments.append([name(token)])
@@ -167,15 +195,14 @@ def of_form(form, found):
     return arguments
 
 
-def node(found):
+def node(found, allowed):
     """The name and the options of NODE, with what is usual of those that are left out."""
     need(len(found) >= 2 and len(found) % 2 == 0)
     made = name(found[1])
-    options = dict(zip(found[2::2], found[3::2]))
-    need(len(options) == len(found) // 2 - 1 and options.keys() <= OPTIONS.keys())
-    for word, number in options.items():
-        ranged(number, *OPTIONS[word])
-    return ["NODE", made, options.get("STRENGTH", 1), options.get("LINKS", 4), options.get("UNDO", 64)]
+    given = dict(zip(found[2::2], found[3::2]))
+    need(len(given) == len(found) // 2 - 1 and given.keys() <= allowed.keys())
+    values = [ranged(given.get(word, usual), least, most) for word, (least, most, usual) in allowed.items()]
+    return ["NODE", made, *values]
 
 
 def is_statement(text):
@@ -192,7 +219,7 @@ def is_statement(text):
     return not rest or (len(rest) == 2 and rest[0] == "COMMENT" and isinstance(rest[1], tuple))
 
 
-def command(text):
+def command(text, have=NONE):
     """A command as a list: its words, and its arguments."""
     head, colon, behind = text.partition(b":")
     if colon:
@@ -200,10 +227,10 @@ def command(text):
         return ["AT", *of_form(HEAD.split(), tokens(head)), said]
     found = tokens(text)
     if found[:1] == ["NODE"]:
-        return node(found)
-    for form in FORMS:
+        return node(found, options(have))
+    for form in forms(have):
         try:
-            return [*first_words(form), *of_form(form.split(), found)]
+            return [*first_words(form), *of_form(form.split(), found, have)]
         except NoForm:
             pass
     raise NoForm(text)
@@ -224,7 +251,7 @@ def begins_with_node(text):
     return re.match(rb"[ \t\r\n]*NODE(?![A-Za-z0-9_$#.])", text, re.IGNORECASE) is not None
 
 
-def read(script):
+def read(script, have=NONE):
     """The commands of a script, each node by its number from 1 on."""
     found, nodes, only_nodes = [], [], True
     for piece in pieces(script):
@@ -239,7 +266,7 @@ def read(script):
             why = "node after other commands"
         else:
             try:
-                asked = command(piece.said)
+                asked = command(piece.said, have)
             except NoForm:
                 why = "bad command"
         if why is None and asked[0] == "NODE":
@@ -261,10 +288,10 @@ def shown(part):
     return str(list(part)) if isinstance(part, bytes) else str(part)
 
 
-def printed(script):
+def printed(script, have=NONE):
     """The exit status of print_script, and what it prints."""
     try:
-        lines = [" ".join(map(shown, command)) for command in read(script)]
+        lines = [" ".join(map(shown, command)) for command in read(script, have)]
         return 0, "".join(line + "\n" for line in lines).encode()
     except Bad as bad:
         return 1, b"line %d: %s\n" % (bad.args[0], bad.args[1].encode())

@@ -1,7 +1,7 @@
 #!/usr/bin/env python3
 """Compares the proved program with a second one, written from the rules alone, on random scripts of many nodes.
 
-    tests/model/compare_nodes.py [--small-pools] [COUNT [SEED [PROGRAM]]]
+    tests/model/compare_nodes.py [--small-pools | --have F,F..] [COUNT [SEED [PROGRAM]]]
 
 COUNT scripts (300 where it is left out) are made from SEED on, and PROGRAM is the proved program where it is left out,
 of ./prove or release/. A script on which the two differ is written to differs_SEED.dtx, and the first line that differs is
@@ -13,15 +13,20 @@ pairs cut, nodes stopped in the middle of disk writes and by comments, branches 
 
 With --small-pools random_pools.py makes them: nodes have one to three extents of undo, many branches are in doubt, forced or
 over a stop and a start, and SHOW UNDO is compared with them, and where ORA-30036 comes and for how many extents.
+
+With --have they have later forms too (random_later.py), those that PROGRAM has: strength, readonly, savepoint, settle,
+checkpoint, format, or all of them by `all`.
 """
 
+import functools
 import itertools
 import pathlib
 import subprocess
 import sys
 
+from features import asked
 from proved_program import proved_program
-from random_nodes import Writer
+from random_later import writer
 from random_pools import PoolWriter
 
 
@@ -31,13 +36,20 @@ def first_difference(due, printed):
     return next((pair for pair in pairs if pair[0] != pair[1]), None)
 
 
-def main(kind, count="300", seed="0", program=None):
+def main(*words):
+    if words[:1] == ("--small-pools",):
+        return compare(PoolWriter, *words[1:])
+    have, words = asked(words)
+    return compare(functools.partial(writer, have=have), *words)
+
+
+def compare(kind, count="300", seed="0", program=None):
     program, differing = program or proved_program(), 0
     for number in range(int(seed), int(seed) + int(count)):
-        writer = kind(number)
-        script = writer.script()
+        written = kind(number)
+        script = written.script()
         ran = subprocess.run([program], input=script, capture_output=True, timeout=60)
-        difference = first_difference(writer.printed(), ran.stdout)
+        difference = first_difference(written.printed(), ran.stdout)
         if ran.returncode != 0 or difference:
             differing += 1
             pathlib.Path(f"differs_{number}.dtx").write_bytes(script)
@@ -47,5 +59,4 @@ def main(kind, count="300", seed="0", program=None):
 
 
 if __name__ == "__main__":
-    words = sys.argv[1:]
-    sys.exit(main(PoolWriter, *words[1:]) if words[:1] == ["--small-pools"] else main(Writer, *words))
+    sys.exit(main(*sys.argv[1:]))

@@ -83,6 +83,12 @@ class Disk:
         self.write(gate, b"\1")
         self.call()
 
+    def renew(self):
+        """Leaves no record, by shutting the first gate where that is open."""
+        if self.count():
+            self.write(0, b"\0")
+            self.call()
+
     def load(self):
         """The calls of a start: a sync, the length, and a read of the whole."""
         for _ in range(3):

@@ -2,7 +2,7 @@
 
 from branches import FORCED_COMMIT, FORCED_ROLLBACK, COMMITTED, WORKING, Decision
 from phases import end_commit, in_doubt
-from records import Forced, Hidden, global_text
+from records import OLD, Forced, Hidden, global_text
 from tables import Refused, counted
 
 ADVICE = ["", "C", "R"]
@@ -13,6 +13,8 @@ NEIGHBORS_HEAD = b"LOCAL_TRAN_ID|IN_OUT|DATABASE|DBUSER_OWNER|INTERFACE"
 def force(turn, session, asked):
     """The lines of a forced outcome. The COMMIT of a root that is forced ends in doubt."""
     kept = in_doubt_branch(turn, asked.id)
+    if turn.node.form == OLD and (asked.scn or 0) >= 2**48:
+        raise Refused("DTX-18: SCN too large for old redo records")
     decision = Decision(asked.is_commit, 0)
     if asked.is_commit:
         decision = Decision(True, turn.memory.clock + 1 if asked.scn is None else asked.scn)

@@ -1,5 +1,6 @@
 """A statement at the node of its table: its refusals, its changes and its locks."""
 
+from savepoints import length, note_run
 from statements import Condition, Insert, Select, Update
 from tables import Change, Refused, answered, check_columns, check_types, counted, inserted, put, updated
 
@@ -12,7 +13,9 @@ def extents(undo):
 
 
 def view(memory, live, table):
-    """The committed rows of a table with a branch's own changes."""
+    """The committed rows of a table with a branch's own changes, or those at the SCN of a READ ONLY transaction."""
+    if live.read_at is not None:
+        return memory.versions.rows_at(table.name, live.read_at)
     rows = dict(table.rows)
     for change in live.changes:
         if change.table == table.name:
@@ -59,6 +62,8 @@ def run_here(node, live, statement):
     table = memory.tables[statement.table]
     check_columns(table, statement)
     check_types(table, statement)
+    if live.read_at is not None and live.read_at < memory.versions.floor():
+        raise Refused("ORA-01555: snapshot too old")
     rows = view(memory, live, table)
     if isinstance(statement, Insert):
         return insert(node, live, table, rows, inserted(table, statement))
@@ -71,6 +76,7 @@ def run_here(node, live, statement):
         lines = answered(table, statement, [row for _, row in found])
         if statement.for_update:
             memory.lock(live.id, table.name, keys, False)
+            note_run(live, [], table.name, keys)
         return lines
     check_free(memory, live, table, keys)
     if isinstance(statement, Update):
@@ -90,8 +96,7 @@ def insert(node, live, table, rows, made):
 def change(node, live, table, rows, changes, done):
     """Takes in the changes where they and their undo fit."""
     memory = node.memory
-    length = live.length + sum(len(change.bytes()) for change in changes)
-    if length > MOST_CHANGED:
+    if live.length + length(changes) > MOST_CHANGED:
         raise Refused("DTX-16: changes of one branch too large")
     held = memory.undo.get(live.id, b"")
     undo = held + memory.undo_of({table.name: rows}, changes)
@@ -99,7 +104,7 @@ def change(node, live, table, rows, changes, done):
     if needed > node.undo - sum(map(extents, memory.undo.values())):
         raise Refused(f"ORA-30036: unable to extend segment by {needed} in undo tablespace 'UNDOTBS1'")
     memory.undo[live.id] = undo
-    live.changes += changes
-    live.length = length
-    memory.lock(live.id, table.name, [change.key for change in changes], True)
+    keys = [change.key for change in changes]
+    note_run(live, changes, table.name, keys)
+    memory.lock(live.id, table.name, keys, True)
     return counted(len(changes), done)

@@ -15,6 +15,7 @@ class Open(NamedTuple):
     edge: int
     root: BranchId
     depth: int
+    read_at: int | None = None  # the SCN of a READ ONLY transaction, in OpenAt
 
 
 class Exec(NamedTuple):
@@ -22,6 +23,13 @@ class Exec(NamedTuple):
     room: int
     advice: int
     statement: OnTable
+
+
+class Back(NamedTuple):
+    """Asks a branch to go back to where it was after an earlier call."""
+
+    call: int
+    keep: int
 
 
 class Reply(NamedTuple):
@@ -41,7 +49,7 @@ class Message:
     kind: str
     sender: BranchId
     receiver: BranchId
-    # of Open, Exec, Reply and Prepare what stands above, of Opened the edge, of Committed the SCN
+    # of Open, OpenAt, Exec, Back, Reply and Prepare what stands above, of Opened the edge, of Committed the SCN
     body: object = None
     clock: int = 0
 

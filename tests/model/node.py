@@ -2,7 +2,7 @@
 
 from __future__ import annotations
 
-from dataclasses import dataclass, field
+from dataclasses import dataclass, field, replace
 
 import records
 from branches import (
@@ -15,11 +15,14 @@ from branches import (
     Kept,
     Live,
 )
-from disk import Disk
+from image import image_of
+from logs import Logs
 from statements import Create
 from tables import Change, Refused, put
+from versions import Versions
 
 FIRST_REMOTE_SESSION = 65
+MOST_BODY = 16_777_216
 
 
 @dataclass
@@ -55,6 +58,7 @@ class Memory:
     boot: int = 0
     clock: int = 0
     recovers: bool = True
+    strength: int | None = None  # that was set, and counts in place of the node's own
     tables: dict = field(default_factory=dict)
     links: dict = field(default_factory=dict)
     synonyms: dict = field(default_factory=dict)
@@ -65,6 +69,7 @@ class Memory:
     sessions: dict[int, Session] = field(default_factory=dict)
     opened: dict[tuple, BranchId] = field(default_factory=dict)  # by parent and edge
     next_session: int = FIRST_REMOTE_SESSION
+    versions: Versions = field(default_factory=Versions)
 
     # ---- locks, changes, undo
 
@@ -76,12 +81,18 @@ class Memory:
         """Locks that FOR UPDATE took on keys without a change."""
         self.locks = {key: lock for key, lock in self.locks.items() if lock.holder != branch or lock.is_written}
 
+    def keep_locks(self, branch, keys, changed):
+        """Of a branch that goes back: those of these keys, as FOR UPDATE takes them where they are not changed."""
+        others = {key: lock for key, lock in self.locks.items() if lock.holder != branch}
+        self.locks = others | {key: Lock(branch, key in changed) for key in keys}
+
     def lock(self, branch, table, keys, writes):
         for key in keys:
             lock = self.locks.setdefault((table, key), Lock(branch, writes))
             lock.is_written = lock.is_written or writes
 
-    def commit(self, changes):
+    def commit(self, scn, changes):
+        self.versions.commit(scn, changes)
         for change in changes:
             put(self.tables[change.table].rows, change)
 
@@ -111,6 +122,9 @@ class Memory:
     def apply_RecoverySet(self, record):
         self.recovers = record.is_on
 
+    def apply_StrengthSet(self, record):
+        self.strength = record.strength
+
     def keep(self, record, **more):
         self.lives.pop(record.id, None)
         kept = Kept(
@@ -131,14 +145,18 @@ class Memory:
 
     def apply_Sealed(self, record):
         self.keep(record)
-        for change in record.changes:
-            self.lock(record.id, change.table, [change.key], True)
-        self.undo[record.id] = self.undo_of({}, record.changes)
+        self.hold(record)
+
+    def hold(self, branch):
+        """The locks and the undo of a branch in doubt."""
+        for change in branch.changes:
+            self.lock(branch.id, change.table, [change.key], True)
+        self.undo[branch.id] = self.undo_of({}, branch.changes)
 
     def apply_Decided(self, record):
         decision = Decision(True, record.scn)
         kept = self.keep(record, state=COMMITTED, decision=decision, number=record.scn)
-        self.commit(record.changes)
+        self.commit(record.scn, record.changes)
         self.release(record.id)
         if not kept.neighbours():
             del self.kept[record.id]
@@ -149,7 +167,7 @@ class Memory:
         if not record.decision.is_commit:
             del self.kept[record.id]
             return
-        self.commit(kept.changes)
+        self.commit(record.decision.scn, kept.changes)
         kept.state, kept.decision, kept.number = COMMITTED, record.decision, record.decision.scn
         self.clock = max(self.clock, record.decision.scn)
 
@@ -158,7 +176,7 @@ class Memory:
         self.release(record.id)
         kept.state = FORCED_ROLLBACK
         if record.decision.is_commit:
-            self.commit(kept.changes)
+            self.commit(record.decision.scn, kept.changes)
             kept.state, kept.number = FORCED_COMMIT, record.decision.scn
             if not record.is_given:
                 self.clock = max(self.clock, record.decision.scn)
@@ -180,6 +198,16 @@ class Memory:
     def apply_Hidden(self, record):
         self.kept[record.id].is_hidden = True
 
+    def apply_Image(self, image):
+        """At a start the Image stands in place of the records before it."""
+        self.boot, self.clock, self.recovers, self.strength = image.boot, image.clock, image.recovers, image.strength
+        self.links, self.synonyms = dict(image.links), dict(image.synonyms)
+        self.tables = {table.name: table.copy() for table in image.tables}
+        self.versions = Versions(rows={table.name: dict(table.rows) for table in image.tables}, top=image.top)
+        self.kept = {kept.id: replace(kept, acked=set()) for kept in image.kept}
+        for kept in filter(Kept.is_in_doubt, image.kept):
+            self.hold(kept)
+
     # ---- undo
 
     def undo_of(self, views, changes):
@@ -193,16 +221,17 @@ class Memory:
 
 
 class Node:
-    """A node: its place, its disk, the records that stand there, and what it knows while it is up."""
+    """A node: its place, its two logs, the records that ever came to stand there, and what it knows while it is up."""
 
-    def __init__(self, name, number, strength, links, undo):
+    def __init__(self, name, number, strength, links, undo, form, have):
         self.name = name
         self.number = number
         self.strength = strength
         self.links = links
         self.undo = undo
-        self.disk = Disk()
-        self.disk.bytes = b"\0"
+        self.form = form  # of the records that it writes
+        self.have = have
+        self.logs = Logs()
         self.records = []
         self.memory = Memory()
         self.append(records.Boot(1))
@@ -213,26 +242,42 @@ class Node:
             raise Refused(f"DTX-01: node {self.name} is stopped")
 
     def append(self, record):
-        """Appends a record. It stands, and takes effect, where it can be read, also where an order struck."""
-        before = self.disk.count()
+        """Appends a record. It takes effect where it stands, also where an order struck."""
+        log = self.logs.active
+        before = len(log.records)
         try:
-            self.disk.append(record.bytes())
+            log.append(record, record.bytes(self.form))
         finally:
-            if self.disk.count() > before:
+            if len(log.records) > before:
                 self.records.append(record)
                 self.memory.apply(record)
 
+    def checkpoint(self):
+        """Writes an Image to the spare log, which is the active one from then on."""
+        image = image_of(self.memory, self.logs.active.generation() + 1)
+        body = image.bytes(self.newest_form())
+        if len(body) > MOST_BODY:
+            raise Refused("DTX-17: image too large")
+        spare = self.logs.spare
+        spare.renew()
+        spare.append(image, body)
+        self.form = self.newest_form()
+
+    def newest_form(self):
+        return records.NEW if "format" in self.have else records.OLD
+
     def halt(self):
-        """A stop leaves the disk alone."""
+        """A stop leaves the disks alone."""
         self.is_up = False
         self.memory = None
 
     def start(self):
         self.is_up = True
         self.memory = Memory()
-        self.disk.load()
-        for record in self.records:
+        self.logs.load()
+        for record in self.logs.active.records:
             self.memory.apply(record)
+        self.form = self.newest_form()
         self.append(records.Boot(self.memory.boot + 1))
 
     # ---- branches
@@ -240,18 +285,22 @@ class Node:
     def session(self, number):
         return self.memory.sessions.setdefault(number, Session())
 
-    def begin(self, session, number):
+    def begin(self, session, number, read_at=None):
         """The root of a session's transaction, which begins where there is none."""
         if session.branch is None:
             session.seq += 1
             session.branch = BranchId(self.number, self.memory.boot, number, session.seq)
-            live = Live(session.branch, session.branch, None, 1, self.strength)
+            live = Live(session.branch, session.branch, None, 1, self.strength_now(), read_at)
             self.memory.lives[live.id] = live
         return self.memory.lives[session.branch]
 
-    def open(self, root, parent, depth):
+    def open(self, parent, asked):
         """A branch in a session of its own."""
         branch = BranchId(self.number, self.memory.boot, self.memory.next_session, 1)
         self.memory.next_session += 1
-        self.memory.lives[branch] = Live(branch, root, parent, depth, self.strength)
+        self.memory.lives[branch] = Live(branch, asked.root, parent, asked.depth, self.strength_now(), asked.read_at)
         return branch
+
+    def strength_now(self):
+        """The strength of a branch that begins now, which it keeps."""
+        return self.strength if self.memory.strength is None else self.memory.strength

@@ -2,6 +2,8 @@
 
 import random
 
+from features import NONE
+
 KINDS = "Open Exec PREPARE ready CommitPoint ACK forgotten ASK OPENED Reply Prepared READONLY Abort committed InDoubt".split()
 NAMES = ["A", "b", "HQ.Acme", "a.b", "U0$#_", "x" * 30, "C", "D1", "WAREHOUSE.ACME.COM"]
 ODD_NAMES = ["SELECT", "1A", "x" * 31, "A..B", "A.", "from", "é", "A.SET", "NODE", "AT", ".".join(["y" * 30] * 5)]
@@ -16,8 +18,13 @@ ENDS = ["", "\n", " -- done", "\n--'\n", "--\x01", " SHOW", "'", "--é\n \t", "\
 FIXED = ["", ";", "\n;", "FROB;", "HOLD;", "SHOW;", "LOSE NEXT;", "CRASH A WRITE 1 KEEP 2;", "FAULT A CALL 1;", "1NODE A;", "NODE;", "NODE'A';", "NODE:x;", "AT A SESSION 1;"]
 
 
+LATER_KINDS = {"readonly": "OpenAT", "savepoint": "Back"}
+LATER_FIXED = ["SETTLE A;", "SETTLE SETTLE;", "CHECKPOINT;", "FAULT A SPARE 1;", "CRASH A WRITE 1 SPARE KEEP 2;"]
+
+
 class Writer:
-    def __init__(self, seed):
+    def __init__(self, seed, have=NONE):
+        self.have = have
         self.random = random.Random(seed)
         self.nodes = []
         self.badness = self.pick([0, 0, 0.01, 0.03, 0.1, 0.2])
@@ -63,18 +70,35 @@ class Writer:
         for word, least, most in (("STRENGTH", 0, 255), ("LINKS", 1, 64), ("UNDO", 1, 1024)):
             for _ in range(2 if self.bad() else self.chance(0.3)):
                 parts += [self.spelled(word), self.number(least, most)]
+        if "format" in self.have and self.chance(0.3):
+            parts += [self.spelled("FORMAT"), self.number(1, 2)]
         return self.joined(*parts)
 
     def order(self):
         """An order on a node's disk."""
+        spare = [self.spelled("SPARE")] if "checkpoint" in self.have and self.chance(0.4) else []
         if self.chance(0.3):
-            return self.joined(self.spelled("FAULT"), self.node(), self.spelled("CALL"), self.number(1))
+            return self.joined(self.spelled("FAULT"), self.node(), *spare, self.spelled("CALL"), self.number(1))
         how = self.pick(["KEEP", "LEAVE"])
         left = self.number() if how == "KEEP" else self.pick(ODD_HEX if self.bad() else HEX)
-        head = (self.spelled("CRASH"), self.node(), self.spelled("WRITE"), self.number(1))
+        head = (self.spelled("CRASH"), self.node(), *spare, self.spelled("WRITE"), self.number(1))
         return self.joined(*head, self.spelled(how), left)
 
+    def later(self):
+        """A command of a later form."""
+        word = self.spelled
+        forms = {"settle": [[word("SETTLE")], [word("SHOW"), word("BLOCKED")]]}
+        forms["checkpoint"] = [[word("CHECKPOINT"), self.node()]]
+        for feature, kind in LATER_KINDS.items():
+            forms[feature] = [[word("LOSE"), word("NEXT"), word(kind), word("FROM"), self.node(), word("TO"), self.node()]]
+        known = [form for feature in sorted(forms) if feature in self.have for form in forms[feature]]
+        if self.bad() or not known:
+            return self.pick(LATER_FIXED).rstrip(";")
+        return self.joined(*self.pick(known))
+
     def command(self):
+        if self.have and self.chance(0.2):
+            return self.later()
         form = self.random.randrange(19)
         word = self.spelled
         if form < 3:

@@ -7,6 +7,7 @@ that are down more often than by chance.
 from dataclasses import dataclass
 
 from commands import KINDS
+from features import NONE
 from random_running import Running
 from records import global_text
 
@@ -44,8 +45,8 @@ BENTS = [
 
 
 class Writer(Running):
-    def __init__(self, seed):
-        super().__init__(seed)
+    def __init__(self, seed, have=NONE):
+        super().__init__(seed, have)
         self.bent = self.pick(BENTS)
 
     def script(self):
@@ -138,8 +139,11 @@ class Writer(Running):
         if self.chance(self.bent.stops / 2):
             self.stop()
 
-    def lose_next(self, kinds=tuple(KINDS.values())):
-        self.give(f"LOSE NEXT {self.pick(sorted(kinds)).upper()} FROM {self.node().name} TO {self.node().name}")
+    def all_kinds(self):
+        return KINDS.values()
+
+    def lose_next(self, kinds=None):
+        self.give(f"LOSE NEXT {self.pick(sorted(kinds or self.all_kinds())).upper()} FROM {self.node().name} TO {self.node().name}")
 
     def cut(self):
         one, other = self.random.sample(self.names, 2)
@@ -156,12 +160,13 @@ class Writer(Running):
 
     def strike(self, node=None):
         """An order on a disk, which strikes one of the next records."""
-        node = (node or self.node()).name
+        self.give(self.strike_order((node or self.node()).name))
+
+    def strike_order(self, node):
         if self.chance(0.3):
-            self.give(f"FAULT {node} CALL {self.random.randint(1, self.pick([4, 8, 12]))}")
-            return
+            return f"FAULT {node} CALL {self.random.randint(1, self.pick([4, 8, 12]))}"
         left = f"KEEP {self.pick([0, 1, 3, 20, 9999])}" if self.chance(0.6) else f"LEAVE '{self.pick(LEFT)}'"
-        self.give(f"CRASH {node} WRITE {self.random.randint(1, self.pick([2, 4, 6]))} {left}")
+        return f"CRASH {node} WRITE {self.random.randint(1, self.pick([2, 4, 6]))} {left}"
 
     def recover(self):
         self.give(f"RECO {self.node().name}")
@@ -205,7 +210,7 @@ class Writer(Running):
         if messages:
             first = max(1, len(messages) - self.pick([6, 20, 10000]))
             numbers = range(first, len(messages) + 1)
-            kinds = kinds or self.pick([*[OF_COMMITS] * 3, {"CommitPoint", "Prepare"}, {"Open"}, set(KINDS.values())])
+            kinds = kinds or self.pick([*[OF_COMMITS] * 3, {"CommitPoint", "Prepare"}, {"Open"}, set(self.all_kinds())])
             fit = [number for number in numbers if messages[number - 1].kind in kinds]
             self.give(f"AGAIN {self.pick(fit or numbers)}")
 
@@ -225,13 +230,16 @@ class Writer(Running):
             node, kept = self.pick(found)
             id = self.pick([kept.id.local(), kept.id.local(), global_text(kept.root, self.names)])
             forms = [f"COMMIT FORCE '{id}'", f"ROLLBACK FORCE '{id}'"] * 3 + [f"ROLLBACK WORK FORCE '{id}'"]
-            forms += [f"COMMIT FORCE '{id}', {self.pick([0, 3, 7, 2**48 - 1])}"]
+            forms += [f"COMMIT FORCE '{id}', {self.given_scn()}"]
         else:
             node, kept = self.pick(self.kept() or [(self.node(), None)])
             id = kept.id.local() if kept and self.chance(0.9) else "1.1.1"
             forms = [f"EXECUTE DBMS_TRANSACTION.PURGE_{kind}('{id}')" for kind in ["MIXED", "LOST_DB_ENTRY"]]
             forms += [f"COMMIT FORCE '{id}'"] * self.chance(0.1)
         self.at(node, self.pick([1, 2, 4]), self.pick(forms))
+
+    def given_scn(self):
+        return self.pick([0, 3, 7, 2**48 - 1])
 
     def look(self):
         node = (self.pick(self.kept())[0] if self.kept() and self.chance(0.7) else self.node()).name

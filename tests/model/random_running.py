@@ -1,6 +1,7 @@
 """Scripts that run while they are written, and the nodes, tables and links with which they begin."""
 
 from commands import read
+from features import NONE
 from random_statements import TABLES, WIDE, Statements
 from world import World
 
@@ -10,9 +11,9 @@ STRENGTHS = [0, 1, 2, 5, 5, 100, 200, 255]
 
 
 class Running(Statements):
-    def __init__(self, seed):
+    def __init__(self, seed, have=NONE):
         super().__init__(seed)
-        self.world = World()
+        self.world = World(have)
         self.asked = []
         self.lines = []
         self.is_wide = self.chance(0.08)  # it has trees of many branches
@@ -29,7 +30,7 @@ class Running(Statements):
         """Adds a command, and runs it."""
         self.asked.append(command)
         nodes = "" if command.startswith("NODE") else "".join(f"NODE {name};" for name in self.names)
-        asked = read(f"{nodes}{command};".encode())[-1]
+        asked = read(f"{nodes}{command};".encode(), self.world.have)[-1]
         self.lines += self.world.run(asked, command.partition(":")[2].encode())
 
     def at(self, node, session, text):

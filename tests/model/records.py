@@ -9,11 +9,16 @@ from branches import BranchId, Child, Decision
 from disk import number
 from tables import Change, Table, name_bytes
 
-FORMAT = 1
+OLD, NEW = 1, 2  # formats
+SCN_BYTES = {OLD: 6, NEW: 8}
 
 
 def list_bytes(items):
     return number(len(items), 4) + b"".join(items)
+
+
+def changes_bytes(changes):
+    return list_bytes([change.bytes() for change in changes])
 
 
 def branch_or_none(branch):
@@ -24,8 +29,26 @@ def children_bytes(children):
     return list_bytes([child.id.bytes() + name_bytes(child.link) for child in children])
 
 
-def decision_bytes(decision):
-    return (b"\1" if decision.is_commit else b"\2") + number(decision.scn, 6)
+def decision_bytes(decision, size):
+    return (b"\1" if decision.is_commit else b"\2") + number(decision.scn, size)
+
+
+def text_bytes(text):
+    return number(len(text), 2) + text
+
+
+def toward_byte(branch):
+    """The place of the way to the site: 0 for the parent, else that of a child from 1 on."""
+    ways = [branch.parent] + [child.id for child in branch.children]
+    return number(ways.index(branch.toward), 1)
+
+
+def link_bytes(name, target):
+    return name_bytes(name) + name_bytes(target)
+
+
+def synonym_bytes(name, table, link):
+    return name_bytes(name) + name_bytes(table) + name_bytes(link)
 
 
 def outcome(decision):
@@ -36,8 +59,9 @@ def outcome(decision):
 class Record:
     kind: ClassVar[int]
 
-    def bytes(self):
-        return bytes([FORMAT, self.kind]) + self.fields()
+    def bytes(self, form):
+        """The record in a format. Its fields are made with the size of an SCN."""
+        return bytes([form, self.kind]) + self.fields(SCN_BYTES[form])
 
     def line(self, _names):
         """Its line of the book behind the first word, where it gives one; names are those of the nodes."""
@@ -49,7 +73,7 @@ class Boot(Record):
     kind = 1
     boot: int
 
-    def fields(self):
+    def fields(self, _size):
         return number(self.boot, 4)
 
 
@@ -59,8 +83,8 @@ class TableMade(Record):
     node: int
     table: Table
 
-    def fields(self):
-        return self.table.record()
+    def fields(self, _size):
+        return self.table.fields()
 
     def line(self, names):
         return f"made {names[self.node - 1]} {self.table.name}"
@@ -72,8 +96,8 @@ class LinkMade(Record):
     name: str
     target: str
 
-    def fields(self):
-        return name_bytes(self.name) + name_bytes(self.target)
+    def fields(self, _size):
+        return link_bytes(self.name, self.target)
 
 
 @dataclass
@@ -83,8 +107,8 @@ class SynonymMade(Record):
     table: str
     link: str
 
-    def fields(self):
-        return name_bytes(self.name) + name_bytes(self.table) + name_bytes(self.link)
+    def fields(self, _size):
+        return synonym_bytes(self.name, self.table, self.link)
 
 
 @dataclass
@@ -92,8 +116,17 @@ class RecoverySet(Record):
     kind = 5
     is_on: bool
 
-    def fields(self):
+    def fields(self, _size):
         return b"\1" + number(self.is_on, 4)
+
+
+@dataclass
+class StrengthSet(Record):
+    kind = 5
+    strength: int
+
+    def fields(self, _size):
+        return b"\2" + number(self.strength, 4)
 
 
 @dataclass
@@ -121,13 +154,12 @@ class WithChanges(OfBranch):
         root = f"{global_text(self.root, names)}"
         return f"{self.place(names)} {root} scn {self.scn} changes {len(self.changes)}"
 
-    def head(self):
-        return self.id.bytes() + self.root.bytes() + number(self.scn, 6)
+    def head(self, size):
+        return self.id.bytes() + self.root.bytes() + number(self.scn, size)
 
     def rest(self):
-        comment = number(len(self.comment), 2) + self.comment
-        changes = list_bytes([change.bytes() for change in self.changes])
-        return branch_or_none(self.parent) + children_bytes(self.children) + number(self.advice, 1) + comment + changes
+        ways = branch_or_none(self.parent) + children_bytes(self.children)
+        return ways + number(self.advice, 1) + text_bytes(self.comment) + changes_bytes(self.changes)
 
 
 @dataclass
@@ -136,9 +168,8 @@ class Sealed(WithChanges):
     word = "sealed"
     toward: BranchId
 
-    def fields(self):
-        ways = [self.parent] + [child.id for child in self.children]
-        return self.head() + number(ways.index(self.toward), 1) + self.rest()
+    def fields(self, size):
+        return self.head(size) + toward_byte(self) + self.rest()
 
 
 @dataclass
@@ -146,8 +177,8 @@ class Decided(WithChanges):
     kind = 7
     word = "decided"
 
-    def fields(self):
-        return self.head() + self.rest()
+    def fields(self, size):
+        return self.head(size) + self.rest()
 
 
 @dataclass
@@ -156,8 +187,8 @@ class Ended(OfBranch):
     word = "ended"
     decision: Decision
 
-    def fields(self):
-        return self.id.bytes() + decision_bytes(self.decision)
+    def fields(self, size):
+        return self.id.bytes() + decision_bytes(self.decision, size)
 
     def line(self, names):
         return f"{self.place(names)} {outcome(self.decision)}"
@@ -169,8 +200,8 @@ class Forced(Ended):
     word = "forced"
     is_given: bool
 
-    def fields(self):
-        return super().fields() + bytes([self.is_given])
+    def fields(self, size):
+        return super().fields(size) + bytes([self.is_given])
 
 
 @dataclass
@@ -179,8 +210,8 @@ class Met(Ended):
     word = "met"
     is_mixed: bool
 
-    def fields(self):
-        return super().fields() + bytes([self.is_mixed])
+    def fields(self, size):
+        return super().fields(size) + bytes([self.is_mixed])
 
     def line(self, names):
         return f"{super().line(names)} mixed {'yes' if self.is_mixed else 'no'}"
@@ -190,7 +221,7 @@ class Met(Ended):
 class Forgot(OfBranch):
     kind = 11
 
-    def fields(self):
+    def fields(self, _size):
         return self.id.bytes()
 
 
@@ -198,7 +229,7 @@ class Forgot(OfBranch):
 class Hidden(OfBranch):
     kind = 12
 
-    def fields(self):
+    def fields(self, _size):
         return self.id.bytes()
 
 

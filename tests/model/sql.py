@@ -15,9 +15,14 @@ from statements import (
     Purge,
     Recovery,
     Rollback,
+    RollbackTo,
+    Savepoint,
     Select,
+    SetReadOnly,
+    Strength,
     Update,
 )
+from features import NONE
 from tokens import Outside, Tokens, is_name
 
 LEAST, MOST = -(2**63), 2**63 - 1
@@ -28,6 +33,10 @@ ADVICE = {"NOTHING": 0, "COMMIT": 1, "ROLLBACK": 2}
 
 class Reader(Tokens):
     """Reads a statement from its tokens."""
+
+    def __init__(self, text, have):
+        super().__init__(text)
+        self.have = have  # later features
 
     # ---- parts
 
@@ -206,7 +215,7 @@ class Reader(Tokens):
 
     def scn(self):
         scn = self.take("number")
-        if scn >= 2**48:
+        if scn >= (2**64 if "format" in self.have else 2**48):
             raise Outside
         return scn
 
@@ -214,15 +223,40 @@ class Reader(Tokens):
         self.may("word", "WORK")
         if self.may("word", "FORCE"):
             return Force(False, self.quoted(MOST_TEXT), None)
+        if "savepoint" in self.have and self.may("word", "TO"):
+            return self.rollback_to()
         return Rollback()
+
+    def rollback_to(self):
+        """Behind TO the word SAVEPOINT is a name where nothing follows it."""
+        if self.may("word", "SAVEPOINT") and not self.left:
+            return RollbackTo("SAVEPOINT")
+        return RollbackTo(self.identifier())
+
+    def savepoint(self):
+        return Savepoint(self.identifier())
 
     def alter(self):
         if self.one_of("SESSION", "SYSTEM") == "SESSION":
             self.words("ADVISE")
             return Advise(ADVICE[self.one_of(*ADVICE)])
+        if "strength" in self.have and self.may("word", "SET"):
+            return self.strength()
         is_on = self.one_of("ENABLE", "DISABLE") == "ENABLE"
         self.words("DISTRIBUTED", "RECOVERY")
         return Recovery(is_on)
+
+    def strength(self):
+        self.words("COMMIT_POINT_STRENGTH")
+        self.must("sign", "=")
+        strength = self.take("number")
+        if strength > 255:
+            raise Outside
+        return Strength(strength)
+
+    def set_read_only(self):
+        self.words("TRANSACTION", "READ", "ONLY")
+        return SetReadOnly()
 
     def execute(self):
         call = self.one_of("DBMS_TRANSACTION.PURGE_MIXED", "DBMS_TRANSACTION.PURGE_LOST_DB_ENTRY")
@@ -238,9 +272,9 @@ def check_distinct(names):
         raise Outside
 
 
-def read(text):
+def read(text, have=NONE):
     """The statement of a text."""
-    reader = Reader(text)
+    reader = Reader(text, have)
     forms = {
         "CREATE": reader.create,
         "INSERT": reader.insert,
@@ -253,6 +287,8 @@ def read(text):
         "EXECUTE": reader.execute,
         "EXEC": reader.execute,
     }
+    later = {"SET": ("readonly", reader.set_read_only), "SAVEPOINT": ("savepoint", reader.savepoint)}
+    forms |= {word: form for word, (feature, form) in later.items() if feature in have}
     form = forms.get(reader.take("word"))
     if form is None:
         raise Outside

@@ -80,6 +80,23 @@ class Select(OnTable):
 
 
 @dataclass
+class SetReadOnly:
+    """SET TRANSACTION READ ONLY."""
+
+
+@dataclass
+class Savepoint:
+    name: str
+
+
+@dataclass
+class RollbackTo:
+    """ROLLBACK TO a savepoint."""
+
+    name: str
+
+
+@dataclass
 class Commit:
     comment: bytes
 
@@ -106,6 +123,13 @@ class Advise:
 @dataclass
 class Recovery:
     is_on: bool
+
+
+@dataclass
+class Strength:
+    """ALTER SYSTEM SET COMMIT_POINT_STRENGTH."""
+
+    strength: int
 
 
 @dataclass

@@ -28,6 +28,10 @@ def value_bytes(value):
     return b"\2" + number(len(value), 2) + value
 
 
+def row_bytes(row):
+    return number(len(row), 1) + b"".join(map(value_bytes, row))
+
+
 def shown(value):
     if value is None:
         return b"NULL"
@@ -48,7 +52,7 @@ class Change:
         head = name_bytes(self.table) + value_bytes(self.key)
         if self.after is None:
             return head + b"\0"
-        return head + b"\1" + number(len(self.after), 1) + b"".join(map(value_bytes, self.after))
+        return head + b"\1" + row_bytes(self.after)
 
 
 class Table:
@@ -62,10 +66,15 @@ class Table:
     def without_rows(self):
         return Table(self.name, self.columns)
 
+    def copy(self):
+        copy = self.without_rows()
+        copy.rows = dict(self.rows)
+        return copy
+
     def column(self, name):
         return self.columns[self.places[name]]
 
-    def record(self):
+    def fields(self):
         return name_bytes(self.name) + number(len(self.columns), 1) + b"".join(map(column_bytes, self.columns))
 
     def fits(self, kind, name):

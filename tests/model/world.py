@@ -1,9 +1,10 @@
 """A run of a script: its nodes, their network, and the lines that answer each command."""
 
 from asked import of_gone, on_ask_of_live, prepared_again, recover, told
-from across import on_exec, on_open, on_opened, on_reply
+from across import on_back, on_exec, on_open, on_opened, on_reply
 from client import call, carry_out, give_up
 from disk import Crash, Struck
+from features import NONE
 from forced import neighbors, pending
 from here import extents
 from messages import Network
@@ -19,6 +20,8 @@ from phases import (
     on_rolled_back,
     on_vote,
 )
+from records import OLD
+from settle import blocked_lines, branches_up, is_due
 from tables import Refused
 from turns import Turn
 
@@ -26,6 +29,7 @@ MOST_DELIVERIES = 4096
 OF_LIVE = {
     "Opened": on_opened,
     "Exec": on_exec,
+    "Back": on_back,
     "Reply": on_reply,
     "Prepare": on_prepare,
     "Prepared": on_vote,
@@ -53,7 +57,7 @@ def receive(turn, message):
     """What a message does at the branch that it is for."""
     memory = turn.memory
     memory.clock = max(memory.clock, message.clock, message.body if message.kind == "Committed" else 0)
-    if message.kind == "Open":
+    if message.kind in ("Open", "OpenAt"):
         on_open(turn, message)
     elif message.receiver in memory.lives:
         OF_LIVE.get(message.kind, ignore)(turn, memory.lives[message.receiver], message)
@@ -68,7 +72,8 @@ def ignore(_turn, _branch, _message):
 
 
 class World:
-    def __init__(self):
+    def __init__(self, have=NONE):
+        self.have = have
         self.nodes = []
         self.names = []
         self.network = Network()
@@ -76,9 +81,11 @@ class World:
         self.points = {}  # for the root of a transaction, the number of the place at which its first node stops
         self.reached = {}  # the same of those whose place was reached
         self.holds = False
-        # of the command that runs: its number, its deliveries, the answers of calls that ended, the nodes that were struck
+        # of the command that runs: its number, its deliveries and whether they ended at the limit, the answers of calls that
+        # ended, the nodes that were struck
         self.number = 0
         self.deliveries = 0
+        self.is_over = False
         self.answers = {}
         self.stopped = []
 
@@ -172,21 +179,27 @@ class World:
     def run(self, command, text):
         """The lines of a command."""
         self.number += 1
-        self.deliveries, self.answers, self.stopped = 0, {}, []
+        self.deliveries, self.is_over, self.answers, self.stopped = 0, False, {}, []
         try:
             own = self.carried_out(command, text)
         except Refused as refused:
             own = [str(refused).encode()]
-        if not self.holds:
-            self.deliver_all()
+        if command != ["SETTLE"]:
+            self.end_by_delivering()
         if own is None:
             own = self.answers.pop(self.number, [b"waiting"])
         lines = [(self.number, line) for line in own]
         lines += [(number, line) for number, answer in sorted(self.answers.items()) for line in answer]
         lines += [(self.number, line) for line in self.stopped]
-        if self.deliveries == MOST_DELIVERIES and self.network.in_flight:
+        if self.is_over:
             lines.append((self.number, b"DTX-05: deliveries ended at 4096"))
         return lines
+
+    def end_by_delivering(self):
+        if not self.holds:
+            self.deliver_all()
+        if self.deliveries == MOST_DELIVERIES and self.network.in_flight:
+            self.is_over = True
 
     def carried_out(self, command, text):
         """The own answer of a command, None where that is what its call comes to."""
@@ -195,6 +208,8 @@ class World:
             return self.call(rest[0], rest[1], text)
         if word == "SHOW":
             return self.shown(*rest)
+        if word == "SETTLE":
+            return self.settled()
         getattr(self, "do_" + word)(*rest)
         return [b"ok"]
 
@@ -211,17 +226,42 @@ class World:
             return [line.encode() for line in self.book] or [b"no entries"]
         if what == "NET":
             return self.network.lines(self.names) or [b"no messages in flight"]
+        if what == "BLOCKED":
+            return blocked_lines(self.nodes, self.network)
         if what == "DISK":
-            return disk_lines(self.node(place, must_be_up=False).disk.bytes)
+            return disk_lines(self.node(place, must_be_up=False).logs.active.disk.bytes)
         memory = self.node(place).memory
         if what == "UNDO":
             return undo_lines(memory.undo)
         return (pending if what == "PENDING" else neighbors)(memory, self.names)
 
+    # ---- rounds of RECO
+
+    def settled(self):
+        """Rounds until no branch is due, as many at most as there are branches. Without one it delivers as others do."""
+        if self.holds:
+            return [b"DTX-20: hold is on"]
+        most, rounds = branches_up(self.nodes), 0
+        while is_due(self.nodes) and rounds < most:
+            self.round()
+            rounds += 1
+        is_settled = not is_due(self.nodes)
+        if rounds == 0:
+            self.deliver_all()
+        return [(b"settled, rounds %d" if is_settled else b"DTX-19: not settled after %d rounds") % rounds]
+
+    def round(self):
+        """A RECO at each node, with deliveries of its own."""
+        for node in self.nodes:
+            if node.is_up and node.memory.recovers:
+                self.deliveries = 0
+                self.turn(node, recover)
+                self.end_by_delivering()
+
     # ---- commands that answer ok where they may be carried out
 
-    def do_NODE(self, name, strength, links, undo):
-        self.nodes.append(Node(name, len(self.nodes) + 1, strength, links, undo))
+    def do_NODE(self, name, strength, links, undo, form=OLD):
+        self.nodes.append(Node(name, len(self.nodes) + 1, strength, links, undo, form, self.have))
         self.names.append(name)
 
     def do_CUT(self, one, other):
@@ -250,12 +290,26 @@ class World:
             node.must_be_up()
         self.network.start(place)
 
-    def do_CRASH(self, place, _word, write, how, left):
-        disk = self.node(place, must_be_up=False).disk
-        disk.crash = Crash(write, left, b"") if how == "KEEP" else Crash(write, None, left)
+    def do_CHECKPOINT(self, place):
+        node = self.node(place)
+        try:
+            node.checkpoint()
+        except Struck:
+            self.struck(node)
+            node.must_be_up()
 
-    def do_FAULT(self, place, call):
-        self.node(place, must_be_up=False).disk.fault = call
+    def do_CRASH(self, place, *order):
+        """SPARE may stand first."""
+        *_, write, how, left = order
+        self.disk(place, order).crash = Crash(write, left, b"") if how == "KEEP" else Crash(write, None, left)
+
+    def do_FAULT(self, place, *order):
+        self.disk(place, order).fault = order[-1]
+
+    def disk(self, place, order):
+        """The disk that an order is for: the one that is active now, or the other."""
+        logs = self.node(place, must_be_up=False).logs
+        return (logs.spare if order[0] == "SPARE" else logs.active).disk
 
     def do_HOLD(self, switch):
         self.holds = switch == "ON"
