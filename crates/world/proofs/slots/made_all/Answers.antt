@@ -1,4 +1,4 @@
-use Rattle.std.proofs.Common.{◌≡◌, ◌<◌, ◌≤◌, ◌+◌, ℕ, Some, List, [], ◌∷◌, ◌++◌, length, length-append, take, ap, sym, subst, ◌∙◌, arith}
+use Rattle.std.proofs.Common.{◌≡◌, ◌<◌, ◌≤◌, ◌+◌, ℕ, suc, Some, List, [], ◌∷◌, ◌++◌, length, length-append, take, ap, sym, subst, ◌∙◌, arith}
 use Rattle.std.proofs.lemmas.List.{take_more}
 use Rattle.std.proofs.lemmas.Option.{slice_get-get_or}
 use Rattle.std.specs.List.{slice_get}
@@ -15,7 +15,7 @@ made-requires c =
     let place = c.place-item.result in
     let inside : i < length places = omega arith in
     let there : slice_get places i ≡ Some place = slice_get-get_or places i place inside ∙ ap (λ (p : Place). Some p) (sym c.place-item.is) in
-    subst (λ (p : Place). p.undo ≤ 1024) (sym c.in_ok-place.ensures) (c.requires (i + 1) place there)
+    subst (λ (p : Place). p.undo ≤ 1024) (sym c.in_ok-place.ensures) (c.requires (suc i) place there)
 
 pub loop-place-preserved : goal.loop-place-preserved
 loop-place-preserved c =
