@@ -7,7 +7,7 @@ use Rattle.world.proofs.slot.stopped.Goals as goal
 pub returns-in-Up-clause-starts : goal.returns-in-Up-clause-starts
 returns-in-Up-clause-starts c =
     (λ undo can. c.rested.ensures.starts undo
-        (subst (λ d. CanBeStarted undo bytes_of images_of d) (sym c.into_disk.ensures) (subst (λ (s : NodeSlot). CanBeStarted undo bytes_of images_of (site_disk s)) c.in-Up.is can)))
+    (subst (λ d. CanBeStarted undo bytes_of images_of d) (sym c.into_disk.ensures) (subst (λ (s : NodeSlot). CanBeStarted undo bytes_of images_of (site_disk s)) c.in-Up.is can)))
 
 pub returns-in-Down-clause-starts : goal.returns-in-Down-clause-starts
 returns-in-Down-clause-starts c =
