@@ -46,6 +46,7 @@ view_asks names views.Neighbors c ts s = subst AsksSpelled (some_is _ c s.2) tt
 view_asks names views.Book c ts s = subst AsksSpelled (sym s.0) tt
 view_asks names views.Net c ts s = subst AsksSpelled (sym s.0) tt
 view_asks names views.Disk c ts s = subst AsksSpelled (some_is _ c s.2) tt
+view_asks names views.Undo c ts s = subst AsksSpelled (some_is _ c s.2) tt
 
 -- no command of another form than AT asks for a statement
 form_asks : (names : List (List ℕ)) (k : Verb) (c : Command) (ts : List Token) → (form names k).Spells c ts → AsksSpelled c
