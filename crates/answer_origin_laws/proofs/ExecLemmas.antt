@@ -33,6 +33,7 @@ use Rattle.answer_origin_laws.proofs.PlainLemmas.{exec_mute}
 use Rattle.answer_origin_laws.proofs.TaleLemmas.{NoReply, IsMute, other_reply, Stays, Says_again, Takes, Answers, Hears, calls0, Told, AreGood, Tales, mute_good, mute_replies, came_one, each_of}
 use Rattle.tree_trail_laws.proofs.OwnAskLemmas.{target_no as way_target_not}
 use Rattle.tree_trail_laws.proofs.LowerLivesLemmas.{bool_cases as bool_by}
+use Rattle.node_rules.proofs.WayLemmas.{way_by_name}
 
 -- an Exec comes to no root
 abbrev pub ExecsBelow : Input → NodeState → Type 0
@@ -53,8 +54,7 @@ way_named_table p k l given (A_table x) t is = let it : Runs_here x ≡ Runs_her
 way_named_table p k l given (Behind link table) t is = absurd (way_target_not p l given link table _ t is)
 
 pub way_table : (p : Place) (k : NodeState) (l : Live) (given : ℕ) (s : Stmt) (t : Table) → way_of p k.stored.durable l given s ≡ Runs_here t → named_by k.stored.durable (ref_of s) ≡ A_table t
-unfolding way_of
-way_table p k l given s t is = way_named_table p k l given (named_by k.stored.durable (ref_of s)) t is
+way_table p k l given s t is = way_named_table p k l given (named_by k.stored.durable (ref_of s)) t (way_by_name p k.stored.durable l given s (Runs_here t) tt is)
 
 -- a call that is not run is not above the last
 pub low_call : (c : Calls) (call : ℕ) (a : Admit) → admit c call ≡ a → a ≢ admits.Run → call ≤ c.last_call

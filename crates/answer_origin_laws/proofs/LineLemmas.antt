@@ -23,6 +23,7 @@ use Rattle.node_rules.specs.Names.{Over, Through, Nowhere_to, Named, A_table, Be
 use Rattle.run_base_laws.specs.InTurnLaws.{exec_number, newest_exec, call_at}
 use Rattle.run_base_laws.proofs.KindSayLemmas.{AllSay}
 use Rattle.run_rules.proofs.ListLemmas.{all_append, all_weaker}
+use Rattle.node_rules.proofs.WayLemmas.{way_by_name}
 
 -- ---- where a statement goes
 
@@ -58,8 +59,7 @@ module _ (p : Place) (d : Durable) (l : Live) (given : ℕ) where
       let over = target_over link t (target_of p d link) i table is in record { link = link; named = at ∙ ap (Behind link) over.2; node = over.0.0; leads = over.0.1; edge = over.1 }
 
   pub goes_over : (s : Stmt) (i : ℕ) (table : List ℕ) → way_of p d l given s ≡ Over i table → GoesOver s i table
-  unfolding way_of
-  goes_over s i table is = named_over s (named_by d (ref_of s)) i table refl is
+  goes_over s i table is = named_over s (named_by d (ref_of s)) i table refl (way_by_name p d l given s (Over i table) tt is)
 
   -- over a link that is used for the first time
   abbrev pub GoesThrough : Stmt → ℕ → List ℕ → List ℕ → Type 0
@@ -89,8 +89,7 @@ module _ (p : Place) (d : Durable) (l : Live) (given : ℕ) where
       (at ∙ (ap (λ x. Behind x t) through.1 ∙ ap (Behind link) through.2), subst (λ x. target_of p d x ≡ Some node) through.1 through.0)
 
   pub goes_through : (s : Stmt) (node : ℕ) (link table : List ℕ) → way_of p d l given s ≡ Through node link table → GoesThrough s node link table
-  unfolding way_of
-  goes_through s node link table is = named_through s (named_by d (ref_of s)) node link table refl is
+  goes_through s node link table is = named_through s (named_by d (ref_of s)) node link table refl (way_by_name p d l given s (Through node link table) tt is)
 
 -- the edge of a link
 placed : (es : List Edge) (link : List ℕ) (o : Option ℕ) (i : ℕ) (e : Edge) → position (λ (x : Edge). bytes_eq x.link link) es ≡ o → option_map (λ place. place + 1) o ≡ Some i → numbered es i ≡ Some e → e.link ≡ link

@@ -177,6 +177,7 @@ module _ (t : History) (whole : IsLawfulRun t) (m : Msg) (came : CameInTurn t.tr
         heard_same j (inputs.Call n c) = refl
         heard_same j (inputs.GiveUp n) = refl
         heard_same j inputs.Reco = refl
+        heard_same j inputs.Checkpoint = refl
 
     pub ack_noted : IsNoted (facts_at t) m.from m.to
     ack_noted = here_end t whole b Q keeps after came.later (append_assoc hs (h ∷ []) came.later ∙ came.is) (here.left_after t whole m came some) (by_cut u.cut refl)

@@ -111,7 +111,9 @@ module _ (places : List Place) (asked : List Command) (f : Facts) (ns : List (Op
   comes_too k o like n (inputs.GiveUp s) None comes = (comes.0, subst (λ ss. IsPending (session_at ss s).call) (sessions_are like) comes.1)
   comes_too k o like n (inputs.GiveUp s) (Some t) comes = absurd comes
   comes_too k o like n inputs.Reco None comes = tt
+  comes_too k o like n inputs.Checkpoint None comes = tt
   comes_too k o like n inputs.Reco (Some t) comes = absurd comes
+  comes_too k o like n inputs.Checkpoint (Some t) comes = absurd comes
 
   served_like : (p : Place) (input : Input) (cut : Bool) (x y : Option NodeState) (k o : NodeState) → x ≡ Some k → y ≡ Some o → IsLike (turn_of p k input).after (turn_of p o input).after
       → NodeLike (kept_after cut (served p input x)) (kept_after cut (served p input y))

@@ -5,14 +5,16 @@ use Rattle.redo_record.specs.Kept.{kept_after}
 use Rattle.node_rules.specs.Data.{BranchId, KeptRow, RedoRecord}
 use Rattle.node_rules.specs.Data.records
 use Rattle.node_rules.specs.NodeState.{NodeState, Stored}
-use Rattle.node_rules.specs.Records.{applied, nothing_stored, stored_by}
+use Rattle.node_rules.specs.Records.{applied, nothing_stored, stored_by, versions_read, versions_in}
 use Rattle.node_rules.specs.Turn.{kept_by, start_of}
 use Rattle.node_rules.specs.Words.{numbered, set_numbered}
+use Rattle.node_rules.specs.Data.decisions
 use Rattle.run_rules.specs.Facts.{flat}
 use Rattle.run_rules.specs.Lawful.{boots}
 use Rattle.node_purge_laws.specs.PurgeLaws.{row_as, RowsLike, rows_of, with_rows, IsLike}
 use Rattle.node_purge_laws.proofs.HideLemmas.{rows_same, hidden_like}
 use Rattle.node_purge_laws.proofs.LikeLemmas.{recorded}
+use Rattle.read_only_tx.specs.Versions.{Versions, versions_from}
 
 -- ---- nodes that are alike
 
@@ -81,31 +83,44 @@ fewer_boots (Same_record (records.Forced b d given) few) = fewer_boots few
 fewer_boots (Same_record (records.Met b d mixed) few) = fewer_boots few
 fewer_boots (Same_record (records.Forgot b) few) = fewer_boots few
 fewer_boots (Same_record (records.Hidden b) few) = fewer_boots few
+fewer_boots (Same_record (records.Image i) few) = fewer_boots few
 fewer_boots (One_fewer b few) = fewer_boots few
 
 -- ---- a start
 
+-- which rows are hidden does not matter to the commits that are kept
+versions_same : (s : Stored) (ks : List KeptRow) (vs : Versions) (r : RedoRecord) → versions_read (record s { durable = record s.durable { kept = ks } }) vs r ≡ versions_read s vs r
+versions_same s ks vs (records.Decided r) = refl
+versions_same s ks vs (records.Ended b (decisions.Commit n)) = refl
+versions_same s ks vs (records.Ended b decisions.Rollback) = refl
+versions_same s ks vs (records.Forced b (decisions.Commit n) given) = refl
+versions_same s ks vs (records.Forced b decisions.Rollback given) = refl
+versions_same s ks vs (records.Image i) = refl
+versions_same s ks vs _ = refl
+
 -- one record more on both disks
-started_with : (s z : Stored) (r : RedoRecord) → IsLike (kept_by s) (kept_by z) → IsLike (kept_by (applied s r)) (kept_by (applied z r))
-started_with s z r like =
-    let both = recorded (kept_by s) z.durable.kept like.rows r in
-    subst (λ (x : Stored). IsLike (kept_by (applied s r)) (kept_by (applied x r))) (sym (ap (λ (x : NodeState). x.stored) like.same))
-    (record { same = ap (λ (x : NodeState). kept_by x.stored) both.same; rows = both.rows })
+started_with : (s z : Stored) (vs us : Versions) (r : RedoRecord) → IsLike (kept_by s vs) (kept_by z us) → IsLike (kept_by (applied s r) (versions_read s vs r)) (kept_by (applied z r) (versions_read z us r))
+started_with s z vs us r like =
+    let x : Stored = record s { durable = record s.durable { kept = z.durable.kept } } in
+    let both = recorded (kept_by s vs) z.durable.kept like.rows r in
+    subst (λ (y : NodeState). IsLike (kept_by (applied s r) (versions_read s vs r)) (kept_by (applied y.stored r) (versions_read y.stored y.versions r))) (sym like.same)
+    (subst (λ (ws : Versions). IsLike (kept_by (applied s r) (versions_read s vs r)) (kept_by (applied x r) ws)) (sym (versions_same s z.durable.kept vs r))
+    (record { same = ap (λ (y : NodeState). kept_by y.stored (versions_read s vs r)) both.same; rows = both.rows }))
 
 -- and one that hides a row on the first alone
-started_hidden : (s z : Stored) (b : BranchId) → IsLike (kept_by s) (kept_by z) → IsLike (kept_by (applied s (records.Hidden b))) (kept_by z)
+started_hidden : (s z : Stored) (vs us : Versions) (b : BranchId) → IsLike (kept_by s vs) (kept_by z us) → IsLike (kept_by (applied s (records.Hidden b)) vs) (kept_by z us)
 unfolding applied durable_after kept_after
-started_hidden s z b like = like_on (like_turned (hidden_like (kept_by s) b)) like
+started_hidden s z vs us b like = like_on (like_turned (hidden_like (kept_by s vs) b)) like
 
-stored_like : {rs more : List RedoRecord} → Fewer rs more → (s z : Stored) → IsLike (kept_by s) (kept_by z) → IsLike (kept_by (stored_by s rs)) (kept_by (stored_by z more))
+stored_like : {rs more : List RedoRecord} → Fewer rs more → (s z : Stored) (vs us : Versions) → IsLike (kept_by s vs) (kept_by z us) → IsLike (kept_by (stored_by s rs) (versions_in s vs rs)) (kept_by (stored_by z more) (versions_in z us more))
 unfolding stored_by
-stored_like Same_end s z like = like
-stored_like (Same_record r few) s z like = stored_like few (applied s r) (applied z r) (started_with s z r like)
-stored_like (One_fewer b few) s z like = stored_like few (applied s (records.Hidden b)) z (started_hidden s z b like)
+stored_like Same_end s z vs us like = like
+stored_like (Same_record r few) s z vs us like = stored_like few (applied s r) (applied z r) (versions_read s vs r) (versions_read z us r) (started_with s z vs us r like)
+stored_like (One_fewer b few) s z vs us like = stored_like few (applied s (records.Hidden b)) z vs us (started_hidden s z vs us b like)
 
 pub start_like : {rs more : List RedoRecord} → Fewer rs more → IsLike (start_of rs) (start_of more)
 unfolding start_of
-start_like few = stored_like few nothing_stored nothing_stored (record { same = refl; rows = rows_same (rows_of (kept_by nothing_stored)) })
+start_like few = stored_like few nothing_stored nothing_stored (versions_from 0) (versions_from 0) (record { same = refl; rows = rows_same (rows_of (kept_by nothing_stored (versions_from 0))) })
 
 -- ---- lists of them
 

@@ -7,4 +7,4 @@ mod session;
 mod work;
 
 pub use session::{Ended, Finished, PendingCall, Session, Sessions};
-pub use work::{CallNumbers, Going, Waits, Work, Works};
+pub use work::{Errand, Going, Waits, Work, Works};

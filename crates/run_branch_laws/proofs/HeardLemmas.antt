@@ -98,10 +98,11 @@ module _ (t : List Event) (c : ℕ) (p : Place) (input : Input) (heard : (from t
     each : LiveCases p input (λ k. Unit {0}) (λ d. Unit {0}) (AnswersAre t clock)
     each = record {
       lasts = nothing_lasts p input;
-      root = λ k n s call rows free known. tt;
-      child = λ k to parent edge root depth came new known. tt;
+      root = λ k n s read_at call begins free known. tt;
+      child = λ k to parent edge root depth read_at came new known. tt;
       advised = λ l advice so. so;
       runs = λ k x s table so. so;
+      backs = λ l changed so. so;
       opens = λ k x from strength g link opened known so. all_append (EdgeIs t clock) x.live.edges (new_edge from link strength ∷ []) so (tt, tt);
       replies = λ k x weight count a i e answered so. known_edges clock x.live.edges i e _ (reply_is x answered.from answered.call i e answered.waits) refl refl so;
       acts = λ k l below a why known q all.

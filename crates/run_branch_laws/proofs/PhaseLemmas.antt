@@ -129,10 +129,11 @@ module _ (k : NodeState) (live_fits : (l : Live) → live_at k l.me ≡ Some l �
 each : (p : Place) (input : Input) → LiveCases p input (λ k. Unit {0}) (λ d. Unit {0}) Fits
 each p input = record {
   lasts = nothing_lasts p input;
-  root = λ k n s call rows free c. tt;
-  child = λ k to parent edge root depth came new c. tt;
+  root = λ k n s read_at call begins free c. tt;
+  child = λ k to parent edge root depth read_at came new c. tt;
   advised = λ l advice fits. fits;
   runs = λ k x s t fits. fits;
+  backs = λ l changed fits. fits;
   opens = λ k x from strength g link opened c fits. more_fits x.live.parent x.live.edges (new_edge from link strength) x.live.phase refl fits;
   replies = λ k x weight count a i e answered fits. numbered_fits x.live.parent x.live.edges i e _ x.live.phase (reply_is x answered.from answered.call i e answered.waits) refl fits;
   acts = λ k l below a why c q all. acting_fits k all why;

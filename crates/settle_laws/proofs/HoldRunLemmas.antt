@@ -52,6 +52,7 @@ heard_stored k (inputs.Message m) = refl
 heard_stored k (inputs.Call n s) = refl
 heard_stored k (inputs.GiveUp n) = refl
 heard_stored k inputs.Reco = refl
+heard_stored k inputs.Checkpoint = refl
 
 module _ (t : History) (whole : IsLawfulRun t) where
   abbrev pub NodesHold : Facts → List Event → Type 0

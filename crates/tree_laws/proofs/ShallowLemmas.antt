@@ -28,6 +28,7 @@ use Rattle.node_rules.specs.LiveBranches.{EachLive, works_of}
 use Rattle.node_rules.proofs.LiveLemmas.{none_live, each_put, each_changed, each_left, each_begun, branch_parts, work_is}
 use Rattle.run_base_laws.proofs.NodeLemmas.{KeepsAlone, kept_alone}
 use Rattle.tree_laws.specs.WeighLaws.{ParentsAreShallow}
+use Rattle.node_rules.proofs.WayLemmas.{way_by_name}
 
 -- ---- a link is opened above the greatest depth
 
@@ -52,8 +53,7 @@ named_low p d l given (A_table x) n k t is = absurd cc
 named_low p d l given (Behind link table) n k t is = target_low p l given link table (target_of p d link) n k t is
 
 way_low : (p : Place) (d : Durable) (l : Live) (given : ℕ) (s : Stmt) (n : ℕ) (k t : List ℕ) → way_of p d l given s ≡ Through n k t → l.depth + 1 ≤ depth_limit
-unfolding way_of
-way_low p d l given s n k t is = low_enough depth_limit l.depth (named_low p d l given (named_by d (ref_of s)) n k t is)
+way_low p d l given s n k t is = low_enough depth_limit l.depth (named_low p d l given (named_by d (ref_of s)) n k t (way_by_name p d l given s (Through n k t) tt is))
 
 -- ---- branches
 

@@ -30,6 +30,7 @@ use Rattle.run_key_laws.proofs.RanLemmas.{runs_at_table}
 use Rattle.run_base_laws.proofs.StoredLemmas.{StoresOf}
 use Rattle.tree_trail_laws.proofs.OwnCallLemmas.{last_of, found_calls}
 use Rattle.tree_trail_laws.proofs.OwnStepLemmas.{BringsNone, Repeats, of_rows}
+use Rattle.node_rules.proofs.WayLemmas.{way_by_name}
 
 -- a statement that came to a branch
 abbrev pub asking : Seen → Stmt → Asking
@@ -123,8 +124,7 @@ target_no p l given link table (Some node) t is = edge_no p l given node link ta
 
 -- a statement that runs at a node names its table barely
 bare_so : (p : Place) (d : Durable) (l : Live) (given : ℕ) (s : Stmt) (t : Table) → way_of p d l given s ≡ Runs_here t → bare_name (ref_of s) ≡ Some (ref_of s).name
-unfolding way_of
-bare_so p d l given s t is = by (ref_of s).link is
+bare_so p d l given s t is = by (ref_of s).link (way_by_name p d l given s (Runs_here t) tt is)
   where
     by : (link : Option (List ℕ)) → way_named p d l given (ref_named d (ref_of s) link) ≡ Runs_here t → (if is_none link then Some (ref_of s).name else None) ≡ Some (ref_of s).name
     by None is = refl

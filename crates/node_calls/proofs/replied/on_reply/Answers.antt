@@ -28,4 +28,5 @@ returns-in_default-replying-clause-gives c =
 pub returns-clause-gives : goal.returns-clause-gives
 returns-clause-gives c =
     reply_so (kept_in c.args.memory.now) c.args.to.now c.in-Some.live.now (sym c.in-Some.ensures.live) c.args.from c.args.call c.args.weight c.args.count c.args.told c.in-Some-replying.replier.number
-    c.in-Some-replying.replier.edge.now c.in_ok-heard.heard _ _ _ _ (sym c.in-Some-replying.ensures) c.in_ok-heard.ensures c.hear.ensures c.hear_gone.ensures c.in_ok-draft.ensures.gives
+    c.in-Some-replying.replier.edge.now c.in_ok-heard.heard _ _ _ _ (sym c.in-Some-replying.ensures)
+    (sym c.back_step.ensures ∙ c.in_default-back_step.is) c.in_ok-heard.ensures c.hear.ensures c.hear_gone.ensures c.in_ok-draft.ensures.gives
