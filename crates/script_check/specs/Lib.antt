@@ -1,0 +1,4 @@
+pub mod Places
+pub mod Front
+pub mod Found
+pub mod Walking
