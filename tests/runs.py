@@ -13,7 +13,8 @@ def proved(name="dtx"):
     """Where the proved program of this name stands: the one that ./prove built, or the one in release/ of these very sources."""
     found = subprocess.run([TOP / "release/program", name], capture_output=True, text=True)
     if found.returncode:
-        sys.exit(f"there is no proved {name} of these sources: run ./prove{' chart' if name == 'dtx-chart' else ''}")
+        crate = {"dtx-chart": " chart", "dtx-state": " dtx_state"}.get(name, "")
+        sys.exit(f"there is no proved {name} of these sources: run ./prove{crate}")
     return found.stdout.strip()
 
 

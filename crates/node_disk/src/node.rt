@@ -7,6 +7,7 @@ ghost use Rattle.record_log.specs.Held.{HoldRecords};
 ghost use Rattle.node_rules.specs.Sessions.{session_at};
 ghost use Rattle.undo_view.specs.Views.{undo_rows};
 ghost use Rattle.node_core.specs.Able.{MayTake};
+ghost use Rattle.node_memory.specs.Parts.{kept_in};
 ghost use Rattle.node_disk.specs.Incoming.{IsReadAs};
 ghost use Rattle.node_disk.specs.Spellable.{IsSpellable};
 ghost use Rattle.node_disk.specs.Starts.{IsStartable, CanBeStarted};
@@ -105,6 +106,13 @@ impl<D: Disk> Node<D> {
         ensures { IfOk result (λ undos. undos ≡ undo_rows (kept_of self.now).owns (kept_of self.now).stored.doubts) }
     {
         undos(self.alloc, &self.memory.store)
+    }
+
+    /// All that the node keeps in memory.
+    pub fn memory(&self) -> &Memory
+        ensures { kept_in result.now ≡ kept_of self.now }
+    {
+        &self.memory
     }
 
     /// The disk.

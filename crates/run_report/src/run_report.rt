@@ -76,6 +76,20 @@ impl RunReport {
         })
     }
 
+    /// Whether HOLD is on.
+    pub fn is_holding(&self) -> bool
+        ensures { result ≡ self.now.hold }
+    {
+        self.hold
+    }
+
+    /// The orders on the disk of each node that have not struck.
+    pub fn orders(&self) -> &[DiskOrders]
+        ensures { result.now ≡ self.now.orders }
+    {
+        &self.orders
+    }
+
     /// Whether a session has a pending call.
     pub fn has_call(&self, node: u8, session: u32) -> bool
         ensures { result ≡ has_call_of self.now node session }

@@ -12,4 +12,6 @@ mod refusing;
 mod run;
 
 pub use outcome::{Outcome, Run, Status};
+pub use places::{node_names, places};
+pub use refusing::explain_line;
 pub use run::{run_script, run_source};

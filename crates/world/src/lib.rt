@@ -9,6 +9,7 @@ mod beginning;
 mod calls;
 mod due;
 mod laws;
+mod looking;
 mod mail;
 mod network;
 mod pending;

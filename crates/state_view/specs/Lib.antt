@@ -1,0 +1,9 @@
+pub mod Nodes
+pub mod Reach
+pub mod Story
+pub mod Truth
+pub mod Way
+pub mod Doubts
+pub mod Orphans
+pub mod State
+pub mod Lines
