@@ -8,7 +8,8 @@ a bad script, wrong words and a made script. In each further run one call fails,
 
     - of memory: the run ends with status 3 and nothing written, or as if nothing was refused;
     - a read of the script: it ends with status 4 and nothing written;
-    - a write of the output, or a write that takes no byte: it ends with status 5, and what was written before stands.
+    - a write of the output, or a write that takes no byte: it ends with status 5, and what was written before stands, at least a
+      byte and at most 100 for each write before.
 
 Of the calls of one kind in one story at most 200 fail, spread over the run. With --all at most 3,000 do, which are all of each
 example; that takes some minutes. A read or a write moves at most 100 bytes here, so that there are several of them.
@@ -90,7 +91,8 @@ def is_due(kind, number, whole, end):
         return end in (End(3, b""), whole)
     if kind == "read":
         return end == End(4, b"")
-    return end == End(5, whole.output[: MOST * (number - 1)])
+    before = number - 1  # writes, each of some bytes
+    return end == End(5, whole.output[: len(end.output)]) and before <= len(end.output) <= MOST * before
 
 
 def places(count, most):
