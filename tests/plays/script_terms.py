@@ -9,7 +9,7 @@ from statement_terms import statement_term
 
 KIND_NAMES = (
     "Open Opened Exec Reply Prepare Prepared ReadOnly Ready Abort CommitPoint Committed RolledBack InDoubt Ack"
-    " Forgotten Rollback Ask"
+    " Forgotten Rollback Ask OpenAt Back"
 ).split()
 KINDS = {name.upper(): f"kind_names.{name}" for name in KIND_NAMES}
 
@@ -35,6 +35,7 @@ FORMS = (
     ("PUMP", "pump_all"),
     ("GIVEUP AT node SESSION number", "commands.GiveUp"),
     ("RECO node", "commands.Reco"),
+    ("CHECKPOINT node", "commands.Checkpoint"),
     ("SHOW PENDING node", "commands.ShowPending"),
     ("SHOW NEIGHBORS node", "commands.ShowNeighbors"),
     ("SHOW BOOK", "commands.ShowBook"),

@@ -183,17 +183,39 @@ def read_commit(reader):
 
 
 def read_rollback(reader):
-    """`[WORK] [FORCE 'text']`"""
+    """`[WORK] [FORCE 'text' | TO [SAVEPOINT] id]`; `TO SAVEPOINT` alone names the savepoint SAVEPOINT"""
     reader.word("WORK")
-    return call("stmts.RollbackForce", codes(reader.take("text"))) if reader.word("FORCE") else "stmts.Rollback"
+    if reader.word("FORCE"):
+        return call("stmts.RollbackForce", codes(reader.take("text")))
+    if not reader.word("TO"):
+        return "stmts.Rollback"
+    if reader.word("SAVEPOINT") and reader.next_kind() is None:
+        return call("stmts.RollbackTo", codes("SAVEPOINT"))
+    return call("stmts.RollbackTo", codes(reader.identifier()))
+
+
+def read_savepoint(reader):
+    """`id`"""
+    return call("stmts.Savepoint", codes(reader.identifier()))
+
+
+def read_set_transaction(reader):
+    """`TRANSACTION READ ONLY`"""
+    reader.need_word("TRANSACTION", "READ", "ONLY")
+    return "stmts.SetReadOnly"
 
 
 def read_alter(reader):
-    """`SESSION ADVISE (COMMIT | ROLLBACK | NOTHING)` or `SYSTEM (ENABLE | DISABLE) DISTRIBUTED RECOVERY`"""
+    """`SESSION ADVISE (COMMIT | ROLLBACK | NOTHING)`, `SYSTEM (ENABLE | DISABLE) DISTRIBUTED RECOVERY` or
+    `SYSTEM SET COMMIT_POINT_STRENGTH = digits`"""
     if reader.word("SESSION", "ADVISE"):
         advice = reader.one_of("word", ("COMMIT", "ROLLBACK", "NOTHING"))
         return call("stmts.Advise", option(None if advice == "NOTHING" else f"advices.{advice.title()}"))
     reader.need_word("SYSTEM")
+    if reader.word("SET"):
+        reader.need_word("COMMIT_POINT_STRENGTH")
+        reader.need_sign("=")
+        return call("stmts.SetStrength", reader.number(0, 255))
     switch = reader.one_of("word", ("ENABLE", "DISABLE"))
     reader.need_word("DISTRIBUTED", "RECOVERY")
     return call("stmts.Recovery", boolean(switch == "ENABLE"))
@@ -217,6 +239,8 @@ STATEMENTS = {
     "SELECT": read_select,
     "COMMIT": read_commit,
     "ROLLBACK": read_rollback,
+    "SAVEPOINT": read_savepoint,
+    "SET": read_set_transaction,
     "ALTER": read_alter,
     "EXECUTE": read_execute,
     "EXEC": read_execute,

@@ -33,7 +33,7 @@ use Rattle.answer_origin_laws.proofs.CallTurnLemmas.{all_so}
 use Rattle.answer_origin_laws.proofs.ComeLemmas.{below_or, before_end, before_so}
 use Rattle.answer_origin_laws.proofs.UptoLemmas.{one_more, facts_there, stand_at, may_at}
 use Rattle.answer_done_laws.specs.DoneLaws.{ended_by, ended_in, answers_to, is_done, Stands, AnswersAtOnce}
-use Rattle.run_claims.specs.Recorded.{is_recorded, Records, A_table, A_link, A_synonym, A_setting, A_commit_at, A_commit, A_rollback, A_mixed_row, A_lost_row}
+use Rattle.run_claims.specs.Recorded.{is_recorded, Records, A_table, A_link, A_synonym, A_setting, A_strength, A_commit_at, A_commit, A_rollback, A_mixed_row, A_lost_row}
 use Rattle.answer_done_laws.proofs.DoneLemmas.{each_is_answered}
 use Rattle.answer_done_laws.proofs.LineRunLemmas.{answer_told, stop_told, told_at_last}
 use Rattle.answer_done_laws.proofs.LineStayLemmas.{Has}
@@ -78,6 +78,7 @@ recorded (A_table t) = refl
 recorded (A_link l) = refl
 recorded (A_synonym y) = refl
 recorded (A_setting on) = refl
+recorded (A_strength strength) = refl
 recorded (A_commit_at id scn b named) = refl
 recorded (A_commit id b named) = refl
 recorded (A_rollback id b named) = refl

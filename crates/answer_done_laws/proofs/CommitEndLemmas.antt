@@ -57,6 +57,7 @@ heard_commits m k (inputs.Message msg) what now = record { commits = now.commits
 heard_commits m k (inputs.Call n s) what now = now
 heard_commits m k (inputs.GiveUp n) what now = now
 heard_commits m k inputs.Reco what now = now
+heard_commits m k inputs.Checkpoint what now = now
 
 module _ (t : History) (run : IsTheRunOf t) where
   module _ (i : ℕ) (u : Turn) (there : slice_get t.trace i ≡ Some (happenings.Turn u)) where

@@ -1,21 +1,22 @@
 -- A COMMIT that is pending is answered once, by Commit complete or by a refusal, and is pending as a COMMIT until then.
-use Rattle.std.proofs.Common.{◌≡◌, ◌≢◌, ℕ, ◌==◌, ◌&&◌, ◌⊎◌, Bool, true, false, if◌then◌else◌, List, [], ◌∷◌, ◌++◌, map, filter, is_none, unwrap_or, Option, Some, None, inl, inr, refl, sym, ap, ◌∙◌}
+use Rattle.std.proofs.Common.{◌≡◌, ◌≢◌, ℕ, ◌==◌, ◌&&◌, ◌⊎◌, Bool, true, false, if◌then◌else◌, List, [], ◌∷◌, ◌++◌, map, filter, is_none, unwrap_or, Option, Some, None, inl, inr, refl, sym, ap, subst, ◌∙◌}
 use Rattle.std.proofs.lemmas.Bool.{cond_both, eqb-true, eq-eqb}
 use Rattle.commit_forget.specs.declared.next.Next.TheVariants as nexts
-use Rattle.node_rules.specs.Data.{Act, Advice, Answer, BranchId, Decision, Input, Kind, Live, Place, Refusal, Stmt}
+use Rattle.node_rules.specs.Data.{Act, Answer, BranchId, Decision, Input, Kind, Live, Place, Refusal, Stmt, Task}
 use Rattle.node_rules.specs.Data.acts
 use Rattle.node_rules.specs.Data.answers
 use Rattle.node_rules.specs.Data.decisions
 use Rattle.node_rules.specs.Data.inputs
 use Rattle.node_rules.specs.Data.kinds
 use Rattle.node_rules.specs.Data.stmts
+use Rattle.node_rules.specs.Data.tasks
 use Rattle.node_rules.specs.declared.session.PendingCall.TheVariants as pending
 use Rattle.node_rules.specs.declared.session.Session.{Session}
 use Rattle.node_rules.specs.declared.session.Finished.{Finished}
 use Rattle.node_rules.specs.Calls.{answered_sessions, answer_ends, call_pends, heard_answer, heard_sessions, hears_reply, is_gone, with_edge}
 use Rattle.session_tree.specs.Live.{new_edge}
 use Rattle.node_rules.specs.declared.work.Going.{Going}
-use Rattle.node_rules.specs.Client.{commit_by, commit_call, new_root, root_at}
+use Rattle.node_rules.specs.Client.{commit_at, commit_by, commit_call, new_root, root_at}
 use Rattle.node_rules.specs.Commit.{decided_sessions, decision_answers}
 use Rattle.node_rules.specs.Inputs.{Came}
 use Rattle.node_rules.specs.NodeState.{Branch, TurnDraft, NodeState, branch_at, live_at}
@@ -26,10 +27,11 @@ use Rattle.node_rules.specs.Statement.{ran, after_run}
 use Rattle.node_rules.specs.Words.{set_numbered}
 use Rattle.node_rules.proofs.StandLemmas.{live_so, RootSo, root_so}
 use Rattle.node_rules.proofs.Steps as steps
-use Rattle.node_rules.proofs.Steps.{Asked, Step}
+use Rattle.node_rules.specs.Marks.{node_back}
+use Rattle.node_rules.proofs.Steps.{Asked, Goes_to, Calls_back, Step}
 use Rattle.run_rules.specs.Calls.{is_complete}
 use Rattle.run_base_laws.proofs.RestStepLemmas.{going_of}
-use Rattle.run_base_laws.proofs.RootLemmas.{session_or_before}
+use Rattle.run_base_laws.proofs.RootLemmas.{session_or_before, counted_session}
 use Rattle.run_ready_laws.proofs.CallEndLemmas.{none_of, set_here}
 use Rattle.answer_done_laws.specs.DoneLaws.{answers_to}
 
@@ -146,7 +148,7 @@ act_so m k l site_below _ commits = same_so m k.sessions commits
 pub record Commits (m : ℕ) (input : Input) (k : NodeState) : Type 0 where
   pub commits : (session_at k.sessions m).call ≡ pending.Commit
   pub roots : (n : ℕ) (b : BranchId) → (session_at k.sessions n).root ≡ Some b → b.session ≡ n
-  pub below : (from to : BranchId) (call given : ℕ) (advice : Option Advice) (s : Stmt) → Came input from to (kinds.Exec call given advice s) → (l : Live) → live_at k to ≡ Some l → l.parent ≢ None
+  pub below : (from to : BranchId) (call : ℕ) (task : Task) → Came input from to (kinds.Exec call task) → (l : Live) → live_at k to ≡ Some l → l.parent ≢ None
   pub rests : ((n : ℕ) (s : Option Stmt) → input ≡ inputs.Call n s → ⊥) → (x : Branch) → branch_at k x.live.me ≡ Some x → x.live.parent ≡ None → x.live.me.session ≡ m → x.work.going ≡ None
 
 module _ (m : ℕ) (p : Place) (input : Input) (other : (s : Option Stmt) → input ≡ inputs.Call m s → ⊥) where
@@ -158,30 +160,51 @@ module _ (m : ℕ) (p : Place) (input : Input) (other : (s : Option Stmt) → in
 
   -- a statement that came is that of another root
   asked_other : {k : NodeState} {x : Branch} {s : Stmt} {given : ℕ} → Commits m input k → Asked k input x s given → x.live.parent ≡ None → (x.live.me.session == m) ≡ false
-  asked_other now (steps.By_call n x s call rows has code live) root = ap (λ i. i == m) (now.roots n x.live.me has) ∙ not_mine n (Some s) call
-  asked_other {k = k} now (steps.By_exec x from call given advice s came live runs) root = absurd (now.below from x.live.me call given advice s came x.live (live_so k x.live.me x live) root)
+  asked_other now (steps.By_call n x s call rows has code live may) root = ap (λ i. i == m) (now.roots n x.live.me has) ∙ not_mine n (Some s) call
+  asked_other {k = k} now (steps.By_exec x from call given advice s came live runs) root = absurd (now.below from x.live.me call (tasks.Run given advice s) came x.live (live_so k x.live.me x live) root)
+
+  -- so is a root that goes back
+  goes_other : {k : NodeState} {x : Branch} {step : ℕ} → Commits m input k → Goes_to k input x step → x.live.parent ≡ None → (x.live.me.session == m) ≡ false
+  goes_other now (steps.By_rollback_to n x name step call has code live set) root = ap (λ i. i == m) (now.roots n x.live.me has) ∙ not_mine n (Some (stmts.RollbackTo name)) call
+  goes_other {k = k} now (steps.By_back x from call keep came live runs) root = absurd (now.below from x.live.me call (tasks.GoBack keep) came x.live (live_so k x.live.me x live) root)
 
   -- nor is one that waited
   waits_other : {k : NodeState} (x : Branch) (g : Going) → Commits m input k → ((n : ℕ) (s : Option Stmt) → input ≡ inputs.Call n s → ⊥) → branch_at k x.live.me ≡ Some x → x.work.going ≡ Some g → x.live.parent ≡ None
       → (x.live.me.session == m) ≡ false
   waits_other x g now no_call live going root = apart x.live.me.session m (λ same. (let none = now.rests no_call x live root same in absurd (cc (none, going))))
 
+  -- nor a root whose children are to go back
+  calling_other : {k : NodeState} {x : Branch} {step from : ℕ} → Commits m input k → Calls_back k input x step from → x.live.parent ≡ None → (x.live.me.session == m) ≡ false
+  calling_other now (steps.Has_gone j x step goes is) root =
+      let was : Commits m input (node_back j x step) = subst (Commits m input) is now in
+      goes_other {k = j} (record { commits = was.commits; roots = was.roots; below = was.below; rests = was.rests }) goes root
+  calling_other now (steps.Has_heard x weight count a i e g step answered going errand plain) root =
+      waits_other x g now (came_no_call answered.from x.live.me (kinds.Reply answered.call weight count a) answered.came) answered.live going root
+
   -- each step of an input that is no call of the session
   pub commit_on : {k : NodeState} {d : TurnDraft} → Step p input k d → Commits m input k → CommitSo m d.after.sessions d.ended
-  commit_on (steps.Begins {k = k} n s call rows range none step) now =
+  commit_on (steps.Begins {k = k} n s read_at call begins range none step) now =
       let mine : (n == m) ≡ false = not_mine n (Some s) call in
       let root : BranchId = new_root p k n in
-      let new : Session = record (session_at k.sessions n) { seq = root.seq; root = Some root } in
+      let new : Session = record (session_at k.sessions n) { seq = root.seq; root = Some root; calls = 0 } in
       commit_on step (record {
         commits = other_call m k.sessions now.commits n new mine;
         roots = λ q b has. elim (session_or_before k.sessions n q new) [
           | inl still ↦ now.roots q b (sym (ap (λ (x : Session). x.root) still) ∙ has)
           | inr set ↦ (let it : Some root ≡ Some b = sym (ap (λ (x : Session). x.root) set.1) ∙ has in let same : root ≡ b = cc in ap (λ (x : BranchId). x.session) (sym same) ∙ set.0)
         ];
-        below = λ from to c given advice st came. absurd (came_no_call from to (kinds.Exec c given advice st) came n (Some s) call);
+        below = λ from to c task came. absurd (came_no_call from to (kinds.Exec c task) came n (Some s) call);
         rests = λ no_call. absurd (no_call n (Some s) call);
       })
-  commit_on (steps.Pends {k = k} n l given call has live code step) now =
+  commit_on (steps.Counts_call {k = k} n s call counts step) now =
+      commit_on step (record {
+        commits = ap (λ (x : Session). x.call) (counted_session k.sessions n m (session_at k.sessions n).root).1 ∙ now.commits;
+        roots = λ q b has. now.roots q b (ap (λ (x : Session). x.root) (sym (counted_session k.sessions n q (session_at k.sessions n).root).1) ∙ has);
+        below = now.below;
+        rests = now.rests;
+      })
+  commit_on (steps.Goes_back x step goes next) now = commit_on next (record { commits = now.commits; roots = now.roots; below = now.below; rests = now.rests })
+  commit_on (steps.Pends {k = k} n l given call has live code writer step) now =
       let mine : (n == m) ≡ false = not_mine n (Some (stmts.Commit given)) call in
       let set : Session = record (session_at k.sessions n) { call = pending.Commit } in
       commit_on step (record {
@@ -190,7 +213,7 @@ module _ (m : ℕ) (p : Place) (input : Input) (other : (s : Option Stmt) → in
           | inl still ↦ now.roots q b (sym (ap (λ (x : Session). x.root) still) ∙ has_root)
           | inr new ↦ now.roots q b (ap (λ i. (session_at k.sessions i).root) (sym new.0) ∙ (sym (ap (λ (x : Session). x.root) new.1) ∙ has_root))
         ];
-        below = λ from to c given_room advice st came. absurd (came_no_call from to (kinds.Exec c given_room advice st) came n (Some (stmts.Commit given)) call);
+        below = λ from to c task came. absurd (came_no_call from to (kinds.Exec c task) came n (Some (stmts.Commit given)) call);
         rests = λ no_call. absurd (no_call n (Some (stmts.Commit given)) call);
       })
   commit_on (steps.Lets_reads_go l comment site_below live begins step) now = commit_on step (record { commits = now.commits; roots = now.roots; below = now.below; rests = now.rests })
@@ -207,6 +230,8 @@ module _ (m : ℕ) (p : Place) (input : Input) (other : (s : Option Stmt) → in
       let g = going_of x answered.from answered.call i e answered.waits in
       answered_so m (heard_sessions k.sessions y.live a) (heard_so m k.sessions now.commits y.live a) y.live (heard_answer y.live e.link a) x.live.parent
       (waits_other x g.0 now (came_no_call answered.from x.live.me (kinds.Reply answered.call weight count a) answered.came) answered.live g.1)
+  commit_on (steps.Backs {k = k} x step from i calls next) now = going_so m k.sessions now.commits x.live (calling_other now calls)
+  commit_on (steps.Is_back {k = k} x step from calls none) now = answered_so m k.sessions now.commits x.live _ x.live.parent (calling_other now calls)
   commit_on (steps.Acts {k = k} l site_below a why) now = act_so m k l site_below a now.commits
   commit_on (steps.Does {k = k} s from (nexts.End d) kept why) now = decision_so m k.sessions now.commits s.me d
   commit_on (steps.Does {k = k} s from (nexts.Meet d mixed) kept why) now = decision_so m k.sessions now.commits s.me d
@@ -221,9 +246,11 @@ module _ (m : ℕ) (p : Place) (input : Input) (other : (s : Option Stmt) → in
   commit_on (steps.Advises {k = k} n a call) now =
       let set : Session = record (session_at k.sessions n) { advice = a } in
       ended_so m k.sessions now.commits (set_numbered k.sessions n set) n _ (kept_call m k.sessions now.commits n set refl) (not_mine n _ call)
-  commit_on (steps.Rolls_back {k = k} n x call has live) now =
+  commit_on (steps.Leaves {k = k} n s d x call ends has live) now =
       let set : Session = no_transaction (session_at k.sessions n) in
       ended_so m k.sessions now.commits (set_numbered k.sessions n set) n _ (other_call m k.sessions now.commits n set (not_mine n _ call)) (not_mine n _ call)
+  commit_on (steps.Sets_read_only {k = k} n call) now = ended_so m k.sessions now.commits k.sessions n _ now.commits (not_mine n _ call)
+  commit_on (steps.Sets_savepoint {k = k} n x name call has code live) now = ended_so m k.sessions now.commits k.sessions n _ now.commits (not_mine n _ call)
   commit_on (steps.Gives_up {k = k} n x gives has calls live) now =
       let mine : (n == m) ≡ false = apart n m (λ same. (let commits : (session_at k.sessions n).call ≡ pending.Commit = ap (λ i. (session_at k.sessions i).call) same ∙ now.commits in absurd (cc (commits, calls)))) in
       let zs : List Session = with_call k.sessions n pending.NoCall in
@@ -248,9 +275,13 @@ commit_comes k n given = by (session_at k.sessions n).code (root_at k n) (root_s
     by None None so = alone k.sessions _ (inl refl)
     by (Some c) None so = alone k.sessions _ (inl refl)
     by (Some c) (Some x) so = alone k.sessions _ (inr (_, refl))
-    by None (Some x) so =
-        let set : Session = record (session_at k.sessions n) { call = pending.Commit } in
-        let zs : List Session = with_call k.sessions n pending.Commit in
-        let commits : (session_at zs n).call ≡ pending.Commit = ap (λ (s : Session). s.call) (set_here k.sessions n x.live.me set so.0) in
-        let l : Live = collecting (with_comment x.live (unwrap_or given [])) true in
-        act_so n (without_read_keys (record k { sessions = zs }) x.live.me) l true (first_act l true) commits
+    by None (Some x) so = by_reading x.live.read_at
+      where
+        by_reading : (read_at : Option ℕ) → CommitSo n (commit_at k n (unwrap_or given []) x read_at).after.sessions (commit_at k n (unwrap_or given []) x read_at).ended
+        by_reading (Some scn) = alone _ _ (inl refl)
+        by_reading None =
+            let set : Session = record (session_at k.sessions n) { call = pending.Commit } in
+            let zs : List Session = with_call k.sessions n pending.Commit in
+            let commits : (session_at zs n).call ≡ pending.Commit = ap (λ (s : Session). s.call) (set_here k.sessions n x.live.me set so.0) in
+            let l : Live = collecting (with_comment x.live (unwrap_or given [])) true in
+            act_so n (without_read_keys (record k { sessions = zs }) x.live.me) l true (first_act l true) commits

@@ -31,7 +31,7 @@ use Rattle.run_rules.specs.Lawful.{MayHappen, MayTurn, Comes, IsOwed}
 use Rattle.run_base_laws.proofs.LawfulLemmas.{serves, of_wrote, turn_of_node}
 use Rattle.run_base_laws.proofs.NodeLemmas.{each_that_may}
 use Rattle.answer_done_laws.specs.DoneLaws.{ended_by, ended_in, answers_to, is_done, Stands, WritesWhatIsDone, DoneIsWritten, AnswersAtOnce, EachIsAnswered, IsAsked, DoesWhatIsWritten, WrittenIsDone}
-use Rattle.run_claims.specs.Recorded.{is_recorded, is_of_statement, Records, A_table, A_link, A_synonym, A_setting, A_commit_at, A_commit, A_rollback, A_mixed_row, A_lost_row}
+use Rattle.run_claims.specs.Recorded.{is_recorded, is_of_statement, Records, A_table, A_link, A_synonym, A_setting, A_strength, A_commit_at, A_commit, A_rollback, A_mixed_row, A_lost_row}
 
 -- ---- the answers of one session
 
@@ -102,6 +102,7 @@ module _ (p : Place) (k : NodeState) (n : ℕ) (rests : (session_at k.sessions n
   call_comes_to (stmts.CreateLink l) one = made (stmts.CreateLink l) _ _ _ (is_link k.stored.durable l.name) (A_link l)
   call_comes_to (stmts.CreateSynonym y) one = made (stmts.CreateSynonym y) _ _ _ (is_used k.stored.durable y.name) (A_synonym y)
   call_comes_to (stmts.Recovery on) one = written (A_setting on)
+  call_comes_to (stmts.SetStrength strength) one = written (A_strength strength)
   call_comes_to (stmts.CommitForce id scn) one = commit_forced id scn (branch_to_force p.names k.stored.durable.kept id) refl
   call_comes_to (stmts.RollbackForce id) one = rollback_forced id (branch_to_force p.names k.stored.durable.kept id) refl
   call_comes_to (stmts.PurgeMixed id) one = hidden (stmts.PurgeMixed id) id (find (may_purge true id) k.stored.durable.kept) (A_mixed_row id)
@@ -124,14 +125,17 @@ module _ (p : Place) (input : Input) where
   made_called n call (steps.Makes_link l free) one = (n, stmts.CreateLink l, call, refl)
   made_called n call (steps.Makes_synonym y free) one = (n, stmts.CreateSynonym y, call, refl)
   made_called n call (steps.Sets_recovery on) one = (n, stmts.Recovery on, call, refl)
+  made_called n call (steps.Sets_strength strength) one = (n, stmts.SetStrength strength, call, refl)
 
   purge_called : (n : ℕ) (mixed : Bool) (id : List ℕ) → IsCall input n (steps.purge_of mixed id) → Calls
   purge_called n true id call = (n, stmts.PurgeMixed id, call, refl)
   purge_called n false id call = (n, stmts.PurgeLost id, call, refl)
 
   called : {k : NodeState} {d : TurnDraft} → Step p input k d → IfSome d.wrote Called
-  called (steps.Begins n s call rows fit none step) = called step
-  called (steps.Pends n l given call has live code step) = called step
+  called (steps.Begins n s read_at call begins fit none step) = called step
+  called (steps.Counts_call n s call counts step) = called step
+  called (steps.Goes_back x step goes next) = called next
+  called (steps.Pends n l given call has live code writer step) = called step
   called (steps.Lets_reads_go l comment site_below live begins step) = called step
   called (steps.Counts_ack s from kept came counts step) = called step
   called (steps.Acts l site_below acts.Seal why) = λ one. absurd (true≢false (sym one))
@@ -145,6 +149,7 @@ module _ (p : Place) (input : Input) where
   called (steps.Forces_commit n id b call named) = λ one. (n, stmts.CommitForce id None, call, refl)
   called (steps.Forces_rollback n id b call named) = λ one. (n, stmts.RollbackForce id, call, refl)
   called (steps.Hides n mixed id s call found) = λ one. purge_called n mixed id call
+  called (steps.Images checkpoint) = λ one. absurd (true≢false (sym one))
   called (steps.Gives_up_commit n b None gives has calls live) = tt
   called _ = tt
 

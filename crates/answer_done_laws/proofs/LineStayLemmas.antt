@@ -162,3 +162,4 @@ module _ (running : ℕ) where
   input_follow w node (inputs.GiveUp session) = record { lines = refl; others = refl; own = inl refl }
   input_follow w node (inputs.Message m) = record { lines = refl; others = refl; own = inl refl }
   input_follow w node inputs.Reco = record { lines = refl; others = refl; own = inl refl }
+  input_follow w node inputs.Checkpoint = record { lines = refl; others = refl; own = inl refl }

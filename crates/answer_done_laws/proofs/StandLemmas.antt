@@ -57,7 +57,7 @@ set_so xs m n rs P same new = at (set_or_before xs m n rs)
 
 -- nothing is asked of nodes but that each has a disk
 every : Keeps (λ p rs. Unit {0}) (λ p rs k. Unit {0})
-every = keeps_alone (record { starts = λ s. tt; hears = λ k scn now. tt; steps = λ p input k d step now. tt })
+every = keeps_alone (record { starts = λ s vs. tt; hears = λ k scn now. tt; steps = λ p input k d step now. tt })
 
 abbrev Disks : List Place → Facts → Type 0
 Disks places f = AllStand (λ p rs. Unit {0}) (λ p rs k. Unit {0}) every places f

@@ -1,6 +1,6 @@
 -- In the run of a script each accepted answer of a statement with a table has its place: the call of its command, the run
 -- that answered, and the way there.
-use Rattle.std.proofs.Common.{◌≡◌, ℕ, ◌+◌, ◌≤◌, List, [], ◌∷◌, ◌++◌, length, Option, Some, refl, sym, ap, subst, ◌∙◌, arith}
+use Rattle.std.proofs.Common.{inl, inr, ◌≡◌, ℕ, ◌+◌, ◌≤◌, List, [], ◌∷◌, ◌++◌, length, Option, Some, refl, sym, ap, subst, ◌∙◌, arith}
 use Rattle.std.specs.Prelude.{slice_get, take, true, false}
 use Rattle.std.proofs.lemmas.List.{append_assoc, length-append}
 use Rattle.answer_origin_laws.specs.CallTurns.{BringsText, What_is_asked, A_commit_first, Then_the_create, CameBefore, TurnsFindCallsCome}
@@ -26,7 +26,7 @@ use Rattle.run_rules.specs.Trail.{trail_after}
 use Rattle.tree_laws.proofs.PrefixLemmas.{f_at, facts_join}
 use Rattle.tree_laws.proofs.TimeLemmas.{may_of, lawful_split}
 use Rattle.tree_trail_laws.proofs.MomentLemmas.{tr_at, trail_one_on, at_moment}
-use Rattle.answer_origin_laws.specs.LeadLaws.{CallAnsweredBy, IsTracedFor, EndsAsReplied, EndsInItsTurn}
+use Rattle.answer_origin_laws.specs.LeadLaws.{IsRollbackTo, CallAnsweredBy, IsTracedFor, EndsAsReplied, EndsInItsTurn}
 use Rattle.answer_origin_laws.specs.ToldLaws.{EndedBy}
 use Rattle.answer_origin_laws.proofs.AtOnceLemmas.{calls_end_at_once}
 use Rattle.answer_origin_laws.proofs.PartLemmas.{split_at, longer}
@@ -166,7 +166,29 @@ module _ (found : TurnsFindCallsCome) (t : History) (due : IsTheRunOf t) (comman
       let may = may_of t whole hs (happenings.Turn u) cut_there.1 cut_there.2 in
       let took = came_sent (f_at t hs) may.0 u.node u.input u.took may.1.comes from to (kinds.Reply call weight count said) came_so in
       let is = at_moment t (EndsAsReplied t) (calls_end_as_replied t whole) hs (happenings.Turn u) cut_there.1 cut_there.2 e.outcome outcome took.0 took.1 from to call weight count said came_so e.session a [] only good in
-      record { run = is.0; root = is.1; by_it = is.3; told = is.4 e.uncut }
+      elim is [
+        | inl ran ↦ record { run = ran.0; root = ran.1; by_it = ran.3; told = ran.4 e.uncut }
+        | inr back ↦ absurd (not_back back.1)
+      ]
+    where
+      -- its statement is no ROLLBACK TO
+      not_back : IsRollbackTo t (tr_at t hs).moment u.node e.session → ⊥
+      not_back back =
+          let there : (tr_at t hs).moment ≡ e.ended = moment_at t hs ∙ cut_there.3 in
+          let last : LastCall t u.node e.session e.ended = record {
+            moment = back.moment;
+            turn = back.turn;
+            there = back.there;
+            here = back.here;
+            text = Some (stmts.RollbackTo back.name);
+            came = back.came;
+            soon = omega (arith, back.soon, there);
+            last = λ j high low w at here q call. back.last j high (omega (arith, low, there)) w at here q call;
+          } in
+          let text : Some (stmts.RollbackTo back.name) ≡ Some s = one_text t u.node e.session e.ended last its_call ∙ its_text in
+          let one : stmts.RollbackTo back.name ≡ s = cc in
+          let none : is_of_rows s ≡ false = ap is_of_rows (sym one) in
+          cc (none, rows)
   its_end (By_commit commits) =
       let last : (x : LastCall t u.node e.session e.ended) × (comment : Option (List ℕ)) × (x.text ≡ Some (stmts.Commit comment))
       = subst (λ m. (x : LastCall t u.node e.session m) × (comment : Option (List ℕ)) × (x.text ≡ Some (stmts.Commit comment))) cut_there.3 (commit_last t whole hs u cut_there.1 cut_there.2 e.session commits) in

@@ -1,13 +1,15 @@
 -- A live branch whose statement waits sent it down last, and a root whose session's statement is pending waits. What keeps that so.
-use Rattle.std.proofs.Common.{◌≡◌, ◌≢◌, ℕ, ◌+◌, ◌&&◌, Bool, true, false, if◌then◌else◌, position, List, [], ◌∷◌, ◌++◌, length, is_none, option_map, Option, Some, None, inl, inr, refl, sym, ap, subst, ◌∙◌, arith}
+use Rattle.std.proofs.Common.{◌≡◌, ◌≢◌, ℕ, ◌+◌, ◌-◌, ◌≤◌, ◌==◌, ◌&&◌, Bool, true, false, if◌then◌else◌, position, List, [], ◌∷◌, ◌++◌, length, is_none, option_map, Option, Some, None, inl, inr, refl, sym, ap, subst, ◌∙◌, arith, length-drop}
+use Rattle.std.specs.Prelude.{drop}
 use Rattle.std.specs.List.{AllByRecursion}
 use Rattle.std.specs.Str.{bytes_eq}
 use Rattle.std.proofs.lemmas.Bool.{cond_both}
 use Rattle.std.proofs.lemmas.List.Quantifiers.{position-Some}
 use Rattle.tran_ids.proofs.BranchLemmas.{same_from_equal}
 use Rattle.session_tree.specs.Live.{children_of, peer_of, edge_at, edge_by_link, next_edge}
-use Rattle.session_tree.specs.Tree.{room}
-use Rattle.node_rules.specs.Data.{Advice, Answer, BranchId, Decision, Edge, Live, Post, Stmt}
+use Rattle.node_rules.specs.Data.{Answer, BranchId, Decision, Edge, Live, Marks, Post, Stmt, Task}
+use Rattle.node_rules.specs.declared.work.Errand.{Errand}
+use Rattle.node_rules.specs.declared.work.Errand.TheVariants as errands
 use Rattle.node_rules.specs.declared.work.Going.{Going}
 use Rattle.node_rules.specs.declared.session.Session.{Session}
 use Rattle.node_rules.specs.declared.work.Waits.{Waits}
@@ -21,7 +23,8 @@ use Rattle.node_rules.specs.Refusals.{dtx}
 use Rattle.node_rules.specs.NodeState.{NodeState, Branch, live_id, work_id, branch_at, post}
 use Rattle.node_rules.specs.LiveBranches.{EachLive, works_of}
 use Rattle.node_rules.specs.Sessions.{session_at, with_call, needs_rollback, no_transaction, commit_is_pending, commit_ended}
-use Rattle.node_rules.specs.Calls.{answered_sessions, answer_says, with_answer, call_pends, heard_sessions, is_gone, advice_of, next_call, exec_to, called, nobody_at, waits_for_opened}
+use Rattle.node_rules.specs.Calls.{answered_sessions, answer_says, with_answer, call_pends, heard_sessions, is_gone, task_for, next_call, exec_to, called, nobody_at, waits_for_opened}
+use Rattle.node_rules.specs.Marks.{kept_call, went_on, next_back}
 use Rattle.node_rules.specs.Commit.{decided_sessions}
 use Rattle.node_rules.specs.Prepare.{abandoned_sessions}
 use Rattle.node_rules.proofs.LiveLemmas.{each_put, each_changed, each_left, each_begun, each_same, branch_parts}
@@ -34,18 +37,25 @@ use Rattle.run_base_laws.proofs.RootLemmas.{session_or_before}
 use Rattle.run_ready_laws.proofs.CallEndLemmas.{none_of}
 use Rattle.answer_origin_laws.proofs.LineKeepLemmas.{next_number}
 use Rattle.answer_laws.proofs.SentDownLemmas.{IsLevel, SendsNoneDown, level_none, other_none, exec_none, last_more, last_now, answer_level}
-use Rattle.answer_laws.specs.StatementEnds.{calls_below, last_sent_down}
+use Rattle.answer_laws.specs.StatementEnds.{calls_below, is_back, last_sent_down}
 
 -- ---- a branch
 
--- what a branch waits for is what it sent down last: its last call over an edge, or an Open
-abbrev pub IsSentLast : List Post → BranchId → List BranchId → Work → Waits → Type 0
-IsSentLast said me peers w (waiting.ForReply i) = (c : BranchId) × (given : ℕ) × (advice : Option Advice) × (s : Stmt) × (numbered peers i ≡ Some c) × (last_sent_down me None said ≡ Some (record { from = me; to = c; kind = kinds.Exec (call_at w i) given advice s }))
-IsSentLast said me peers w (waiting.ForOpened link) = (to : BranchId) × (edge : ℕ) × (root : BranchId) × (depth : ℕ) × (last_sent_down me None said ≡ Some (record { from = me; to = to; kind = kinds.Open edge root depth }))
+-- whether an errand takes the session tree back
+abbrev pub is_back_errand : Errand → Bool
+is_back_errand (errands.Statement s given) = false
+is_back_errand (errands.GoBack step) = true
+
+-- what a branch waits for is what it sent down last: its last call over an edge, for its errand, or an Open
+abbrev pub IsSentLast : List Post → BranchId → List BranchId → Work → Errand → Waits → Type 0
+IsSentLast said me peers w errand (waiting.ForReply i) =
+    (c : BranchId) × (task : Task) × (numbered peers i ≡ Some c) × (last_sent_down me None said ≡ Some (record { from = me; to = c; kind = kinds.Exec (call_at w i) task })) × (is_back task ≡ is_back_errand errand)
+IsSentLast said me peers w errand (waiting.ForOpened link) =
+    (to : BranchId) × (edge : ℕ) × (root : BranchId) × (depth : ℕ) × (read_at : Option ℕ) × (last_sent_down me None said ≡ Some (record { from = me; to = to; kind = kinds.Open edge root depth read_at })) × (is_back_errand errand ≡ false)
 
 -- A branch that waits sent that down last, and a root waits where a statement of its session is pending.
 pub record IsAtWork (said : List Post) (ss : List Session) (l : Live) (w : Work) : Type 0 where
-  pub sent : (g : Going) → w.going ≡ Some g → IsSentLast said l.me (children_of l) w g.waits
+  pub sent : (g : Going) → w.going ≡ Some g → IsSentLast said l.me (children_of l) w g.errand g.waits
   pub works : l.parent ≡ None → (session_at ss l.me.session).call ≡ pending.Statement → (g : Going) × (w.going ≡ Some g)
 
 -- What else is known of it: its session where it is a root, its node, and a call number for each edge.
@@ -55,9 +65,9 @@ pub record IsPlaced (node : ℕ) (ss : List Session) (l : Live) (w : Work) : Typ
   pub numbers : length w.calls ≡ length l.edges
 
 module _ (said says : List Post) (me : BranchId) (peers : List BranchId) (w : Work) (none : SendsNoneDown me says) where
-  pub sent_more : (waits : Waits) → IsSentLast said me peers w waits → IsSentLast (said ++ says) me peers w waits
-  sent_more (waiting.ForReply i) is = (is.0, is.1, is.2, is.3, is.4, last_more me said says none ∙ is.5)
-  sent_more (waiting.ForOpened link) is = (is.0, is.1, is.2, is.3, last_more me said says none ∙ is.4)
+  pub sent_more : (errand : Errand) (waits : Waits) → IsSentLast said me peers w errand waits → IsSentLast (said ++ says) me peers w errand waits
+  sent_more errand (waiting.ForReply i) is = (is.0, is.1, is.2, last_more me said says none ∙ is.3, is.4)
+  sent_more errand (waiting.ForOpened link) is = (is.0, is.1, is.2, is.3, is.4, last_more me said says none ∙ is.5, is.6)
 
 -- the edge of a link is there
 edge_placed : (es : List Edge) (link : List ℕ) (o : Option ℕ) (i : ℕ) → position (λ (x : Edge). bytes_eq x.link link) es ≡ o → option_map (λ place. place + 1) o ≡ Some i → (e : Edge) × (numbered es i ≡ Some e)
@@ -70,6 +80,21 @@ edge_placed (x ∷ es) link (Some j) i at is =
 
 pub edge_there : (l : Live) (link : List ℕ) (i : ℕ) → edge_by_link l link ≡ Some i → (e : Edge) × (edge_at l i ≡ Some e)
 edge_there l link i is = edge_placed l.edges link (position (λ (x : Edge). bytes_eq x.link link) l.edges) i refl is
+
+-- the child that is to go back next is one of those
+on_there : (m : Marks) (step i j : ℕ) (calls : List ℕ) → went_on m step i calls ≡ Some j → (i ≤ j) × (j + 1 ≤ i + length calls)
+on_there m step i j [] is = absurd cc
+on_there m step i j (c ∷ cs) is = by (c == kept_call m step i) is (on_there m step (i + 1) j cs)
+  where
+    by : (q : Bool) → (if q then went_on m step (i + 1) cs else Some i) ≡ Some j → (went_on m step (i + 1) cs ≡ Some j → (i + 1 ≤ j) × (j + 1 ≤ (i + 1) + length cs)) → (i ≤ j) × (j + 1 ≤ i + length (c ∷ cs))
+    by true at later = let it = later at in (omega (arith, it.0), omega (arith, it.1))
+    by false at later = let both : Some i ≡ Some j = at in let one : i ≡ j = cc in (omega (arith, one), omega (arith, one))
+
+pub back_there : (w : Work) (l : Live) (step from i : ℕ) → length w.calls ≡ length l.edges → 1 ≤ from → next_back w step from ≡ Some i → (e : Edge) × (edge_at l i ≡ Some e)
+back_there w l step from i even some is =
+    let at = on_there w.marks step from i (drop (from - 1) w.calls) is in
+    let left : length (drop (from - 1) w.calls) ≡ length w.calls - (from - 1) = length-drop (from - 1) w.calls in
+    item_there l.edges i (omega (arith, at.0, some)) (omega (arith, at.0, at.1, left, even, some))
 
 -- ---- sessions
 
@@ -154,7 +179,7 @@ module _ (node : ℕ) (said : List Post) where
     ss = k.sessions
 
     stays : (says : List Post) (zs : List Session) (y : Live) (v : Work) → SendsNoneDown y.me says → ((session_at zs y.me.session).call ≡ pending.Statement → (session_at ss y.me.session).call ≡ pending.Statement) → IsAtWork said ss y v → IsAtWork (said ++ says) zs y v
-    stays says zs y v none fewer is = record { sent = λ g going. sent_more said says y.me (children_of y) v none g.waits (is.sent g going); works = λ root pends. is.works root (fewer pends) }
+    stays says zs y v none fewer is = record { sent = λ g going. sent_more said says y.me (children_of y) v none g.errand g.waits (is.sent g going); works = λ root pends. is.works root (fewer pends) }
 
     module _ (says : List Post) (level : AllSay IsLevel says) (zs : List Session) (fewer : NoneMore ss zs) where
       level_stays : (y : Live) (v : Work) → IsAtWork said ss y v → IsAtWork (said ++ says) zs y v
@@ -192,36 +217,41 @@ module _ (node : ℕ) (said : List Post) where
 
     module _ (x : Branch) (mine : x.work.branch ≡ x.live.me) (placed : IsPlaced node ss x.live x.work) where
       -- by a message of the branch
-      goes_on : (says : List Post) (w : Work) (g : Going) → w.branch ≡ x.live.me → w.going ≡ Some g → IsSentLast (said ++ says) x.live.me (children_of x.live) w g.waits → ((b : BranchId) → same x.live.me b ≡ false → SendsNoneDown b says)
+      goes_on : (says : List Post) (w : Work) (g : Going) → w.branch ≡ x.live.me → w.going ≡ Some g → IsSentLast (said ++ says) x.live.me (children_of x.live) w g.errand g.waits → ((b : BranchId) → same x.live.me b ≡ false → SendsNoneDown b says)
           → Left says (call_pends ss x.live) (put_item live_id k.lives x.live) (put_item work_id k.works w)
       goes_on says w g its going sent others =
           each_put _ _ k.lives k.works now x.live w its
-          (record { sent = λ h at. (let both : Some g ≡ Some h = sym going ∙ at in let one : g ≡ h = cc in subst (λ (y : Going). IsSentLast (said ++ says) x.live.me (children_of x.live) w y.waits) one sent); works = λ root pends. (g, going) })
+          (record { sent = λ h at. (let both : Some g ≡ Some h = sym going ∙ at in let one : g ≡ h = cc in subst (λ (y : Going). IsSentLast (said ++ says) x.live.me (children_of x.live) w y.errand y.waits) one sent); works = λ root pends. (g, going) })
           (λ y v live other was. record {
-            sent = λ h at. sent_more said says y.me (children_of y) v (others y.me other) h.waits (was.1.sent h at);
+            sent = λ h at. sent_more said says y.me (children_of y) v (others y.me other) h.errand h.waits (was.1.sent h at);
             works = λ root pends. was.1.works root (pends_elsewhere ss x.live y placed.root (was.0.root root) other pends);
           })
 
       pub opens_left : (node_to : ℕ) (link : List ℕ) (s : Stmt) (given : ℕ)
-          → Left (post x.live.me (nobody_at node_to) (kinds.Open (next_edge x.live) x.live.root (x.live.depth + 1))) (call_pends ss x.live) (put_item live_id k.lives x.live) (put_item work_id k.works (waits_for_opened x link s given).work)
+          → Left (post x.live.me (nobody_at node_to) (kinds.Open (next_edge x.live) x.live.root (x.live.depth + 1) x.live.read_at)) (call_pends ss x.live) (put_item live_id k.lives x.live) (put_item work_id k.works (waits_for_opened x link s given).work)
       opens_left node_to link s given =
-          goes_on _ (waits_for_opened x link s given).work (record { statement = s; room = given; waits = waiting.ForOpened link }) mine refl
-          (nobody_at node_to, next_edge x.live, x.live.root, x.live.depth + 1, last_now x.live.me (nobody_at node_to) (kinds.Open (next_edge x.live) x.live.root (x.live.depth + 1)) said refl) (λ b other. other_none b x.live.me (nobody_at node_to) (kinds.Open (next_edge x.live) x.live.root (x.live.depth + 1)) other)
+          goes_on _ (waits_for_opened x link s given).work (record { errand = errands.Statement s given; waits = waiting.ForOpened link }) mine refl
+          (nobody_at node_to, next_edge x.live, x.live.root, x.live.depth + 1, x.live.read_at, last_now x.live.me (nobody_at node_to) (kinds.Open (next_edge x.live) x.live.root (x.live.depth + 1) x.live.read_at) said refl, refl)
+          (λ b other. other_none b x.live.me (nobody_at node_to) (kinds.Open (next_edge x.live) x.live.root (x.live.depth + 1) x.live.read_at) other)
 
-      module _ (i : ℕ) (s : Stmt) (given : ℕ) (e : Edge) (at : edge_at x.live i ≡ Some e) where
-        its_exec : exec_to ss x i s given (peer_of x.live i) ≡ post x.live.me e.peer (kinds.Exec (next_call x.work i) (room x.live given) (advice_of ss x.live) s)
-        its_exec = ap (exec_to ss x i s given) (ap (option_map (λ (y : Edge). y.peer)) at)
+      task_back : (i : ℕ) (errand : Errand) → is_back (task_for ss x i errand) ≡ is_back_errand errand
+      task_back i (errands.Statement s given) = refl
+      task_back i (errands.GoBack step) = refl
 
-        last_exec : last_sent_down x.live.me None (said ++ exec_to ss x i s given (peer_of x.live i)) ≡ Some (record { from = x.live.me; to = e.peer; kind = kinds.Exec (call_at (called x i s given).work i) (room x.live given) (advice_of ss x.live) s })
+      module _ (i : ℕ) (errand : Errand) (e : Edge) (at : edge_at x.live i ≡ Some e) where
+        its_exec : exec_to ss x i errand (peer_of x.live i) ≡ post x.live.me e.peer (kinds.Exec (next_call x.work i) (task_for ss x i errand))
+        its_exec = ap (exec_to ss x i errand) (ap (option_map (λ (y : Edge). y.peer)) at)
+
+        last_exec : last_sent_down x.live.me None (said ++ exec_to ss x i errand (peer_of x.live i)) ≡ Some (record { from = x.live.me; to = e.peer; kind = kinds.Exec (call_at (called ss x i errand).work i) (task_for ss x i errand) })
         last_exec =
             ap (λ says. last_sent_down x.live.me None (said ++ says)) its_exec
-            ∙ (last_now x.live.me e.peer (kinds.Exec (next_call x.work i) (room x.live given) (advice_of ss x.live) s) said refl
-            ∙ ap (λ n. Some (record { from = x.live.me; to = e.peer; kind = kinds.Exec n (room x.live given) (advice_of ss x.live) s })) (sym (next_number x i s given e at placed.numbers)))
+            ∙ (last_now x.live.me e.peer (kinds.Exec (next_call x.work i) (task_for ss x i errand)) said refl
+            ∙ ap (λ n. Some (record { from = x.live.me; to = e.peer; kind = kinds.Exec n (task_for ss x i errand) })) (sym (next_number ss x i errand e at placed.numbers)))
 
-        pub calls_left : Left (exec_to ss x i s given (peer_of x.live i)) (call_pends ss x.live) (put_item live_id k.lives x.live) (put_item work_id k.works (called x i s given).work)
+        pub calls_left : Left (exec_to ss x i errand (peer_of x.live i)) (call_pends ss x.live) (put_item live_id k.lives x.live) (put_item work_id k.works (called ss x i errand).work)
         calls_left =
-            goes_on (exec_to ss x i s given (peer_of x.live i)) (called x i s given).work (record { statement = s; room = given; waits = waiting.ForReply i }) mine refl
-            (e.peer, room x.live given, advice_of ss x.live, s, numbered_map x.live.edges i ∙ ap (option_map peer) at, last_exec) (λ b other. exec_none ss x i s given (peer_of x.live i) b other)
+            goes_on (exec_to ss x i errand (peer_of x.live i)) (called ss x i errand).work (record { errand = errand; waits = waiting.ForReply i }) mine refl
+            (e.peer, task_for ss x i errand, numbered_map x.live.edges i ∙ ap (option_map peer) at, last_exec, task_back i errand) (λ b other. exec_none ss x i errand (peer_of x.live i) b other)
 
-        pub calls_from : DownFrom (exec_to ss x i s given (peer_of x.live i))
+        pub calls_from : DownFrom (exec_to ss x i errand (peer_of x.live i))
         calls_from = subst DownFrom (sym its_exec) ((λ down. placed.node_is), tt)

@@ -108,7 +108,7 @@ module _ (t : History) where
         (λ y v live any is.
         (let there : y.me.node ≡ m = all_found (λ (l : Live). l.me.node ≡ m) live_id j.lives y.me y (ids_name_their_node (so_far t before) lawful m j up).lives live in
         let none : SendsNoneDown y.me d.says = from_elsewhere p.number said d.says y.me (λ here. other (sym there ∙ (here ∙ number))) leaves.1 in
-        record { sent = λ g going. sent_more said d.says y.me (children_of y) v none g.waits (is.sent g going); works = is.works }))
+        record { sent = λ g going. sent_more said d.says y.me (children_of y) v none g.errand g.waits (is.sent g going); works = is.works }))
 
   on : (before : List Happening) (h : Happening) → IsLawfulRun (so_far t before) → MayHappen t.places t.commands (f_at t before) h → EachNode NodeWorks (f_at t before) → EachNode NodeWorks (f_at t (before ++ h ∷ []))
   on before h lawful may now =
@@ -142,7 +142,7 @@ pub record IsWaiting (said : List Post) (k : NodeState) (g : BranchId) : Type 0 
   pub is_root : branch.live.parent ≡ None
   pub going : Going
   pub waits : branch.work.going ≡ Some going
-  pub sent : IsSentLast said branch.live.me (children_of branch.live) branch.work going.waits
+  pub sent : IsSentLast said branch.live.me (children_of branch.live) branch.work going.errand going.waits
 
 module _ (t : History) (lawful : IsLawfulRun t) (n : ℕ) (k : NodeState) (up : node_at (facts_at t) n ≡ Some k) where
   node_works : NodeWorks (said_in (facts_at t)) k

@@ -34,7 +34,7 @@ use Rattle.run_rules.proofs.AtNodeLemmas.{turn_here, turn_elsewhere}
 use Rattle.run_base_laws.proofs.EventsStandLemmas.{first_node, run_stands}
 use Rattle.run_base_laws.proofs.LawfulLemmas.{serves}
 use Rattle.run_rules.proofs.ListLemmas.{all_append}
-use Rattle.run_base_laws.proofs.RootLemmas.{session_or_before}
+use Rattle.run_base_laws.proofs.RootLemmas.{session_or_before, counted_session}
 use Rattle.tran_ids.proofs.NumberedLemmas.{set_or_before}
 use Rattle.tree_laws.proofs.PrefixLemmas.{so_far, f_at, one_on}
 use Rattle.tree_laws.proofs.TimeLemmas.{Part, part_lawful, keep_on}
@@ -103,17 +103,22 @@ module _ (p : Place) (input : Input) (m : ℕ) where
   Came_now = (comment : Option (List ℕ)) × (input ≡ inputs.Call m (Some (stmts.Commit comment)))
 
   pub commits_on : {k : NodeState} {d : TurnDraft} → Step p input k d → (session_at d.after.sessions m).call ≡ pending.Commit → ((session_at k.sessions m).call ≡ pending.Commit) ⊎ Came_now
-  commits_on (steps.Begins {k = k} n s call rows range none step) is = elim (commits_on step is) [
-    | inl was ↦ inl (call_same k.sessions m n (record (session_at k.sessions n) { seq = (new_root p k n).seq; root = Some (new_root p k n) }) refl was)
+  commits_on (steps.Begins {k = k} n s read_at call begins range none step) is = elim (commits_on step is) [
+    | inl was ↦ inl (call_same k.sessions m n (record (session_at k.sessions n) { seq = (new_root p k n).seq; root = Some (new_root p k n); calls = 0 }) refl was)
     | inr now ↦ inr now
   ]
-  commits_on (steps.Pends {k = k} n l given call has live code step) is = elim (commits_on step is) [
+  commits_on (steps.Pends {k = k} n l given call has live code writer step) is = elim (commits_on step is) [
     | inl was ↦ elim (session_or_before k.sessions n m (record (session_at k.sessions n) { call = pending.Commit })) [
       | inl still ↦ inl (ap (λ z. z.call) (sym still) ∙ was)
       | inr new ↦ inr (given, subst (λ i. input ≡ inputs.Call i (Some (stmts.Commit given))) new.0 call)
     ]
     | inr now ↦ inr now
   ]
+  commits_on (steps.Counts_call {k = k} n s call counts step) is = elim (commits_on step is) [
+    | inl was ↦ inl (ap (λ z. z.call) (sym (counted_session k.sessions n m (session_at k.sessions n).root).1) ∙ was)
+    | inr now ↦ inr now
+  ]
+  commits_on (steps.Goes_back x step goes next) is = commits_on next is
   commits_on (steps.Lets_reads_go l comment site_below live begins step) is = commits_on step is
   commits_on (steps.Counts_ack s from kept came counts step) is = commits_on step is
   commits_on (steps.Runs {k = k} x s given t asked way) is = inl (answered k.sessions m (after_run x.live (ran p k x.live.me s t)) x.live.parent is)
@@ -123,6 +128,8 @@ module _ (p : Place) (input : Input) (m : ℕ) where
   commits_on (steps.Goes_on {k = k} x from strength g link opened) is = inl (goes_on k.sessions m (with_edge x (new_edge from link strength)).live is)
   commits_on (steps.Hears_reply {k = k} x weight count a i e heard_it) is =
       let y : Live = (hears_reply x i weight count e).live in inl (heard_so k.sessions m y a (answered (heard_sessions k.sessions y a) m y x.live.parent is))
+  commits_on (steps.Backs {k = k} x step from i calls next) is = inl (goes_on k.sessions m x.live is)
+  commits_on (steps.Is_back {k = k} x step from calls none) is = inl (answered k.sessions m x.live x.live.parent is)
   commits_on (steps.Acts {k = k} l site_below a why) is = inl (act_so k m l site_below a is)
   commits_on (steps.Does {k = k} s from (nexts.End d) kept why) is = inl (decided k.sessions m s.me d is)
   commits_on (steps.Does {k = k} s from (nexts.Meet d mixed) kept why) is = inl (decided k.sessions m s.me d is)
@@ -135,7 +142,7 @@ module _ (p : Place) (input : Input) (m : ℕ) where
   commits_on (steps.Forces_commit {k = k} n id b call named) is = inl (ended k.sessions m b is)
   commits_on (steps.Forces_rollback {k = k} n id b call named) is = inl (ended k.sessions m b is)
   commits_on (steps.Advises {k = k} n a call) is = inl (call_same k.sessions m n (record (session_at k.sessions n) { advice = a }) refl is)
-  commits_on (steps.Rolls_back {k = k} n x call has live) is = inl (call_other k.sessions m n (no_transaction (session_at k.sessions n)) (λ free. absurd cc) is)
+  commits_on (steps.Leaves {k = k} n s d x call ends has live) is = inl (call_other k.sessions m n (no_transaction (session_at k.sessions n)) (λ free. absurd cc) is)
   commits_on (steps.Gives_up {k = k} n x gives has calls live) is =
       let zs : List Session = with_call k.sessions n pending.NoCall in
       inl (call_other k.sessions m n (record (session_at k.sessions n) { call = pending.NoCall }) (λ free. absurd cc) (call_same zs m n (record (session_at zs n) { code = Some (dtx 3 []).code }) refl is))

@@ -1,17 +1,22 @@
 -- How a turn of a lawful run ends a call with an answer that is no refusal.
-use Rattle.std.proofs.Common.{◌≡◌, ℕ, zero, suc, true, false, List, [], ◌∷◌, ◌++◌, length, IfSome, Option, Some, None, inl, refl, sym, ap, subst, ◌∙◌, arith}
+use Rattle.std.proofs.Common.{◌≡◌, ℕ, zero, suc, ◌+◌, ◌&&◌, Bool, true, false, List, [], ◌∷◌, ◌++◌, length, IfSome, Option, Some, None, inl, refl, sym, ap, subst, ◌∙◌, arith}
 use Rattle.std.specs.Prelude.{slice_get, take}
-use Rattle.node_rules.specs.Calls.{heard_answer, hears_reply}
+use Rattle.std.proofs.lemmas.Bool.{and_parts}
+use Rattle.session_tree.specs.Live.{children_of}
+use Rattle.node_rules.specs.Marks.{next_back}
+use Rattle.node_rules.specs.Calls.{answer_ends, backs_to, going_heard, heard_answer, hears_reply}
 use Rattle.node_rules.specs.Data.{Answer, BranchId, Edge, Input, Refusal, Stmt}
 use Rattle.node_rules.specs.Data.answers
 use Rattle.node_rules.specs.Data.inputs
 use Rattle.node_rules.specs.Data.kinds
 use Rattle.node_rules.specs.Data.stmts
+use Rattle.node_rules.specs.declared.work.Errand.TheVariants as errands
+use Rattle.node_rules.specs.declared.work.Going.{Going}
 use Rattle.node_rules.specs.declared.session.Finished.{Finished}
 use Rattle.node_rules.specs.declared.session.PendingCall.TheVariants as pending
 use Rattle.node_rules.specs.declared.session.Session.{Session}
 use Rattle.node_rules.specs.Inputs.{Came}
-use Rattle.node_rules.specs.NodeState.{NodeState, Branch, TurnOutput, branch_at}
+use Rattle.node_rules.specs.NodeState.{NodeState, Branch, TurnDraft, TurnOutput, branch_at}
 use Rattle.node_rules.specs.Refusals.{dtx}
 use Rattle.node_rules.specs.Sessions.{session_at}
 use Rattle.node_rules.specs.Turn.{turn_of, heard, draft_of}
@@ -42,10 +47,12 @@ use Rattle.answer_origin_laws.proofs.PartLemmas.{split_at}
 use Rattle.answer_origin_laws.proofs.ReplyRunLemmas.{prefix, happens_at}
 use Rattle.answer_laws.proofs.AtWorkRunLemmas.{branch_works}
 use Rattle.answer_laws.proofs.CommitCallLemmas.{CommitCame, commits_came}
-use Rattle.answer_laws.proofs.StatementEndLemmas.{going_statement, heard_branch, its_link, reply_cause}
+use Rattle.answer_laws.proofs.StatementEndLemmas.{going_statement, heard_branch, goes_on_back, heard_draft, for_reply, its_link, reply_cause, back_cause}
+use Rattle.answer_laws.proofs.AtWorkLemmas.{is_back_errand, IsSentLast}
+use Rattle.answer_origin_laws.specs.ReplyLaws.{went_back}
 use Rattle.answer_laws.proofs.WhyEndsLemmas.{Finds, few_on}
 use Rattle.answer_laws.specs.EndLaws.{EndsFor, Is_own, Is_statement, Was_commit, forces_outcome, EndsFew, Ends_none, Ends_one, Ends_forced, LastCall, PendingCommitsCame}
-use Rattle.answer_laws.specs.StatementEnds.{CauseNow, Is_answered, Branch_is_gone, Is_given_up, link_waited}
+use Rattle.answer_laws.specs.StatementEnds.{CauseNow, StatementPends, Is_answered, Branch_is_gone, Is_back, Is_given_up, next_by, next_after, goes_next, link_waited}
 
 -- How a call of a session ends with an answer that is no refusal.
 pub data Ending (input : Input) (ss : List Session) (fs : List Finished) (session : ℕ) (a : Answer) : Type 0 where
@@ -68,8 +75,9 @@ module _ (f : Facts) (k : NodeState) (input : Input) (session : ℕ) (a : Answer
   its = record { session = session; answer = a }
 
   by_statement : (x : Finished) → x ≡ its → (g : BranchId) → CauseNow f k g input x.answer → Ending input k.sessions (x ∷ []) session a
-  by_statement x is g (Is_answered last other) = By_reply last.child g last.call last.weight last.count x.answer last.came (ap (λ y. y ∷ []) is)
+  by_statement x is g (Is_answered last handed other) = By_reply last.child g last.call last.weight last.count x.answer last.came (ap (λ y. y ∷ []) is)
   by_statement x is g (Branch_is_gone refused last gone refuses) = absurd (not_refused a x.answer _ good (ap (λ (y : Finished). y.answer) is) refuses)
+  by_statement x is g (Is_back told last back none answers_so) = By_reply last.child g last.call last.weight last.count told last.came (ap (λ y. y ∷ []) is)
   by_statement x is g (Is_given_up gives refuses) = absurd (not_refused a x.answer _ good (ap (λ (y : Finished). y.answer) is) refuses)
 
   ending_for : (x : Finished) → x ≡ its → EndsFor f k input x → Ending input k.sessions (x ∷ []) session a
@@ -112,21 +120,84 @@ module _ (t : History) (whole : IsLawfulRun t) (hs : List Happening) (u : Turn) 
   live_there : (x : Branch) → branch_at (heard k u.input) x.live.me ≡ Some x → branch_at k x.live.me ≡ Some x
   live_there x live = sym (heard_branch k u.input x.live.me) ∙ live
 
-  -- the Reply that a root hears ends its statement
-  reply_for_root : (x : Branch) (weight : Option ℕ) (count : ℕ) (a : Answer) (i : ℕ) (e : Edge) → steps.Is_answered (heard k u.input) u.input x weight count a i e → x.live.parent ≡ None
-      → EndsFor f0 k u.input (record { session = x.live.me.session; answer = heard_answer (hears_reply x i weight count e).live e.link a })
-  reply_for_root x weight count a i e answered root =
-      let live : branch_at k x.live.me ≡ Some x = live_there x answered.live in
-      let going = going_of x answered.from answered.call i e answered.waits in
-      let is = branch_root k rests.1 x live root in
-      let sent = (branch_works s0 lawful0 u.node k may.1.up x live).sent in
-      Is_statement x.live.me refl (record { root = is.root; call = going_statement (session_at k.sessions x.live.me.session).call x.live.phase x.work.going going.0 is.waits going.1 })
-      (reply_cause (said_in f0) u.input (heard k u.input) x weight count a i e answered sent (link_waited (branch_at k x.live.me)) (ap link_waited live ∙ its_link (said_in f0) u.input (heard k u.input) x weight count a i e answered sent) root)
+  -- a root that hears a Reply waits for a statement
+  root_pends : (x : Branch) (g : Going) → branch_at (heard k u.input) x.live.me ≡ Some x → x.work.going ≡ Some g → x.live.parent ≡ None → StatementPends k x.live.me
+  root_pends x g live going root =
+      let is = branch_root k rests.1 x (live_there x live) root in
+      record { root = is.root; call = going_statement (session_at k.sessions x.live.me.session).call x.live.phase x.work.going g is.waits going }
 
-  finds : Finds f0 k p u.input (heard k u.input)
+  -- the Reply that a root hears ends its statement
+  module _ (x : Branch) (weight : Option ℕ) (count : ℕ) (a : Answer) (i : ℕ) (e : Edge) (answered : steps.Is_answered (heard k u.input) u.input x weight count a i e) (root : x.live.parent ≡ None) where
+    there : branch_at k x.live.me ≡ Some x
+    there = live_there x answered.live
+
+    abbrev sent : (g : Going) → x.work.going ≡ Some g → IsSentLast (said_in f0) x.live.me (children_of x.live) x.work g.errand g.waits
+    sent = (branch_works s0 lawful0 u.node k may.1.up x there).sent
+
+    abbrev going : (g : Going) × (x.work.going ≡ Some g)
+    going = going_of x answered.from answered.call i e answered.waits
+
+    abbrev y : Branch
+    y = hears_reply x i weight count e
+
+    -- the child that is to go back next
+    next_is : (step : ℕ) → going.0.errand ≡ errands.GoBack step → goes_next (branch_at k x.live.me) ≡ next_back x.work step (i + 1)
+    next_is step errand =
+        ap goes_next there ∙ (ap (next_after x.work) going.1 ∙ (ap (λ r. next_by x.work r going.0.waits) errand
+        ∙ ap (next_by x.work (errands.GoBack step)) (for_reply (said_in f0) u.input (heard k u.input) x weight count a i e answered sent)))
+
+    pends_there : StatementPends k x.live.me
+    pends_there = root_pends x going.0 answered.live going.1 root
+
+    link_is : link_waited (branch_at k x.live.me) ≡ e.link
+    link_is = ap link_waited there ∙ its_link (said_in f0) u.input (heard k u.input) x weight count a i e answered sent
+
+    -- once the tree is back
+    back_for_root : (step : ℕ) → going.0.errand ≡ errands.GoBack step → is_accepted (Some a) ≡ true → next_back x.work step (i + 1) ≡ None → (b : Answer) → b ≡ went_back → EndsFor f0 k u.input (record { session = x.live.me.session; answer = b })
+    back_for_root step errand accepted none b is =
+        Is_statement x.live.me refl pends_there
+        (back_cause (said_in f0) u.input (heard k u.input) x weight count a i e answered sent (link_waited (branch_at k x.live.me)) (goes_next (branch_at k x.live.me)) (next_is step errand ∙ none)
+        (ap (λ r. is_back_errand r && is_accepted (Some a)) errand ∙ accepted) b is)
+
+    reply_for_root : answer_ends y.live (heard_answer y.live e.link a) x.live.parent ≡ (draft_of p k u.input).ended
+        → EndsFor f0 k u.input (record { session = x.live.me.session; answer = heard_answer y.live e.link a })
+    reply_for_root ends = by (is_back_errand going.0.errand && is_accepted (Some a)) refl
+      where
+        by_next : (step : ℕ) → going.0.errand ≡ errands.GoBack step → is_accepted (Some a) ≡ true → (o : Option ℕ) → next_back x.work step (i + 1) ≡ o → answer_ends y.live (heard_answer y.live e.link a) x.live.parent ≡ (backs_to (heard k u.input) y step o).ended
+            → EndsFor f0 k u.input (record { session = x.live.me.session; answer = heard_answer y.live e.link a })
+        by_next step errand accepted (Some j) next same =
+            absurd (let some : answer_ends y.live (heard_answer y.live e.link a) None ≡ [] = ap (answer_ends y.live (heard_answer y.live e.link a)) (sym root) ∙ same in cc some)
+        by_next step errand accepted None none same =
+            let both : answer_ends y.live (heard_answer y.live e.link a) None ≡ answer_ends y.live went_back None
+            = ap (answer_ends y.live (heard_answer y.live e.link a)) (sym root) ∙ (same ∙ ap (answer_ends y.live went_back) root) in
+            let one_end : record { session = x.live.me.session; answer = heard_answer y.live e.link a } ≡ record { session = x.live.me.session; answer = went_back } = cc in
+            back_for_root step errand accepted none (heard_answer y.live e.link a) (ap (λ (z : Finished). z.answer) one_end)
+
+        by : (q : Bool) → (is_back_errand going.0.errand && is_accepted (Some a)) ≡ q → EndsFor f0 k u.input (record { session = x.live.me.session; answer = heard_answer y.live e.link a })
+        by false handed =
+            Is_statement x.live.me refl pends_there
+            (reply_cause (said_in f0) u.input (heard k u.input) x weight count a i e answered sent (link_waited (branch_at k x.live.me)) (goes_next (branch_at k x.live.me)) link_is root handed)
+        by true back =
+            let it = goes_on_back (heard k u.input) y i e.link a going.0.errand back in
+            let accepted : is_accepted (Some a) ≡ true = (and_parts (is_back_errand going.0.errand) (is_accepted (Some a)) back).1 in
+            let drafted : (draft_of p k u.input).ended ≡ (backs_to (heard k u.input) y it.0 (next_back x.work it.0 (i + 1))).ended
+            = heard_draft p k x weight count a i e u.input answered ∙ (ap (λ o. (going_heard (heard k u.input) y i e.link a o).ended) going.1 ∙ ap (λ (d : TurnDraft). d.ended) it.2) in
+            by_next it.0 it.1 accepted (next_back x.work it.0 (i + 1)) refl (ends ∙ drafted)
+
+    plain_accepted : (c : Answer) → steps.IsNoRefusal c → is_accepted (Some c) ≡ true
+    plain_accepted (answers.Refused r) plain = absurd plain
+    plain_accepted (answers.Did d n) plain = refl
+    plain_accepted (answers.Found rows) plain = refl
+
+  finds : Finds f0 k p u.input (draft_of p k u.input).ended (heard k u.input)
   finds = record {
     commit = λ m is. inl (subst (λ ss. (session_at ss m).call ≡ pending.Commit) (sessions_heard k u.input) is);
-    reply = reply_for_root;
+    reply = λ x weight count a i e answered root ends. reply_for_root x weight count a i e answered root ends;
+    back = λ x weight count a i e answered root g step going errand plain none.
+        (let there_going = going_of x answered.from answered.call i e answered.waits in
+        let both : Some there_going.0 ≡ Some g = sym there_going.1 ∙ going in
+        let one_going : there_going.0 ≡ g = cc in
+        back_for_root x weight count a i e answered root step (ap (λ (z : Going). z.errand) one_going ∙ errand) (plain_accepted x weight count a i e answered root a plain) none went_back refl);
     given = λ n x gives has waits live. (let at : x.live.me.session ≡ n = fit.roots.each n x.live.me has in
         Is_statement x.live.me at (record {
           root = subst (λ m. (session_at k.sessions m).root ≡ Some x.live.me) (sym at) (subst (λ ss. (session_at ss n).root ≡ Some x.live.me) (sessions_heard k u.input) has);
@@ -136,7 +207,7 @@ module _ (t : History) (whole : IsLawfulRun t) (hs : List Happening) (u : Turn) 
 
   -- which calls it ends
   pub turn_few : EndsFew f0 k u.input (draft_of p k u.input).ended
-  turn_few = few_on f0 k p u.input (serves t.places f0 u k may.1).step fit before.asked finds
+  turn_few = few_on f0 k p u.input (draft_of p k u.input).ended (serves t.places f0 u k may.1).step fit before.asked finds refl
 
   -- and how
   pub turn_ends : (o : TurnOutput) → outcome_at t.places f0 u ≡ Some o → (session number : ℕ) (a : Answer) → is_accepted (Some a) ≡ true → slice_get o.ended number ≡ Some (record { session = session; answer = a })

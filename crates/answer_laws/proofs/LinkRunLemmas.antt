@@ -7,6 +7,9 @@ use Rattle.std.proofs.lemmas.List.{append_assoc}
 use Rattle.tran_ids.proofs.NumberedLemmas.{set_or_before}
 use Rattle.session_tree.specs.Live.{children_of, edge_at}
 use Rattle.node_rules.specs.Data.{BranchId, Durable, Edge, Live, Stmt}
+use Rattle.node_rules.specs.Data.stmts
+use Rattle.node_rules.specs.declared.work.Errand.{Errand}
+use Rattle.node_rules.specs.declared.work.Errand.TheVariants as errands
 use Rattle.node_rules.specs.Data.inputs
 use Rattle.node_rules.specs.declared.session.PendingCall.TheVariants as pending
 use Rattle.node_rules.specs.declared.work.Going.{Going}
@@ -48,12 +51,12 @@ use Rattle.answer_origin_laws.proofs.NoCallLemmas.{IsNoCall, all_since, many_sin
 use Rattle.answer_origin_laws.proofs.PartLemmas.{split_at}
 use Rattle.answer_origin_laws.proofs.ReplyRunLemmas.{happens_at, prefix}
 use Rattle.answer_origin_laws.proofs.TurnTaleLemmas as tales
-use Rattle.answer_laws.proofs.AtWorkLemmas.{IsSentLast}
+use Rattle.answer_laws.proofs.AtWorkLemmas.{is_back_errand, IsSentLast}
 use Rattle.answer_laws.proofs.AtWorkRunLemmas.{IsWaiting, pending_waits}
-use Rattle.answer_laws.proofs.LinkLemmas.{IsLinkOf, WaitsOver, IsLinked, Linked, linked_on}
+use Rattle.answer_laws.proofs.LinkLemmas.{IsLinkOf, AsksBack, WaitsOver, IsLinked, Linked, linked_on}
 use Rattle.answer_laws.proofs.StatementEndLemmas.{link_of_edge}
 use Rattle.answer_laws.specs.EndLaws.{LastCall}
-use Rattle.answer_laws.specs.LinkLaws.{IsLinkOfCall, StatementsWaitForTheirLinks}
+use Rattle.answer_laws.specs.LinkLaws.{IsLinkOfCall, IsLinkOfBack, StatementsWaitForTheirLinks}
 use Rattle.answer_laws.specs.StatementEnds.{StatementPends, link_waited}
 
 module _ (t : History) (whole : IsLawfulRun t) where
@@ -90,9 +93,10 @@ module _ (t : History) (whole : IsLawfulRun t) where
     link_grows : (link : List ℕ) → IsLinkOf D Asks l.me.session link → IsLinkOf E Asks1 l.me.session link
     link_grows link is = (is.0, known is.0 is.1, is.2, grows.names _ link is.2 is.3)
 
-    waits_grow : (waits : Waits) → WaitsOver D Asks l waits → WaitsOver E Asks1 l waits
-    waits_grow (waiting.ForReply i) is = λ e at. link_grows e.link (is e at)
-    waits_grow (waiting.ForOpened link) is = link_grows link is
+    waits_grow : (errand : Errand) (waits : Waits) → WaitsOver D Asks l errand waits → WaitsOver E Asks1 l errand waits
+    waits_grow (errands.Statement s given) (waiting.ForReply i) is = λ e at. link_grows e.link (is e at)
+    waits_grow (errands.Statement s given) (waiting.ForOpened link) is = link_grows link is
+    waits_grow (errands.GoBack step) waits is = (is.0, known (stmts.RollbackTo is.0) is.1)
 
   -- ---- a turn
 
@@ -127,14 +131,14 @@ module _ (t : History) (whole : IsLawfulRun t) where
         (each_same (λ l w. IsLinked (catalog t whole hs u.node) (AskedLast hs u.node) l w × RootIs k.sessions l w) (IsLinked (catalog t whole hs u.node) (AskedLast hs1 u.node)) k.lives k.works
         (each_both (IsLinked (catalog t whole hs u.node) (AskedLast hs u.node)) (RootIs k.sessions) k.lives k.works (now u.node k may.1.up) rests.1)
         (λ y v live any was root g going. waits_grow (catalog t whole hs u.node) (catalog t whole hs u.node) (record { names = λ ref link table it. it; leads = λ q link n it. it }) (AskedLast hs u.node) (AskedLast hs1 u.node) y
-        (λ s old. asked_on hs (happenings.Turn u) u.node y.me.session s (uncalled y v g root was.1 going) old) g.waits (was.0 root g going)))
+        (λ s old. asked_on hs (happenings.Turn u) u.node y.me.session s (uncalled y v g root was.1 going) old) g.errand g.waits (was.0 root g going)))
 
     leaves : NodeLinked hs1 u.node (catalog t whole hs1 u.node) d.after
     leaves =
         each_same (IsLinked (catalog t whole hs u.node) (AskedLast hs1 u.node)) (IsLinked (catalog t whole hs1 u.node) (AskedLast hs1 u.node)) d.after.lives d.after.works
         (linked_on (catalog t whole hs u.node) (AskedLast hs1 u.node) p u.input (λ n s call. record { before = hs; turn = u; later = []; since = refl; here = refl; came = call; quiet = tt })
         (serves t.places f0 u k may.1).step (heard_rests k u.input rests).0 before.asked cat begins)
-        (λ y v live any was root g going. waits_grow (catalog t whole hs u.node) (catalog t whole hs1 u.node) (grows u.node) (AskedLast hs1 u.node) (AskedLast hs1 u.node) y (λ s it. it) g.waits (was root g going))
+        (λ y v live any was root g going. waits_grow (catalog t whole hs u.node) (catalog t whole hs1 u.node) (grows u.node) (AskedLast hs1 u.node) (AskedLast hs1 u.node) y (λ s it. it) g.errand g.waits (was root g going))
 
     own : (cut : Bool) → u.cut ≡ cut → (j : NodeState) → node_at f1 u.node ≡ Some j → NodeLinked hs1 u.node (catalog t whole hs1 u.node) j
     unfolding turn_of
@@ -151,7 +155,7 @@ module _ (t : History) (whole : IsLawfulRun t) where
   still_linked hs h rest is now n other j up =
       each_same (IsLinked (catalog t whole hs n) (AskedLast hs n)) (IsLinked (catalog t whole (hs ++ h ∷ []) n) (AskedLast (hs ++ h ∷ []) n)) j.lives j.works (now n j up)
       (λ y v live any was root g going. waits_grow (catalog t whole hs n) (catalog t whole (hs ++ h ∷ []) n) (catalog_on t whole n hs (h ∷ []) (part_on t whole hs h rest is)) (AskedLast hs n) (AskedLast (hs ++ h ∷ []) n) y
-      (λ s old. asked_on hs h n y.me.session s (other y.me.session) old) g.waits (was root g going))
+      (λ s old. asked_on hs h n y.me.session s (other y.me.session) old) g.errand g.waits (was root g going))
 
   set_still : (f : Facts) (m n : ℕ) (o : Option NodeState) (j : NodeState) → flat (numbered (set_numbered f.nodes m o) n) ≡ Some j → (node_at f n ≡ Some j) ⊎ (o ≡ Some j)
   set_still f m n o j up = elim (set_or_before f.nodes m n o) [
@@ -201,63 +205,104 @@ module _ (t : History) (whole : IsLawfulRun t) (hs : List Happening) (u : Turn) 
   abbrev D : Durable
   D = catalog t whole hs u.node
 
-  w : IsWaiting (said_in f0) k g
+  pub w : IsWaiting (said_in f0) k g
   w = pending_waits (so_far t hs) lawful0 u.node k up g pends
 
-  linked : WaitsOver D (AskedLast t whole hs u.node) w.branch.live w.going.waits
+  linked : WaitsOver D (AskedLast t whole hs u.node) w.branch.live w.going.errand w.going.waits
   linked =
       let found : branch_at k w.branch.live.me ≡ Some w.branch = subst (λ b. branch_at k b ≡ Some w.branch) (sym w.is_me) w.found in
       let parts = branch_parts k w.branch.live.me w.branch found in
       subst (IsLinked D (AskedLast t whole hs u.node) w.branch.live) (sym parts.1) ((all_linked t whole hs part0 u.node k up).each w.branch.live.me w.branch.live parts.0) w.is_root w.going w.waits
 
-  over : (waits : Waits) → w.going.waits ≡ waits → WaitsOver D (AskedLast t whole hs u.node) w.branch.live waits → IsSentLast (said_in f0) w.branch.live.me (children_of w.branch.live) w.branch.work waits
-      → IsLinkOf D (AskedLast t whole hs u.node) w.branch.live.me.session (waited_link w.branch.live w.branch.work.going)
-  over (waiting.ForOpened link) at it sent = subst (IsLinkOf D (AskedLast t whole hs u.node) w.branch.live.me.session) (sym (ap (waited_link w.branch.live) w.waits ∙ ap (waits_on w.branch.live) at)) it
-  over (waiting.ForReply i) at it sent = by (edge_at w.branch.live i) refl
+  -- the edge that a branch waits over
+  edge_there : (i : ℕ) → IsSentLast (said_in f0) w.branch.live.me (children_of w.branch.live) w.branch.work w.going.errand (waiting.ForReply i) → (o : Option Edge) → edge_at w.branch.live i ≡ o → (e : Edge) × (edge_at w.branch.live i ≡ Some e)
+  edge_there i sent None none = absurd (let no : numbered (children_of w.branch.live) i ≡ None = numbered_map w.branch.live.edges i ∙ ap (option_map peer) none in let there = sent.2 in cc (no, there))
+  edge_there i sent (Some e) at = (e, at)
+
+  -- it waits over an edge with this link
+  pub record OverLink : Type 0 where
+    pub number : ℕ
+    pub edge : Edge
+    pub at : edge_at w.branch.live number ≡ Some edge
+    pub link_is : edge.link ≡ waited_link w.branch.live w.branch.work.going
+
+  over_reply : (i : ℕ) → w.going.waits ≡ waiting.ForReply i → IsSentLast (said_in f0) w.branch.live.me (children_of w.branch.live) w.branch.work w.going.errand (waiting.ForReply i) → OverLink
+  over_reply i at sent = let e = edge_there i sent (edge_at w.branch.live i) refl in record { number = i; edge = e.0; at = e.1; link_is = sym (link_of_edge w.branch w.going i e.0 w.waits at e.1) }
+
+  number_is : (i : ℕ) (at : w.going.waits ≡ waiting.ForReply i) (sent : IsSentLast (said_in f0) w.branch.live.me (children_of w.branch.live) w.branch.work w.going.errand (waiting.ForReply i)) → (over_reply i at sent).number ≡ i
+  unfolding over_reply
+  number_is i at sent = refl
+
+  -- the link of a statement's table, or of a child that is to go back
+  abbrev pub Its : BranchId → List ℕ → Type 0
+  Its b link = IsLinkOf D (AskedLast t whole hs u.node) b.session link ⊎ (AsksBack D (AskedLast t whole hs u.node) b.session × OverLink)
+
+  abbrev its_waited : List ℕ
+  its_waited = waited_link w.branch.live w.branch.work.going
+
+  over : (errand : Errand) (waits : Waits) → w.going.errand ≡ errand → w.going.waits ≡ waits → WaitsOver D (AskedLast t whole hs u.node) w.branch.live errand waits
+      → IsSentLast (said_in f0) w.branch.live.me (children_of w.branch.live) w.branch.work w.going.errand waits → Its w.branch.live.me its_waited
+  over (errands.Statement s given) (waiting.ForOpened link) is at it sent = inl (subst (IsLinkOf D (AskedLast t whole hs u.node) w.branch.live.me.session) (sym (ap (waited_link w.branch.live) w.waits ∙ ap (waits_on w.branch.live) at)) it)
+  over (errands.Statement s given) (waiting.ForReply i) is at it sent =
+      let e = over_reply i at sent in inl (subst (IsLinkOf D (AskedLast t whole hs u.node) w.branch.live.me.session) e.link_is (it e.edge (subst (λ n. edge_at w.branch.live n ≡ Some e.edge) (number_is i at sent) e.at)))
+  over (errands.GoBack step) (waiting.ForReply i) is at it sent = inr (it, over_reply i at sent)
+  over (errands.GoBack step) (waiting.ForOpened link) is at it sent = absurd (let no : true ≡ false = ap is_back_errand (sym is) ∙ sent.6 in cc no)
+
+  its_link : Its g (link_waited (branch_at k g))
+  its_link = subst (Its g) (sym (ap link_waited w.found)) (subst (λ b. Its b its_waited) w.is_me (over w.going.errand w.going.waits refl refl linked w.sent))
+
+  module _ (s : Stmt) (c : AskedLast t whole hs u.node g.session s) where
+    last : LastCall t u.node g.session (length hs)
+    last = record {
+      moment = length c.before;
+      turn = c.turn;
+      there = happens_at t c.before (happenings.Turn c.turn) (c.later ++ happenings.Turn u ∷ rest) (all_since t u.node g.session c.before (happenings.Turn c.turn) c.later hs u rest c.since is);
+      here = c.here;
+      text = Some s;
+      came = c.came;
+      soon = omega (arith, many_since t u.node g.session c.before (happenings.Turn c.turn) c.later hs u rest c.since is);
+      last = no_call_since t u.node g.session c.before (happenings.Turn c.turn) c.later hs u rest c.since is c.quiet
+          (λ here s call. (let free = (call_free f0 may.0 u.node u.input u.took g.session s call may.1.comes).1 in
+          let both : Some may.0 ≡ Some k = sym may.1.up ∙ up in
+          let one : may.0 ≡ k = cc in
+          let waits : (session_at may.0.sessions g.session).call ≡ pending.Statement = subst (λ (j : NodeState). (session_at j.sessions g.session).call ≡ pending.Statement) (sym one) pends.call in
+          absurd (cc (free, waits))));
+    }
+
+    text_is : last.text ≡ Some s
+    unfolding last
+    text_is = refl
+
+  -- by the catalog at its number
+  abbrev Has : ℕ → Type 0
+  Has m = IsLinkOfCall t u.node g.session m (link_waited (branch_at k g)) ⊎ IsLinkOfBack t u.node g.session m (branch_at k g) (link_waited (branch_at k g))
+
+  pub has_link : Has (length hs)
+  has_link = by its_link
     where
-      by : (o : Option Edge) → edge_at w.branch.live i ≡ o → IsLinkOf D (AskedLast t whole hs u.node) w.branch.live.me.session (waited_link w.branch.live w.branch.work.going)
-      by None none = absurd (let no : numbered (children_of w.branch.live) i ≡ None = numbered_map w.branch.live.edges i ∙ ap (option_map peer) none in let yes = sent.4 in cc (no, yes))
-      by (Some e) there = subst (IsLinkOf D (AskedLast t whole hs u.node) w.branch.live.me.session) (sym (link_of_edge w.branch w.going i e w.waits at there)) (it e there)
-
-  its_link : IsLinkOf D (AskedLast t whole hs u.node) g.session (link_waited (branch_at k g))
-  its_link =
-      subst (IsLinkOf D (AskedLast t whole hs u.node) g.session) (sym (ap link_waited w.found))
-      (subst (λ (b : BranchId). IsLinkOf D (AskedLast t whole hs u.node) b.session (waited_link w.branch.live w.branch.work.going)) w.is_me (over w.going.waits refl linked w.sent))
-
-  c : AskedLast t whole hs u.node g.session its_link.0
-  c = its_link.1
-
-  last : LastCall t u.node g.session (length hs)
-  last = record {
-    moment = length c.before;
-    turn = c.turn;
-    there = happens_at t c.before (happenings.Turn c.turn) (c.later ++ happenings.Turn u ∷ rest) (all_since t u.node g.session c.before (happenings.Turn c.turn) c.later hs u rest c.since is);
-    here = c.here;
-    text = Some its_link.0;
-    came = c.came;
-    soon = omega (arith, many_since t u.node g.session c.before (happenings.Turn c.turn) c.later hs u rest c.since is);
-    last = no_call_since t u.node g.session c.before (happenings.Turn c.turn) c.later hs u rest c.since is c.quiet
-        (λ here s call. (let free = (call_free f0 may.0 u.node u.input u.took g.session s call may.1.comes).1 in
-        let both : Some may.0 ≡ Some k = sym may.1.up ∙ up in
-        let one : may.0 ≡ k = cc in
-        let waits : (session_at may.0.sessions g.session).call ≡ pending.Statement = subst (λ (j : NodeState). (session_at j.sessions g.session).call ≡ pending.Statement) (sym one) pends.call in
-        absurd (cc (free, waits))));
-  }
-
-  text_is : last.text ≡ Some its_link.0
-  unfolding last
-  text_is = refl
+      by : Its g (link_waited (branch_at k g)) → Has (length hs)
+      by (inl link) = inl (record {
+        call = last link.0 link.1;
+        statement = link.0;
+        its = text_is link.0 link.1;
+        table = link.2;
+        named = subst (λ xs. named_by (catalog t whole xs u.node) (ref_of link.0) ≡ Behind (link_waited (branch_at k g)) link.2) (sym (prefix t hs (happenings.Turn u) rest is)) link.3;
+      })
+      by (inr back) = inr (record {
+        call = last (stmts.RollbackTo back.0.0) back.0.1;
+        name = back.0.0;
+        its = text_is (stmts.RollbackTo back.0.0) back.0.1;
+        branch = w.branch;
+        is_it = w.found;
+        number = back.1.number;
+        edge = back.1.edge;
+        at = back.1.at;
+        link_is = back.1.link_is ∙ sym (ap link_waited w.found);
+      })
 
 pub statements_wait_for_their_links : StatementsWaitForTheirLinks
 statements_wait_for_their_links t whole i u there k up g pends =
     let at = split_at t.trace i (happenings.Turn u) there in
     let first : take i t.trace ≡ at.0 = ap (λ m. take m t.trace) (sym at.3) ∙ prefix t at.0 (happenings.Turn u) at.1 at.2 in
     let up_here : node_at (f_at t at.0) u.node ≡ Some k = ap (λ xs. node_at (f_at t xs) u.node) (sym first) ∙ up in
-    let link = its_link t whole at.0 u at.1 at.2 k up_here g pends in
-    subst (λ m. IsLinkOfCall t u.node g.session m (link_waited (branch_at k g))) at.3 (record {
-      call = last t whole at.0 u at.1 at.2 k up_here g pends;
-      statement = link.0;
-      its = text_is t whole at.0 u at.1 at.2 k up_here g pends;
-      table = link.2;
-      named = subst (λ xs. named_by (catalog t whole xs u.node) (ref_of link.0) ≡ Behind (link_waited (branch_at k g)) link.2) (sym (prefix t at.0 (happenings.Turn u) at.1 at.2)) link.3;
-    })
+    subst (λ m. IsLinkOfCall t u.node g.session m (link_waited (branch_at k g)) ⊎ IsLinkOfBack t u.node g.session m (branch_at k g) (link_waited (branch_at k g))) at.3 (has_link t whole at.0 u at.1 at.2 k up_here g pends)

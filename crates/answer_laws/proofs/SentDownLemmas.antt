@@ -2,13 +2,13 @@
 use Rattle.std.proofs.Common.{◌≡◌, ℕ, ◌&&◌, Bool, true, false, if◌then◌else◌, List, [], ◌∷◌, ◌++◌, Option, Some, None, refl, ap, ◌∙◌}
 use Rattle.std.specs.List.{AllByRecursion}
 use Rattle.tran_ids.proofs.BranchLemmas.{same_from_equal}
-use Rattle.node_rules.specs.Data.{Answer, BranchId, Input, Kind, Post, Stmt}
+use Rattle.node_rules.specs.Data.{Answer, BranchId, Input, Kind, Post}
 use Rattle.node_rules.specs.Data.kinds
 use Rattle.node_rules.specs.declared.session.Session.{Session}
 use Rattle.node_rules.specs.NodeState.{NodeState, Branch, post}
-use Rattle.node_rules.specs.Calls.{advice_of, answer_says, exec_to, next_call}
+use Rattle.node_rules.specs.declared.work.Errand.{Errand}
+use Rattle.node_rules.specs.Calls.{task_for, answer_says, exec_to, next_call}
 use Rattle.node_rules.specs.Recovery.{kept_told}
-use Rattle.session_tree.specs.Tree.{room}
 use Rattle.node_rules.specs.Words.{same}
 use Rattle.node_rules.proofs.Steps as steps
 use Rattle.node_rules.proofs.Steps.{Says}
@@ -34,9 +34,9 @@ level_none b (m ∷ ms) all = (by (same m.from b) all.0, level_none b ms all.1)
 pub other_none : (b c to : BranchId) (kind : Kind) → same c b ≡ false → SendsNoneDown b (post c to kind)
 other_none b c to kind other = (ap (λ q. q && calls_below kind) other, tt)
 
-pub exec_none : (ss : List Session) (y : Branch) (i : ℕ) (s : Stmt) (given : ℕ) (o : Option BranchId) (b : BranchId) → same y.live.me b ≡ false → SendsNoneDown b (exec_to ss y i s given o)
-exec_none ss y i s given None b other = tt
-exec_none ss y i s given (Some c) b other = other_none b y.live.me c (kinds.Exec (next_call y.work i) (room y.live given) (advice_of ss y.live) s) other
+pub exec_none : (ss : List Session) (y : Branch) (i : ℕ) (errand : Errand) (o : Option BranchId) (b : BranchId) → same y.live.me b ≡ false → SendsNoneDown b (exec_to ss y i errand o)
+exec_none ss y i errand None b other = tt
+exec_none ss y i errand (Some c) b other = other_none b y.live.me c (kinds.Exec (next_call y.work i) (task_for ss y i errand)) other
 
 -- it stays the last
 pub last_append : (b : BranchId) (o : Option Post) (xs ys : List Post) → last_sent_down b o (xs ++ ys) ≡ last_sent_down b (last_sent_down b o xs) ys

@@ -1,14 +1,22 @@
 -- Why a statement ends that waits at its session's root for another node, and with which answer: the Reply comes to what the root
--- sent down last, or the statement is given up. Nothing else that comes to the root's node ends it, and each of these ends it in
--- that very turn; so it ends with the first of them, unless its node stops before. (Database Administrator's Guide, "Distributed
--- Transactions Concepts": session trees, local and global coordinators.)
-use Rattle.std.specs.Prelude.{◌≡◌, ℕ, ◌&&◌, Bool, true, false, if◌then◌else◌, List, [], ◌∷◌, slice_get, Option, Some, None}
+-- sent down last, or the statement is given up. So does ROLLBACK TO, whose children go back one after the other. Nothing else that
+-- comes to the root's node ends it, and each of these ends it in that very turn; so it ends with the first of them, unless its node
+-- stops before. (Database Administrator's Guide, "Distributed Transactions Concepts": session trees, local and global coordinators.)
+use Rattle.std.specs.Prelude.{◌≡◌, ℕ, ◌+◌, ◌&&◌, Bool, true, false, if◌then◌else◌, List, [], ◌∷◌, slice_get, Option, Some, None}
 use Rattle.node_rules.specs.Calls.{is_gone}
 use Rattle.node_rules.specs.Client.{waited_link}
-use Rattle.node_rules.specs.Data.{Advice, Answer, BranchId, Input, Kind, Place, Post, Stmt}
+use Rattle.node_rules.specs.Data.{Answer, BranchId, Input, Kind, Place, Post, Task}
 use Rattle.node_rules.specs.Data.answers
 use Rattle.node_rules.specs.Data.inputs
 use Rattle.node_rules.specs.Data.kinds
+use Rattle.node_rules.specs.Data.tasks
+use Rattle.node_rules.specs.declared.work.Errand.{Errand}
+use Rattle.node_rules.specs.declared.work.Errand.TheVariants as errands
+use Rattle.node_rules.specs.declared.work.Going.{Going}
+use Rattle.node_rules.specs.declared.work.Waits.{Waits}
+use Rattle.node_rules.specs.declared.work.Waits.TheVariants as waiting
+use Rattle.node_rules.specs.declared.work.Work.{Work}
+use Rattle.node_rules.specs.Marks.{next_back}
 use Rattle.node_rules.specs.declared.session.PendingCall.TheVariants as pending
 use Rattle.node_rules.specs.Inputs.{Came}
 use Rattle.node_rules.specs.NodeState.{NodeState, Branch, branch_at}
@@ -22,14 +30,16 @@ use Rattle.run_rules.specs.Data.happenings
 use Rattle.run_rules.specs.Each.{AtEach}
 use Rattle.run_rules.specs.Facts.{Facts, node_at, place_at}
 use Rattle.run_rules.specs.Lawful.{History, IsLawfulRun}
+use Rattle.run_rules.specs.Runs.{is_accepted}
 use Rattle.run_base_laws.specs.InTurnLaws.{said_in}
+use Rattle.answer_origin_laws.specs.ReplyLaws.{went_back}
 
 -- ---- what a branch sent down the session tree
 
--- whether a message takes a statement to a child: an Exec, or the Open before the first
+-- whether a message takes a statement or a BACK to a child: an Exec, or the Open before the first
 abbrev pub calls_below : Kind → Bool
-calls_below (kinds.Open edge root depth) = true
-calls_below (kinds.Exec call given advice s) = true
+calls_below (kinds.Open edge root depth read_at) = true
+calls_below (kinds.Exec call task) = true
 calls_below _ = false
 
 -- whether it is such a message of this branch
@@ -45,17 +55,20 @@ last_sent_down b before (m ∷ ms) = last_sent_down b (if is_sent_down b m then 
 pub record IsLastReply (said : List Post) (b : BranchId) (input : Input) (a : Answer) : Type 0 where
   pub child : BranchId
   pub call : ℕ
-  pub room : ℕ
-  pub advice : Option Advice
-  pub statement : Stmt
-  pub sent : last_sent_down b None said ≡ Some (record { from = b; to = child; kind = kinds.Exec call room advice statement })
+  pub task : Task
+  pub sent : last_sent_down b None said ≡ Some (record { from = b; to = child; kind = kinds.Exec call task })
   pub weight : Option ℕ
   pub count : ℕ
   pub came : Came input child b (kinds.Reply call weight count a)
 
+-- whether a task takes its branch back to a savepoint
+abbrev pub is_back : Task → Bool
+is_back (tasks.Run given advice s) = false
+is_back (tasks.GoBack keep) = true
+
 -- ---- a statement that waits
 
--- The statement of a session waits at the root g of its transaction.
+-- The statement of a session waits at the root g of its transaction, or its ROLLBACK TO.
 pub record StatementPends (k : NodeState) (g : BranchId) : Type 0 where
   pub root : (session_at k.sessions g.session).root ≡ Some g
   pub call : (session_at k.sessions g.session).call ≡ pending.Statement
@@ -65,17 +78,32 @@ abbrev pub link_waited : Option Branch → List ℕ
 link_waited None = []
 link_waited (Some x) = waited_link x.live x.work.going
 
--- Why it ends in a turn with this answer: by what was sent so far, the link that it waits for, and what came.
-pub data StatementCause (said : List Post) (link : List ℕ) (g : BranchId) (input : Input) (a : Answer) : Type 0 where
-  Is_answered : IsLastReply said g input a → is_gone a ≡ false → StatementCause said link g input a
-  Branch_is_gone : (refused : Answer) → IsLastReply said g input refused → is_gone refused ≡ true → a ≡ answers.Refused (dtx 8 (one link)) → StatementCause said link g input a
-  Is_given_up : input ≡ inputs.GiveUp g.session → a ≡ answers.Refused (dtx 3 (one link)) → StatementCause said link g input a
+-- the child that is to go back next, once that has done so which a branch waits for
+abbrev pub next_by : Work → Errand → Waits → Option ℕ
+next_by w (errands.GoBack step) (waiting.ForReply i) = next_back w step (i + 1)
+next_by w _ waits = None
+
+abbrev pub next_after : Work → Option Going → Option ℕ
+next_after w None = None
+next_after w (Some g) = next_by w g.errand g.waits
+
+abbrev pub goes_next : Option Branch → Option ℕ
+goes_next None = None
+goes_next (Some x) = next_after x.work x.work.going
+
+-- Why it ends in a turn with this answer: by what was sent so far, the link that it waits for, the child that is to go back next, and
+-- what came. A child that went back ends ROLLBACK TO only where no other is to go back; any other answer of a child is the answer.
+pub data StatementCause (said : List Post) (link : List ℕ) (next : Option ℕ) (g : BranchId) (input : Input) (a : Answer) : Type 0 where
+  Is_answered : (last : IsLastReply said g input a) → (is_back last.task && is_accepted (Some a)) ≡ false → is_gone a ≡ false → StatementCause said link next g input a
+  Branch_is_gone : (refused : Answer) → IsLastReply said g input refused → is_gone refused ≡ true → a ≡ answers.Refused (dtx 8 (one link)) → StatementCause said link next g input a
+  Is_back : (told : Answer) → (last : IsLastReply said g input told) → (is_back last.task && is_accepted (Some told)) ≡ true → next ≡ None → a ≡ went_back → StatementCause said link next g input a
+  Is_given_up : input ≡ inputs.GiveUp g.session → a ≡ answers.Refused (dtx 3 (one link)) → StatementCause said link next g input a
 
 -- ---- the laws
 
 -- the cause by the facts and by what the node of g keeps
 abbrev pub CauseNow : Facts → NodeState → BranchId → Input → Answer → Type 0
-CauseNow f k g input a = StatementCause (said_in f) (link_waited (branch_at k g)) g input a
+CauseNow f k g input a = StatementCause (said_in f) (link_waited (branch_at k g)) (goes_next (branch_at k g)) g input a
 
 -- a statement that waits and is among the calls that a turn ends is so for a cause
 abbrev pub StatementsEnd : List Place → Facts → Trail → Happening → Type 0

@@ -19,7 +19,8 @@ pub fn calls_end_for_cause()
 {}
 
 /// A statement that waits for another node ends in a turn only where the Reply comes to what its root sent down last, with the
-/// answer of that Reply, or DTX-08 where a branch is gone, or where it is given up, with DTX-03.
+/// answer of that Reply, or DTX-08 where a branch is gone, or where it is given up, with DTX-03. ROLLBACK TO, which calls one child
+/// after the other to go back, ends with the Reply of the last of them, or with the first refusal.
 pub fn statements_end_for_cause()
     ensures { StatementsEndForCause }
 {}
@@ -29,7 +30,8 @@ pub fn causes_end_statements()
     ensures { CausesEndStatements }
 {}
 
-/// The link that DTX-03 and DTX-08 name is the one that the name of the statement's table stands for, at the node of its session.
+/// The link that DTX-03 and DTX-08 name is the one that the name of the statement's table stands for, at the node of its session;
+/// with ROLLBACK TO it is that of a child of its transaction.
 pub fn statements_wait_for_their_links()
     ensures { StatementsWaitForTheirLinks }
 {}
@@ -37,7 +39,7 @@ pub fn statements_wait_for_their_links()
 /// In the run of a script a call ends with the first happening that ends it, and with no other: from the turn in which it comes it
 /// is pending until a turn of its node ends it, for a cause, or its node stops; no other call comes to its session meanwhile, and
 /// none is pending at a node that is down; and each cause of a statement that waits ends it in its very turn, DTX-03 and DTX-08 with
-/// the link of its table.
+/// the link of its table, or of a child of its transaction.
 pub fn pending_calls_end()
     ensures { PendingCallsEnd }
 {}

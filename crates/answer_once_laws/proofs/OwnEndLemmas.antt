@@ -8,6 +8,7 @@ use Rattle.node_rules.specs.Data.{Act, Answer, BranchId, Decision, Input, KeptRo
 use Rattle.node_rules.specs.Data.acts
 use Rattle.node_rules.specs.Data.answers
 use Rattle.node_rules.specs.Data.inputs
+use Rattle.node_rules.specs.Data.stmts
 use Rattle.node_rules.specs.declared.session.Finished.{Finished}
 use Rattle.node_rules.specs.declared.session.Session.{Session}
 use Rattle.node_rules.specs.Calls.{answer_ends}
@@ -19,10 +20,11 @@ use Rattle.node_rules.specs.Sessions.{commit_is_pending, commit_answer}
 use Rattle.node_rules.specs.Statement.{ran, after_run}
 use Rattle.node_rules.specs.Turn.{turn_of, heard, draft_of}
 use Rattle.node_rules.proofs.Steps as steps
-use Rattle.node_rules.proofs.Steps.{Step, Asked, Acting, Collects, Doing}
+use Rattle.node_rules.specs.Marks.{node_back}
+use Rattle.node_rules.proofs.Steps.{Step, Asked, Goes_to, Calls_back, Acting, Collects, Doing}
 use Rattle.run_base_laws.proofs.LawfulLemmas.{serves}
 use Rattle.run_base_laws.proofs.RestRunLemmas.{NodeRests, heard_rests, run_roots}
-use Rattle.run_base_laws.proofs.RootLemmas.{SessionsFit, begun_so, pends_so}
+use Rattle.run_base_laws.proofs.RootLemmas.{SessionsFit, begun_so, counted_so, back_so, pends_so}
 use Rattle.run_rules.specs.Calls.{is_complete}
 use Rattle.run_rules.specs.Data.{Happening, Turn}
 use Rattle.run_rules.specs.Data.happenings
@@ -79,11 +81,19 @@ module _ {input : Input} {n : ℕ} {st : Option Stmt} (call : input ≡ inputs.C
 
   -- the branch that the call is about is the session's
   asked_session : {k : NodeState} {x : Branch} {s : Stmt} {given : ℕ} → SessionsFit k → Asked k input x s given → x.live.me.session ≡ n
-  asked_session fit (steps.By_call m x s its rows has code live) = fit.roots.each m x.live.me has ∙ same_session m (Some s) its
+  asked_session fit (steps.By_call m x s its rows has code live may) = fit.roots.each m x.live.me has ∙ same_session m (Some s) its
   asked_session fit (steps.By_exec x from number given advice s came live runs) = absurd (no_message call came)
 
+  goes_session : {k : NodeState} {x : Branch} {step : ℕ} → SessionsFit k → Goes_to k input x step → x.live.me.session ≡ n
+  goes_session fit (steps.By_rollback_to m x name _ its has code live set) = fit.roots.each m x.live.me has ∙ same_session m (Some (stmts.RollbackTo name)) its
+  goes_session fit (steps.By_back x from number keep came live runs) = absurd (no_message call came)
+
+  calling_session : {k : NodeState} {x : Branch} {step from : ℕ} → SessionsFit k → Calls_back k input x step from → x.live.me.session ≡ n
+  calling_session fit (steps.Has_gone j x step goes is) = let back : SessionsFit (node_back j x step) = subst SessionsFit is fit in goes_session {k = j} (record { roots = back.roots; above = back.above }) goes
+  calling_session fit (steps.Has_heard x weight count a i e g step answered going errand plain) = absurd (no_message call answered.came)
+
   collects_session : {k : NodeState} {l : Live} {comment : List ℕ} {site_below : Bool} → SessionsFit k → Collects k input l comment site_below → l.me.session ≡ n
-  collects_session {l = l} fit (steps.By_commit m given its has code same) = fit.roots.each m l.me has ∙ same_session m _ its
+  collects_session {l = l} fit (steps.By_commit m given its has code writer same) = fit.roots.each m l.me has ∙ same_session m _ its
   collects_session fit (steps.By_prepare from site_below came works) = absurd (no_message call came)
 
   acting_session : {k : NodeState} {l : Live} {site_below : Bool} {a : Act} → SessionsFit k → Acting k input l site_below a → l.me.session ≡ n
@@ -113,8 +123,10 @@ module _ {input : Input} {n : ℕ} {st : Option Stmt} (call : input ≡ inputs.C
   next_own k s from next is = subst (λ x. CompletesOwn n (next_turn k s from x).ended) (sym is) tt
 
 own_on : (p : Place) (input : Input) (n : ℕ) (st : Option Stmt) → input ≡ inputs.Call n st → {k : NodeState} {d : TurnDraft} → Step p input k d → SessionsFit k → CompletesOwn n d.ended
-own_on p input n st call (steps.Begins {k = k} m s its rows range none step) fit = own_on p input n st call step (begun_so k fit p m)
-own_on p input n st call (steps.Pends {k = k} m l given its has live code step) fit = own_on p input n st call step (pends_so k fit m pending.Commit)
+own_on p input n st call (steps.Begins {k = k} m s read_at its begins range none step) fit = own_on p input n st call step (begun_so k fit p m read_at)
+own_on p input n st call (steps.Counts_call {k = k} m s its counts step) fit = own_on p input n st call step (counted_so k fit m)
+own_on p input n st call (steps.Goes_back {k = k} x step goes next) fit = own_on p input n st call next (back_so k fit x step)
+own_on p input n st call (steps.Pends {k = k} m l given its has live code writer step) fit = own_on p input n st call step (pends_so k fit m pending.Commit)
 own_on p input n st call (steps.Lets_reads_go l comment site_below live begins step) fit = own_on p input n st call step (record { roots = fit.roots; above = fit.above })
 own_on p input n st call (steps.Counts_ack s from kept came counts step) fit = own_on p input n st call step (record { roots = fit.roots; above = fit.above })
 own_on p input n st call (steps.Runs {k = k} x s given t asked way) fit = answer_own k.sessions n (after_run x.live (ran p k x.live.me s t)) _ x.live.parent (asked_session call fit asked)
@@ -130,7 +142,12 @@ own_on p input n st call (steps.Forces_commit {k = k} m id b its named) fit = co
 own_on p input n st call (steps.Forces_rollback {k = k} m id b its named) fit = commit_refused k.sessions n b _ _ ((λ complete. same_session call m _ its), tt)
 own_on p input n st call (steps.Hides m mixed id s its found) fit = ((λ complete. same_session call m _ its), tt)
 own_on p input n st call (steps.Advises m a its) fit = ((λ complete. same_session call m _ its), tt)
-own_on p input n st call (steps.Rolls_back m x its has live) fit = ((λ complete. same_session call m _ its), tt)
+own_on p input n st call (steps.Leaves m s d x its ends has live) fit = ((λ complete. same_session call m _ its), tt)
+own_on p input n st call (steps.Sets_read_only m its) fit = ((λ complete. same_session call m _ its), tt)
+own_on p input n st call (steps.Sets_savepoint m x name its has code live) fit = ((λ complete. same_session call m _ its), tt)
+own_on p input n st call (steps.Images checkpoint) fit = tt
+own_on p input n st call (steps.Backs x step from i calls next) fit = tt
+own_on p input n st call (steps.Is_back {k = k} x step from calls none) fit = answer_own k.sessions n x.live _ x.live.parent (calling_session call fit calls)
 own_on p input n st call (steps.Gives_up m x gives has calls live) fit = let both : inputs.Call n st ≡ inputs.GiveUp m = sym call ∙ gives in absurd cc
 own_on p input n st call (steps.Gives_up_commit m b o gives has calls live) fit = let both : inputs.Call n st ≡ inputs.GiveUp m = sym call ∙ gives in absurd cc
 own_on p input n st call (steps.Rests) fit = tt
@@ -138,7 +155,7 @@ own_on p input n st call (steps.Sends says why) fit = tt
 own_on p input n st call (steps.Calls x s given i table asked way) fit = tt
 own_on p input n st call (steps.Opens x s given node link table asked way) fit = tt
 own_on p input n st call (steps.Goes_on x from strength g link opened) fit = tt
-own_on p input n st call (steps.Opens_branch to parent edge root depth came new) fit = tt
+own_on p input n st call (steps.Opens_branch to parent edge root depth read_at came new) fit = tt
 own_on p input n st call (steps.Drops_told l live drops) fit = tt
 own_on p input n st call (steps.Drops_asked l from live came parent) fit = tt
 

@@ -100,6 +100,7 @@ module _ (places : List Place) (asked : List Command) (r : ℕ) where
   input_pages t n (inputs.GiveUp session) is = is
   input_pages t n (inputs.Message m) is = is
   input_pages t n inputs.Reco is = is
+  input_pages t n inputs.Checkpoint is = is
 
   -- ---- a node stops
 

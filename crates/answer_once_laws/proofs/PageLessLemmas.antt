@@ -131,6 +131,7 @@ module _ (places : List Place) (asked : List Command) (r : ℕ) where
   unsaid w node (inputs.GiveUp session) none = record { before = none; free = λ n st is. absurd cc }
   unsaid w node (inputs.Message m) none = record { before = none; free = λ n st is. absurd cc }
   unsaid w node inputs.Reco none = record { before = none; free = λ n st is. absurd cc }
+  unsaid w node inputs.Checkpoint none = record { before = none; free = λ n st is. absurd cc }
 
   -- ---- a node stops
 

@@ -1,6 +1,6 @@
 -- In every lawful run a client's statement that is answered in the turn that it comes to, and not with a refusal, ran in that turn.
-use Rattle.std.specs.Prelude.{IfSome}
-use Rattle.std.proofs.Common.{◌≡◌, ℕ, ◌==◌, ◌&&◌, true, false, if◌then◌else◌, find, is_none, List, [], ◌∷◌, ◌++◌, length, Option, Some, None, refl, sym, ap, subst, ◌∙◌, arith}
+use Rattle.std.specs.Prelude.{IfSome, is_some}
+use Rattle.std.proofs.Common.{◌≡◌, ℕ, ◌==◌, ◌&&◌, Bool, true, false, if◌then◌else◌, find, is_none, List, [], ◌∷◌, ◌++◌, length, Option, Some, None, refl, sym, ap, subst, ◌∙◌, arith}
 use Rattle.std.proofs.lemmas.Bool.{and_parts, eqb-true, eq-eqb}
 use Rattle.tran_ids.proofs.ListedLemmas.{item_is}
 use Rattle.redo_record.specs.Durable.{durable}
@@ -14,11 +14,12 @@ use Rattle.node_rules.specs.declared.session.PendingCall.TheVariants as pending
 use Rattle.node_rules.specs.declared.session.Session.{Session}
 use Rattle.node_rules.specs.Inputs.{IsSession}
 use Rattle.node_rules.specs.NodeState.{NodeState, Branch, TurnDraft, TurnOutput}
-use Rattle.node_rules.specs.Names.{Way, Runs_here, Over, Through, Nowhere_to, A_table, named_by, table_of, ref_of, way_of}
+use Rattle.node_rules.specs.Refusals.{dtx}
+use Rattle.node_rules.specs.Names.{is_write, Way, Runs_here, Over, Through, Nowhere_to, A_table, named_by, table_of, ref_of, way_of}
 use Rattle.node_rules.specs.Sessions.{session_at, with_call}
 use Rattle.node_rules.specs.Statement.{ran, after_run}
-use Rattle.node_rules.specs.Calls.{answered_sessions, answer_ends, goes}
-use Rattle.node_rules.specs.Client.{new_root, begun_by, begun, root_by, root_at, statement_by, statement_call, call_turn}
+use Rattle.node_rules.specs.Calls.{answered_sessions, answer_ends, goes, statement_at}
+use Rattle.node_rules.specs.Client.{new_root, begun_by, begun, refuses, root_by, root_at, statement_by, statement_call, call_turn}
 use Rattle.node_rules.specs.Turn.{turn_of, draft_of}
 use Rattle.run_rules.specs.Branches.{Run, Seen, Trail, seen_id, is_live, is_live_at, is_root_of, root_at as told_root}
 use Rattle.run_rules.specs.Data.{Turn, Happening}
@@ -26,10 +27,10 @@ use Rattle.run_rules.specs.Data.happenings
 use Rattle.run_rules.specs.Facts.{Facts, records_at, served, outcome_at}
 use Rattle.run_rules.specs.Lawful.{History, IsLawfulRun}
 use Rattle.run_claims.specs.Places.{LeadsTo, Runs_here as Runs_there, catalog_at}
-use Rattle.run_rules.specs.Runs.{asks, asks_root, bare_name, table_by, run_at_table, run_by, run_in, ended_answer, replied_answer, answer_or, answered_by, is_of_rows, is_accepted}
-use Rattle.run_rules.specs.Trail.{origin_by, next_root, root_seen, with_begun, roots_begun, children_begun, begun_in_turn, trail_after}
+use Rattle.run_rules.specs.Runs.{asks, asks_root, bare_name, table_by, run_at_table, run_by, run_in, ended_answer, replied_answer, answer_or, answered_by, begins_transaction, is_of_rows, is_accepted}
+use Rattle.run_rules.specs.Trail.{back_in, origin_by, next_root, root_seen, with_begun, roots_begun, children_begun, begun_in_turn, trail_after}
 use Rattle.run_base_laws.proofs.RestRunLemmas.{NodeRests, run_roots}
-use Rattle.run_base_laws.proofs.RootLemmas.{RootsFit, SessionsFit, begun_so}
+use Rattle.run_base_laws.proofs.RootLemmas.{RootsFit, SessionsFit, begun_so, counted_so, counted_session}
 use Rattle.run_base_laws.proofs.StoredLemmas.{records_are_kept}
 use Rattle.tree_laws.proofs.PrefixLemmas.{so_far, f_at}
 use Rattle.tree_trail_laws.specs.SeenLaws.{IsSeenRoot}
@@ -43,7 +44,7 @@ use Rattle.answer_origin_laws.proofs.ExecLemmas.{way_table}
 use Rattle.answer_origin_laws.proofs.EndedRootLemmas.{Freed, call_freed, roots_told, next_told, root_after}
 use Rattle.answer_origin_laws.proofs.RootToldLemmas.{root_brought}
 use Rattle.answer_origin_laws.proofs.NameLemmas.{catalog_kept, same_names, table_at}
-use Rattle.answer_origin_laws.proofs.ReplyRunLemmas.{happens_at, prefix, moment_at, ran_there}
+use Rattle.answer_origin_laws.proofs.ReplyStandLemmas.{happens_at, prefix, moment_at, ran_there}
 use Rattle.tree_laws.proofs.AtTurn.{at_turn}
 
 -- ---- what the node does
@@ -81,7 +82,11 @@ module _ (p : Place) (k : NodeState) (n : ℕ) (m : ℕ) (a : Answer) (good : is
     by_root : (code : Option ℕ) (o : Option Branch) → Ends (statement_by p j n s code o) → (table : Table) × (named_by j.stored.durable (ref_of s) ≡ A_table table)
     by_root code None ended = absurd cc
     by_root (Some c) (Some x) ended = absurd (refused_not _ n ended)
-    by_root None (Some x) ended = by_way x (way_of p j.stored.durable x.live 0 s) refl ended
+    by_root None (Some x) ended = by_allowed (is_some x.live.read_at && is_write s) ended
+      where
+        by_allowed : (q : Bool) → Ends (if q then refuses j n (dtx 21 []) else statement_at p j x s 0) → (table : Table) × (named_by j.stored.durable (ref_of s) ≡ A_table table)
+        by_allowed true at = absurd (refused_not _ n at)
+        by_allowed false at = by_way x (way_of p j.stored.durable x.live 0 s) refl at
 
   -- the root that it runs at is the session's, before and after
   module _ (fits : RootsFit (begun p k n).sessions) (me : BranchId) (has : (session_at (begun p k n).sessions n).root ≡ Some me) where
@@ -105,7 +110,12 @@ module _ (p : Place) (k : NodeState) (n : ℕ) (m : ℕ) (a : Answer) (good : is
     root_frees : (s : Stmt) (code : Option ℕ) (o : Option Branch) → ((x : Branch) → o ≡ Some x → x.live.me ≡ me) → Ends (statement_by p (begun p k n) n s code o) → (m ≡ n) × Freed (statement_by p (begun p k n) n s code o).after.sessions n me
     root_frees s code None mine ended = absurd cc
     root_frees s (Some c) (Some x) mine ended = absurd (refused_not _ n ended)
-    root_frees s None (Some x) mine ended = way_frees x s (way_of p (begun p k n).stored.durable x.live 0 s) (mine x refl) ended
+    root_frees s None (Some x) mine ended = by (is_some x.live.read_at && is_write s) ended
+      where
+        by : (q : Bool) → Ends (if q then refuses (begun p k n) n (dtx 21 []) else statement_at p (begun p k n) x s 0)
+            → (m ≡ n) × Freed (if q then refuses (begun p k n) n (dtx 21 []) else statement_at p (begun p k n) x s 0).after.sessions n me
+        by true at = absurd (refused_not _ n at)
+        by false at = way_frees x s (way_of p (begun p k n).stored.durable x.live 0 s) (mine x refl) at
 
     mine_by : (o : Option BranchId) → o ≡ Some me → (x : Branch) → root_by (begun p k n) o ≡ Some x → x.live.me ≡ me
     mine_by None none x at = absurd cc
@@ -124,13 +134,21 @@ module _ (p : Place) (k : NodeState) (n : ℕ) (m : ℕ) (a : Answer) (good : is
 -- ---- what is told
 
 module _ (f : Facts) (tr : Trail) (u : Turn) (uncut : u.cut ≡ false) (session : ℕ) (s : Stmt) (call : u.input ≡ inputs.Call session (Some s)) (rows : is_of_rows s ≡ true) where
+  -- a statement with a table begins a transaction
+  begins_by : (st : Stmt) → is_of_rows st ≡ true → begins_transaction st ≡ true
+  begins_by (stmts.Insert table columns given) is = refl
+  begins_by (stmts.Update table sets cs) is = refl
+  begins_by (stmts.Delete table cs) is = refl
+  begins_by (stmts.Select list table cs for_update) is = refl
+  begins_by _ is = absurd cc
+
   -- a session that has none begins one
-  pub root_begins : told_root tr u.node session ≡ None → told_root (with_begun f tr u) u.node session ≡ Some (root_seen (next_root f tr u.node session))
+  pub root_begins : told_root tr u.node session ≡ None → told_root (with_begun f tr u) u.node session ≡ Some (root_seen f u.node s (next_root f tr u.node session))
   root_begins none =
-      let b : Seen = root_seen (next_root f tr u.node session) in
-      let begins : begun_in_turn f tr u ≡ b ∷ [] = ap (λ c. if c then [] else roots_begun f tr u.node u.input ++ children_begun tr u.input u.sent) uncut
-      ∙ (ap (λ i. roots_begun f tr u.node i ++ children_begun tr i u.sent) call
-      ∙ (ap (λ q. (if q && is_none (told_root tr u.node session) then b ∷ [] else []) ++ []) rows ∙ ap (λ o. (if true && is_none o then b ∷ [] else []) ++ []) none)) in
+      let b : Seen = root_seen f u.node s (next_root f tr u.node session) in
+      let begins : begun_in_turn f tr u ≡ b ∷ [] = ap (λ c. if c then [] else roots_begun f tr u.node u.input ++ children_begun f tr u.input u.sent) uncut
+      ∙ (ap (λ i. roots_begun f tr u.node i ++ children_begun f tr i u.sent) call
+      ∙ (ap (λ q. (if q && is_none (told_root tr u.node session) then b ∷ [] else []) ++ []) (begins_by s rows) ∙ ap (λ o. (if true && is_none o then b ∷ [] else []) ++ []) none)) in
       let passes : is_root_of u.node session b ≡ true = ap (λ q. (q && true) && (true && (session == session))) (eq-eqb u.node u.node refl) ∙ eq-eqb session session refl in
       ap (λ xs. find (is_root_of u.node session) (tr.seen ++ xs)) begins ∙ find_last (is_root_of u.node session) tr.seen b none passes
 
@@ -140,7 +158,7 @@ module _ (f : Facts) (tr : Trail) (u : Turn) (uncut : u.cut ≡ false) (session 
     where
       by : (o : Option Seen) → told_root tr u.node session ≡ o → (b : Seen) × (told_root (with_begun f tr u) u.node session ≡ Some b)
       by (Some b) at = (b, find_more (is_root_of u.node session) tr.seen (begun_in_turn f tr u) b at)
-      by None none = (root_seen (next_root f tr u.node session), root_begins none)
+      by None none = (root_seen f u.node s (next_root f tr u.node session), root_begins none)
 
   one_root : (b : Seen) → told_root (with_begun f tr u) u.node session ≡ Some b → b.me ≡ its_root.0.me
   one_root b at = let it : Some b ≡ Some its_root.0 = sym at ∙ its_root.1 in let same : b ≡ its_root.0 = cc in ap (λ (y : Seen). y.me) same
@@ -149,24 +167,26 @@ module _ (f : Facts) (tr : Trail) (u : Turn) (uncut : u.cut ≡ false) (session 
   module _ (p : Place) (k : NodeState) (range : IsSession session) (fits : SessionsFit k) (sees : IsSeenRoot tr k (told_root tr u.node session) (session_at k.sessions session).root)
       (next : (session_at k.sessions session).root ≡ None → next_root f tr u.node session ≡ new_root p k session) where
     abbrev Has : Option BranchId → Type 0
-    Has r = (session_at (begun_by p k session r).sessions session).root ≡ Some its_root.0.me
+    Has r = (session_at (begun_by p k session None r).sessions session).root ≡ Some its_root.0.me
 
     has_by : (o : Option Seen) → told_root tr u.node session ≡ o → (r : Option BranchId) → (session_at k.sessions session).root ≡ r → IsSeenRoot tr k o r → Has r
     has_by (Some s) told (Some b) has seen = has ∙ ap (λ c. Some c) (sym (item_is seen_id tr.seen b s seen.0) ∙ one_root s (find_more (is_root_of u.node session) tr.seen (begun_in_turn f tr u) s told))
     has_by None told None none seen =
-        root_there k.sessions session (new_root p k session) fits.roots range ∙ ap (λ c. Some c) (sym (next none) ∙ one_root (root_seen (next_root f tr u.node session)) (root_begins told))
+        root_there k.sessions session (new_root p k session) fits.roots range ∙ ap (λ c. Some c) (sym (next none) ∙ one_root (root_seen f u.node s (next_root f tr u.node session)) (root_begins told))
     has_by (Some s) told None has seen = absurd seen
     has_by None told (Some b) has seen = absurd seen
 
     pub session_has : (session_at (begun p k session).sessions session).root ≡ Some its_root.0.me
-    session_has = has_by (told_root tr u.node session) refl (session_at k.sessions session).root refl sees
+    session_has =
+        let j : NodeState = begun_by p k session None (session_at k.sessions session).root in
+        ap (λ x. x.root) (counted_session j.sessions session session (session_at j.sessions session).root).1 ∙ has_by (told_root tr u.node session) refl (session_at k.sessions session).root refl sees
 
-    fits_by : (r : Option BranchId) → RootsFit (begun_by p k session r).sessions
-    fits_by (Some b) = fits.roots
-    fits_by None = (begun_so k fits p session).roots
+    fits_by : (r : Option BranchId) → SessionsFit (begun_by p k session None r)
+    fits_by (Some b) = record { roots = fits.roots; above = fits.above }
+    fits_by None = begun_so k fits p session None
 
     pub begun_fits : RootsFit (begun p k session).sessions
-    begun_fits = fits_by (session_at k.sessions session).root
+    begun_fits = (counted_so (begun_by p k session None (session_at k.sessions session).root) (fits_by (session_at k.sessions session).root) session).roots
 
   module _ (table : Table) (named : named_by (durable (records_at f u.node)) (ref_of s) ≡ A_table table) where
     abbrev pub run : Run
@@ -274,7 +294,7 @@ module _ (t : History) (whole : IsLawfulRun t) (hs : List Happening) (u : Turn) 
     transaction = ap (told_root (trail_after t.places (f_at t hs) (tr_at t hs) (happenings.Turn u)) u.node) freed.0 ∙ seen.1;
     is_me = seen.2;
     origin = root_brought t.places (f_at t hs) (tr_at t hs) u o outcome n a more ended seen.0 (ap (told_root (trail_after t.places (f_at t hs) (tr_at t hs) (happenings.Turn u)) u.node) freed.0 ∙ seen.1)
-        ∙ ap (origin_by (with_begun (f_at t hs) (tr_at t hs) u) u (asks (with_begun (f_at t hs) (tr_at t hs) u) u.node u.input)) ran_it;
+        ∙ ap (origin_by (with_begun (f_at t hs) (tr_at t hs) u) u (asks (with_begun (f_at t hs) (tr_at t hs) u) u.node u.input) (back_in (with_begun (f_at t hs) (tr_at t hs) u) u (answered_by (outcome_at t.places (f_at t hs) u)))) ran_it;
   }
 
   pub ran_at_once : (r : Run) × (root : BranchId) × (run_in (f_at t hs) (with_begun (f_at t hs) (tr_at t hs) u) u ≡ Some r) × CallAnsweredBy t (tr_at t hs).moment u.node n root a r × IsTracedFor t.places (f_at t hs) (tr_at t hs) u n root r

@@ -6,10 +6,11 @@ use Rattle.std.proofs.lemmas.Bool.{and_left, and_right}
 use Rattle.std.proofs.lemmas.Bool.Decides.{nat_tests}
 use Rattle.tran_ids.proofs.BranchLemmas.{equal_from_same, same_from_equal}
 use Rattle.redo_record.specs.Durable.{durable}
-use Rattle.node_rules.specs.Data.{Table, TableRef, Stmt, Answer, Advice, BranchId, Kind, Msg, Input, Post}
+use Rattle.node_rules.specs.Data.{Table, TableRef, Stmt, Task, Answer, Advice, BranchId, Kind, Msg, Input, Post}
 use Rattle.node_rules.specs.declared.session.Finished.{Finished}
 use Rattle.node_rules.specs.Data.inputs
 use Rattle.node_rules.specs.Data.kinds
+use Rattle.node_rules.specs.Data.tasks
 use Rattle.node_rules.specs.Words.{same}
 use Rattle.node_rules.specs.Inputs.{Came}
 use Rattle.node_rules.specs.Names.{A_table, named_by, table_of, ref_of}
@@ -18,40 +19,50 @@ use Rattle.node_rules.specs.NodeState.{post}
 use Rattle.run_rules.specs.Branches.{Run, Seen, Trail, Origin, is_live, is_live_at, is_root_of, seen_at, origin_at, origin_of}
 use Rattle.run_rules.specs.Data.{Took, Turn}
 use Rattle.run_rules.specs.Facts.{Facts, records_at}
-use Rattle.run_rules.specs.Runs.{asks_branch, asks, bare_name, table_by, run_at_table, run_by, run_in, replied_answer, answer_or, ended_answer}
-use Rattle.run_rules.specs.Trail.{is_reply, taken_by, taken_after, last_answer, brought, origin_by, origins_of}
+use Rattle.run_rules.specs.Runs.{asks_branch, asks, is_counted, back_of, back_branch, goes_back, bare_name, table_by, run_at_table, run_by, run_in, replied_answer, answer_or, ended_answer}
+use Rattle.run_rules.specs.Trail.{is_reply, taken_by, taken_after, last_answer, brought, back_in, origin_by, origins_of}
 use Rattle.tree_trail_laws.proofs.PlanLemmas.{find_last}
 use Rattle.answer_origin_laws.proofs.NameLemmas.{table_at}
 
 -- ---- the call that a branch has taken
 
-module _ (s : Seen) where
-  low_taken : (kind : Kind) → ((call given : ℕ) (advice : Option Advice) (st : Stmt) → kind ≡ kinds.Exec call given advice st → call ≤ s.taken) → taken_by s.taken kind ≡ s.taken
-  low_taken (kinds.Exec call given advice st) low = let less : call ≤ s.taken = low call given advice st refl in (let it : max s.taken call ≡ s.taken = omega (arith, less) in it)
+-- a branch below a root is the root of no session
+below_root : (n session : ℕ) (s : Seen) → s.parent ≢ None → is_root_of n session s ≡ false
+below_root n session s below = and_right (is_live_at n s) (is_none s.parent && (s.me.session == session)) (and_left (is_none s.parent) (s.me.session == session) (some s.parent below))
+  where
+    some : (o : Option BranchId) → o ≢ None → is_none o ≡ false
+    some None other = absurd (other refl)
+    some (Some b) other = refl
+
+module _ (n : ℕ) (s : Seen) (below : s.parent ≢ None) where
+  low_taken : (kind : Kind) → ((call : ℕ) (task : Task) → kind ≡ kinds.Exec call task → call ≤ s.taken) → taken_by s.taken kind ≡ s.taken
+  low_taken (kinds.Exec call task) low = let less : call ≤ s.taken = low call task refl in (let it : max s.taken call ≡ s.taken = omega (arith, less) in it)
   low_taken _ low = refl
 
   -- nothing new comes to it
-  pub taken_still : (input : Input) → ((from : BranchId) (call given : ℕ) (advice : Option Advice) (st : Stmt) → Came input from s.me (kinds.Exec call given advice st) → call ≤ s.taken) → taken_after s input ≡ s.taken
+  pub taken_still : (input : Input) → ((from : BranchId) (call : ℕ) (task : Task) → Came input from s.me (kinds.Exec call task) → call ≤ s.taken) → taken_after n s input ≡ s.taken
   taken_still (inputs.Message m) low = by (same m.to s.me) refl
     where
       by : (q : Bool) → same m.to s.me ≡ q → (if q && is_live s then taken_by s.taken m.kind else s.taken) ≡ s.taken
       by false other = refl
       by true here =
-          let still : taken_by s.taken m.kind ≡ s.taken = low_taken m.kind (λ call given advice st is. low m.from call given advice st
-          (subst (λ b. Came (inputs.Message m) m.from b (kinds.Exec call given advice st)) (equal_from_same m.to s.me here) (record { scn = m.scn; is = ap (λ kind. inputs.Message (record { from = m.from; to = m.to; scn = m.scn; kind = kind })) is }))) in
+          let still : taken_by s.taken m.kind ≡ s.taken = low_taken m.kind (λ call task is. low m.from call task
+          (subst (λ b. Came (inputs.Message m) m.from b (kinds.Exec call task)) (equal_from_same m.to s.me here) (record { scn = m.scn; is = ap (λ kind. inputs.Message (record { from = m.from; to = m.to; scn = m.scn; kind = kind })) is }))) in
           live (is_live s) still
         where
           live : (q : Bool) → taken_by s.taken m.kind ≡ s.taken → (if true && q then taken_by s.taken m.kind else s.taken) ≡ s.taken
           live true still = still
           live false still = refl
-  taken_still (inputs.Call n st) low = refl
-  taken_still (inputs.GiveUp n) low = refl
+  taken_still (inputs.Call session (Some st)) low = ap (λ q. if q && is_counted st then s.taken + 1 else s.taken) (below_root n session s below)
+  taken_still (inputs.Call session None) low = refl
+  taken_still (inputs.GiveUp session) low = refl
   taken_still inputs.Reco low = refl
+  taken_still inputs.Checkpoint low = refl
 
   -- a call comes to it
-  pub taken_new : (input : Input) (from : BranchId) (call given : ℕ) (advice : Option Advice) (st : Stmt) → Came input from s.me (kinds.Exec call given advice st) → s.exit ≡ None → s.taken ≤ call → taken_after s input ≡ call
-  taken_new input from call given advice st came live low =
-      ap (taken_after s) came.is ∙ (ap (λ q. if q && is_live s then max s.taken call else s.taken) (same_from_equal s.me s.me refl) ∙ (ap (λ o. if true && is_none o then max s.taken call else s.taken) live ∙ (let it : max s.taken call ≡ call = omega (arith, low) in it)))
+  pub taken_new : (input : Input) (from : BranchId) (call : ℕ) (task : Task) → Came input from s.me (kinds.Exec call task) → s.exit ≡ None → s.taken ≤ call → taken_after n s input ≡ call
+  taken_new input from call task came live low =
+      ap (taken_after n s) came.is ∙ (ap (λ q. if q && is_live s then max s.taken call else s.taken) (same_from_equal s.me s.me refl) ∙ (ap (λ o. if true && is_none o then max s.taken call else s.taken) live ∙ (let it : max s.taken call ≡ call = omega (arith, low) in it)))
 
 -- ---- whether it answers
 
@@ -65,11 +76,7 @@ says_one b to call weight count a = ap (λ q. (q && true) || false) (same_from_e
 -- a branch below a root ends no call
 pub ends_none : (n : ℕ) (s : Seen) → s.parent ≢ None → (xs : List Finished) → list_any (λ (x : Finished). is_root_of n x.session s) xs ≡ false
 ends_none n s below [] = refl
-ends_none n s below (x ∷ xs) = ap (λ q. q || list_any (λ (y : Finished). is_root_of n y.session s) xs) (and_right (is_live_at n s) (is_none s.parent && (s.me.session == x.session)) (and_left (is_none s.parent) (s.me.session == x.session) (some s.parent below))) ∙ ends_none n s below xs
-  where
-    some : (o : Option BranchId) → o ≢ None → is_none o ≡ false
-    some None other = absurd (other refl)
-    some (Some b) other = refl
+ends_none n s below (x ∷ xs) = ap (λ q. q || list_any (λ (y : Finished). is_root_of n y.session s) xs) (below_root n x.session s below) ∙ ends_none n s below xs
 
 -- the answer in one Reply
 pub replied_one : (o : Option Answer) (scn : ℕ) (b to : BranchId) (call : ℕ) (weight : Option ℕ) (count : ℕ) (a : Answer) → answer_or (ended_answer []) (replied_answer (map (stamped scn) (post b to (kinds.Reply call weight count a)))) ≡ Some a
@@ -77,29 +84,46 @@ replied_one o scn b to call weight count a = refl
 
 -- ---- the run that it comes from
 
-module _ (f : Facts) (tr : Trail) (u : Turn) (whole : u.cut ≡ false) where
+module _ (f : Facts) (tr : Trail) (u : Turn) (answer : Option Answer) (whole : u.cut ≡ false) where
   -- no statement comes
   none_runs : asks tr u.node u.input ≡ None → run_in f tr u ≡ None
   unfolding run_in
   none_runs none = ap (λ q. if q then None else run_by f tr u.node (asks tr u.node u.input)) whole ∙ ap (run_by f tr u.node) none
 
-  abbrev pub origin : Option Run
-  origin = origin_by tr u (asks tr u.node u.input) (run_in f tr u)
+  -- no branch goes back
+  none_back : goes_back tr u.node answer u.input ≡ None → back_in tr u answer ≡ None
+  none_back none = ap (λ q. if q then None else goes_back tr u.node answer u.input) whole ∙ none
 
-  pub brought_alone : asks tr u.node u.input ≡ None → origin ≡ brought tr u.took u.input
-  brought_alone none = ap (λ o. origin_by tr u o (run_in f tr u)) none ∙ ap (origin_by tr u None) (none_runs none)
+  abbrev pub origin : Option Run
+  origin = origin_by tr u (asks tr u.node u.input) (back_in tr u answer) (run_in f tr u)
+
+  pub brought_alone : asks tr u.node u.input ≡ None → goes_back tr u.node answer u.input ≡ None → origin ≡ brought tr u.took u.input
+  brought_alone none still =
+      ap (λ o. origin_by tr u o (back_in tr u answer) (run_in f tr u)) none ∙ (ap (λ g. origin_by tr u None g (run_in f tr u)) (none_back still) ∙ ap (origin_by tr u None None) (none_runs none))
 
   module _ (from b : BranchId) (s : Seen) (at : seen_at tr b ≡ Some s) (live : s.exit ≡ None) where
-    module _ (call given : ℕ) (advice : Option Advice) (st : Stmt) (came : Came u.input from b (kinds.Exec call given advice st)) where
+    -- a call that comes again
+    module _ (call : ℕ) (low : call ≤ s.taken) where
+      old : nat_lt s.taken call ≡ false
+      old = grind (arith, nat_tests, low)
+
+      none_asked : (task : Task) → Came u.input from b (kinds.Exec call task) → asks tr u.node u.input ≡ None
+      none_asked (tasks.Run given advice st) came =
+          ap (asks tr u.node) came.is ∙ (ap (asks_branch call st) at ∙ (ap (λ o. if is_none o && nat_lt s.taken call then Some (record { branch = s; statement = st }) else None) live ∙ ap (λ q. if q then Some (record { branch = s; statement = st }) else None) old))
+      none_asked (tasks.GoBack keep) came = ap (asks tr u.node) came.is
+
+      none_goes : (task : Task) → Came u.input from b (kinds.Exec call task) → goes_back tr u.node answer u.input ≡ None
+      none_goes (tasks.Run given advice st) came = ap (goes_back tr u.node answer) came.is
+      none_goes (tasks.GoBack keep) came =
+          ap (goes_back tr u.node answer) came.is ∙ (ap (back_branch call keep) at ∙ (ap (λ o. if is_none o && nat_lt s.taken call then back_of s.me (Some keep) else None) live ∙ ap (λ q. if q then back_of s.me (Some keep) else None) old))
+
+      pub again_brings : (task : Task) → Came u.input from b (kinds.Exec call task) → (took : Took) → u.took ≡ Some took → origin ≡ s.answer
+      again_brings task came took is =
+          brought_alone (none_asked task came) (none_goes task came) ∙ (ap (λ o. brought tr o u.input) is ∙ (ap (brought tr (Some took)) came.is ∙ (ap last_answer at ∙ ap (λ o. if is_none o then s.answer else None) live)))
+
+    module _ (call given : ℕ) (advice : Option Advice) (st : Stmt) (came : Came u.input from b (kinds.Exec call (tasks.Run given advice st))) where
       asked : asks tr u.node u.input ≡ (if nat_lt s.taken call then Some (record { branch = s; statement = st }) else None)
       asked = ap (asks tr u.node) came.is ∙ (ap (asks_branch call st) at ∙ ap (λ o. if is_none o && nat_lt s.taken call then Some (record { branch = s; statement = st }) else None) live)
-
-      -- a call that comes again
-      pub again_brings : (took : Took) → u.took ≡ Some took → call ≤ s.taken → origin ≡ s.answer
-      again_brings took is low =
-          let old : nat_lt s.taken call ≡ false = grind (arith, nat_tests, low) in
-          let none : asks tr u.node u.input ≡ None = asked ∙ ap (λ q. if q then Some (record { branch = s; statement = st }) else None) old in
-          brought_alone none ∙ (ap (λ o. brought tr o u.input) is ∙ (ap (brought tr (Some took)) came.is ∙ (ap last_answer at ∙ ap (λ o. if is_none o then s.answer else None) live)))
 
       -- one that runs
       abbrev pub runs : Table → Run
@@ -117,12 +141,12 @@ module _ (f : Facts) (tr : Trail) (u : Turn) (whole : u.cut ≡ false) where
             ap (λ q. if q then None else run_by f tr u.node (asks tr u.node u.input)) whole ∙ (ap (run_by f tr u.node) some ∙ ap (run_at_table tr.moment (record { branch = s; statement = st })) (its_table (ref_of st) (table_at (durable (records_at f u.node)) (ref_of st) table named)))
 
         pub run_brings : origin ≡ Some (runs table)
-        run_brings = ap (origin_by tr u (asks tr u.node u.input)) run_is
+        run_brings = ap (origin_by tr u (asks tr u.node u.input) (back_in tr u answer)) run_is
 
   -- a Reply brings its run
   pub reply_brings : (from b : BranchId) (call : ℕ) (weight : Option ℕ) (count : ℕ) (a : Answer) → Came u.input from b (kinds.Reply call weight count a) → (took : Took) → u.took ≡ Some took → origin ≡ origin_at tr took.number
   reply_brings from b call weight count a came took is =
-      brought_alone (ap (asks tr u.node) came.is) ∙ (ap (λ o. brought tr o u.input) is ∙ ap (brought tr (Some took)) came.is)
+      brought_alone (ap (asks tr u.node) came.is) (ap (goes_back tr u.node answer) came.is) ∙ (ap (λ o. brought tr o u.input) is ∙ ap (brought tr (Some took)) came.is)
 
 -- ---- the origins of Replies
 

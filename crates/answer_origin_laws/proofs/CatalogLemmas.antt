@@ -57,8 +57,10 @@ has_kept d ks (Some _) is = tt
 module _ (p : Place) (input : Input) where
   -- each step writes records with new names
   pub new_names : {k : NodeState} {d : TurnDraft} → Step p input k d → HasNewName k.stored.durable d.wrote
-  new_names (steps.Begins n s call rows fit none step) = new_names step
-  new_names (steps.Pends n l given call has live code step) = new_names step
+  new_names (steps.Begins n s read_at call begins fit none step) = new_names step
+  new_names (steps.Counts_call n s call counts step) = new_names step
+  new_names (steps.Goes_back x step goes next) = new_names next
+  new_names (steps.Pends n l given call has live code writer step) = new_names step
   new_names (steps.Lets_reads_go l comment site_below live begins step) = new_names step
   new_names (steps.Counts_ack {k = k} {d = d} s from kept came counts step) = has_kept k.stored.durable (put_item kept_row_id k.stored.durable.kept (acked_by s from)) d.wrote (new_names step)
   new_names (steps.Makes_record n s r d call (steps.Makes_table t free)) = free
@@ -246,6 +248,7 @@ module _ (t : History) (whole : IsLawfulRun t) where
       heard_stored k (inputs.Call n s) = refl
       heard_stored k (inputs.GiveUp n) = refl
       heard_stored k inputs.Reco = refl
+      heard_stored k inputs.Checkpoint = refl
 
       has_by : {d e : Durable} → OneCatalog d e → (o : Option RedoRecord) → HasNewName d o → HasNewName e o
       has_by one None is = tt

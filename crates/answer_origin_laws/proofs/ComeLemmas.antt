@@ -51,6 +51,7 @@ module _ (t : RunReport) where
   input_same running node (inputs.GiveUp session) = (refl, refl)
   input_same running node (inputs.Message m) = (refl, refl)
   input_same running node inputs.Reco = (refl, refl)
+  input_same running node inputs.Checkpoint = (refl, refl)
 
 module _ (t : History) where
   -- What stands of the pending calls after so many happenings.

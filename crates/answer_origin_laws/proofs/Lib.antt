@@ -17,7 +17,7 @@ pub mod TurnTaleLemmas
 pub mod SentLemmas
 pub mod ReplyTurnLemmas
 pub mod ReplyLivesLemmas
-pub mod ReplyRunLemmas
+pub mod ReplyStandLemmas
 pub mod CatalogLemmas
 pub mod PastLemmas
 pub mod OpenSentLemmas
@@ -33,6 +33,7 @@ pub mod NoCallLemmas
 pub mod LineTurnLemmas
 pub mod LineRunLemmas
 pub mod LeadLemmas
+pub mod ReplyRunLemmas
 pub mod RootToldLemmas
 pub mod EndedRootLemmas
 pub mod RootAnswerLemmas

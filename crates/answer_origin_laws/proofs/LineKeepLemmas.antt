@@ -4,9 +4,10 @@ use Rattle.std.specs.List.{AllByRecursion}
 use Rattle.std.proofs.lemmas.Bool.{cond_both}
 use Rattle.std.proofs.lemmas.List.{length-map}
 use Rattle.tran_ids.proofs.NumberedLemmas.{set_length, set_found, set_or_before}
-use Rattle.session_tree.specs.Tree.{room}
 use Rattle.node_rules.specs.Data.{Stmt, BranchId, Durable, Edge, Live, Place, Post}
+use Rattle.node_rules.specs.declared.work.Errand.{Errand}
 use Rattle.node_rules.specs.Data.kinds
+use Rattle.node_rules.specs.declared.work.Errand.TheVariants as errands
 use Rattle.node_rules.specs.declared.session.PendingCall.TheVariants as pending
 use Rattle.node_rules.specs.declared.session.PendingCall.{PendingCall}
 use Rattle.node_rules.specs.declared.session.Session.{Session}
@@ -18,12 +19,12 @@ use Rattle.node_rules.specs.Words.{same, numbered, set_numbered}
 use Rattle.node_rules.specs.NodeState.{Branch}
 use Rattle.node_rules.specs.Names.{target_of}
 use Rattle.node_rules.specs.Sessions.{session_at, with_call, needs_rollback}
-use Rattle.node_rules.specs.Calls.{advice_of, exec_to, next_call, call_pends, called}
+use Rattle.node_rules.specs.Calls.{task_for, exec_to, next_call, call_pends, called}
 use Rattle.node_rules.proofs.StandLemmas.{call_set}
 use Rattle.run_base_laws.specs.InTurnLaws.{WaitsFor, call_at}
 use Rattle.run_rules.proofs.AtNodeLemmas.{there_too}
 use Rattle.run_base_laws.proofs.RootLemmas.{session_or_before}
-use Rattle.answer_origin_laws.proofs.LineLemmas.{Quiet, other_quiet, OpensLow, OpensTo, SentSo, more_by, more, WaitsSo, Line, low_more}
+use Rattle.answer_origin_laws.proofs.LineLemmas.{stmt_of_task, stmt_of_errand, Quiet, other_quiet, OpensLow, OpensTo, SentSo, more_by, more, WaitsSo, ErrandSo, Line, low_more}
 use Rattle.answer_origin_laws.proofs.NumberLemmas.{all_numbered}
 use Rattle.tree_laws.proofs.HoldLemmas.{code_at}
 
@@ -84,15 +85,15 @@ same_alike es = (refl, (λ i d at. (d, at, refl, refl)))
 
 -- ---- messages and numbers
 
-pub exec_other : (ss : List Session) (y : Branch) (i : ℕ) (s : Stmt) (given : ℕ) (o : Option BranchId) (b : BranchId) → same y.live.me b ≡ false → Quiet b (exec_to ss y i s given o)
-exec_other ss y i s given None b other = tt
-exec_other ss y i s given (Some c) b other = other_quiet b y.live.me c (kinds.Exec (next_call y.work i) (room y.live given) (advice_of ss y.live) s) other
+pub exec_other : (ss : List Session) (y : Branch) (i : ℕ) (errand : Errand) (o : Option BranchId) (b : BranchId) → same y.live.me b ≡ false → Quiet b (exec_to ss y i errand o)
+exec_other ss y i errand None b other = tt
+exec_other ss y i errand (Some c) b other = other_quiet b y.live.me c (kinds.Exec (next_call y.work i) (task_for ss y i errand)) other
 
 -- the number of the call is above all before it
-pub next_number : (y : Branch) (i : ℕ) (s : Stmt) (given : ℕ) (e : Edge) → numbered y.live.edges i ≡ Some e → length y.work.calls ≡ length y.live.edges → call_at (called y i s given).work i ≡ call_at y.work i + 1
-next_number y i s given e at long = let there = there_too y.live.edges y.work.calls i e (sym long) at in ap (λ o. unwrap_or o 0) (set_found y.work.calls i there.0 (next_call y.work i) there.1)
+pub next_number : (ss : List Session) (y : Branch) (i : ℕ) (errand : Errand) (e : Edge) → numbered y.live.edges i ≡ Some e → length y.work.calls ≡ length y.live.edges → call_at (called ss y i errand).work i ≡ call_at y.work i + 1
+next_number ss y i errand e at long = let there = there_too y.live.edges y.work.calls i e (sym long) at in ap (λ o. unwrap_or o 0) (set_found y.work.calls i there.0 (next_call y.work i) there.1)
 
-module _ (p : Place) (D : Durable) (Given : BranchId → ℕ → Stmt → Type 0) (Called : BranchId → BranchId → ℕ → ℕ → Stmt → Stmt → Type 0) where
+module _ (p : Place) (D : Durable) (Given : BranchId → ℕ → Option Stmt → Type 0) (Called : BranchId → BranchId → ℕ → ℕ → Stmt → Stmt → Type 0) where
   -- edges that are alike
   pub alike_line : (xs : List Post) (Go : Type 0) (me : BranchId) (es ds : List Edge) (w : Work) → AlikeEdges es ds → Line p D Given Called xs Go me es w → Line p D Given Called xs Go me ds w
   alike_line xs Go me es ds w alike is = record {
@@ -100,14 +101,19 @@ module _ (p : Place) (D : Durable) (Given : BranchId → ℕ → Stmt → Type 0
         let was : target_of p D e.0.link ≡ Some e.0.peer.node = all_numbered (λ (x : Edge). target_of p D x.link ≡ Some x.peer.node) es i e.0 is.leads e.1 in
         ap (target_of p D) e.3 ∙ (was ∙ ap (λ (b : BranchId). Some b.node) (sym e.2))));
     opens = λ goes. subst (λ n. OpensLow p D Given Called xs me (n + more p D Given Called w.going)) (sym alike.0) (is.opens goes);
-    waits = λ g going. (let was = is.waits g going in (was.0, was.1, by was.0 g.statement g.waits was.2));
+    waits = λ g going. by_errand g.errand g.waits (is.waits g going);
   }
     where
       by : (s goes : Stmt) (waits : Waits) → WaitsSo p D Given Called xs me es w s goes waits → WaitsSo p D Given Called xs me ds w s goes waits
       by s goes (waiting.ForReply i) was = λ d at.
           (let e = alike.1 i d at in let so = was e.0 e.1 in
-          (subst (λ b. Called me b (call_at w i) w.came.last_call s goes) (sym e.2) so.0, subst (λ b. SentSo p D Given Called xs me b (call_at w i) goes) (sym e.2) so.1))
+          (subst (λ b. Called me b (call_at w i) w.came.last_call s goes) (sym e.2) so.0, subst (λ b. SentSo p D Given Called xs me b (call_at w i) (Some goes)) (sym e.2) so.1))
       by s goes (waiting.ForOpened link) was = (was.0, was.1, was.2, subst (λ n. OpensTo p D Given Called xs me (n + 1) link) (sym alike.0) was.3)
+
+      by_errand : (errand : Errand) (waits : Waits) → ErrandSo p D Given Called xs me es w errand waits → ErrandSo p D Given Called xs me ds w errand waits
+      by_errand (errands.Statement goes given) waits was = (was.0, was.1, by was.0 goes waits was.2)
+      by_errand (errands.GoBack step) (waiting.ForReply i) was = (was.0, (λ d at. (let e = alike.1 i d at in subst (λ b. SentSo p D Given Called xs me b (call_at w i) None) (sym e.2) (was.1 e.0 e.1))))
+      by_errand (errands.GoBack step) (waiting.ForOpened link) was = absurd was.1
 
   -- one that waits for nothing
   pub rest_line : (xs says : List Post) (Go : Type 0) (me : BranchId) (es ds : List Edge) (w v : Work) → AlikeEdges es ds → v.going ≡ None → more p D Given Called w.going ≡ 0 → Quiet me says → Line p D Given Called xs Go me es w → Line p D Given Called (xs ++ says) Go me ds v
@@ -119,13 +125,18 @@ module _ (p : Place) (D : Durable) (Given : BranchId → ℕ → Stmt → Type 0
         waits = λ g some. absurd (cc (some, none));
       })
 
-  pub exec_low : (ss : List Session) (y : Branch) (i : ℕ) (s : Stmt) (given : ℕ) (o : Option BranchId) (me : BranchId) (n : ℕ) → OpensLow p D Given Called (exec_to ss y i s given o) me n
-  exec_low ss y i s given None me n = tt
-  exec_low ss y i s given (Some c) me n = ((λ from edge root depth is. absurd cc), tt)
+  pub exec_low : (ss : List Session) (y : Branch) (i : ℕ) (errand : Errand) (o : Option BranchId) (me : BranchId) (n : ℕ) → OpensLow p D Given Called (exec_to ss y i errand o) me n
+  exec_low ss y i errand None me n = tt
+  exec_low ss y i errand (Some c) me n = ((λ from edge root depth read_at is. absurd cc), tt)
 
-  pub exec_sent : (ss : List Session) (y : Branch) (i : ℕ) (s : Stmt) (given : ℕ) (o : Option BranchId) (me c : BranchId) (n : ℕ) → SentSo p D Given Called (exec_to ss y i s given o) me c n s
-  exec_sent ss y i s given None me c n = tt
-  exec_sent ss y i s given (Some d) me c n = ((λ from to call room advice st is at. (let both : kinds.Exec _ _ _ s ≡ kinds.Exec call room advice st = is in let one : st ≡ s = cc in one)), tt)
+  brings_errand : (ss : List Session) (y : Branch) (i : ℕ) (errand : Errand) → stmt_of_task (task_for ss y i errand) ≡ stmt_of_errand errand
+  brings_errand ss y i (errands.Statement s given) = refl
+  brings_errand ss y i (errands.GoBack step) = refl
+
+  pub exec_sent : (ss : List Session) (y : Branch) (i : ℕ) (errand : Errand) (o : Option BranchId) (me c : BranchId) (n : ℕ) → SentSo p D Given Called (exec_to ss y i errand o) me c n (stmt_of_errand errand)
+  exec_sent ss y i errand None me c n = tt
+  exec_sent ss y i errand (Some d) me c n =
+      ((λ from to call task is at. (let both : kinds.Exec (next_call y.work i) (task_for ss y i errand) ≡ kinds.Exec call task = is in let one : task_for ss y i errand ≡ task = cc in ap stmt_of_task (sym one) ∙ brings_errand ss y i errand)), tt)
 
   pub waits_zero : (i : ℕ) (o : Option Going) → WaitsFor i o → more p D Given Called o ≡ 0
   waits_zero i None waits = absurd waits

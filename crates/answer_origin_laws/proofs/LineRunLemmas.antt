@@ -1,7 +1,7 @@
 -- In every lawful run each live branch that waits leads where its statement was sent: the name of its table is behind a link, which leads to the
 -- node of the child that it calls, and was so before that call came to the child.
 pub use Rattle.answer_origin_laws.proofs.GivenLemmas.{GivenBy, CalledAt}
-use Rattle.std.proofs.Common.{◌≡◌, ◌≢◌, ℕ, ◌+◌, ◌⊎◌, Bool, true, false, List, [], ◌∷◌, ◌++◌, map, length, Option, Some, None, inl, inr, refl, sym, ap, subst, ◌∙◌, append-nil}
+use Rattle.std.proofs.Common.{◌≡◌, ◌≢◌, ℕ, ◌⊎◌, Bool, true, false, List, [], ◌∷◌, ◌++◌, map, length, Option, Some, None, inl, inr, refl, sym, ap, subst, ◌∙◌, append-nil}
 use Rattle.std.specs.Prelude.{IfSome}
 use Rattle.std.specs.List.{AllByRecursion}
 use Rattle.std.proofs.lemmas.Bool.{cases_eq}
@@ -172,4 +172,4 @@ module _ (t : History) (whole : IsLawfulRun t) where
   stand_at hs part n k up =
       each_same (λ l w. Line (place_at t.places n) (catalog t whole hs n) (GivenLast t whole hs) (CalledLast t whole hs) (said_in (f_at t hs)) (NeedsNoRollback k l) l.me l.edges w) _ k.lives k.works (stand_last hs part n k up)
       (λ y v live any was. line_grows (place_at t.places n) (catalog t whole hs n) (catalog t whole hs n) (extends_same _) (GivenLast t whole hs) (GivenBy t whole hs) (CalledLast t whole hs) (CalledAt t whole) (said_in (f_at t hs)) (NeedsNoRollback k y) (NeedsNoRollback k y)
-      (λ goes. goes) y.me y.edges v (λ g going. record { given = λ call s is. record { given = is.0; soon = last_soon t whole hs y.me call s is.0 is.1 }; called = λ c number call s goes is. is.0 }) was)
+      (λ goes. goes) y.me y.edges v (λ g going. record { given = λ call o is. record { given = is.0; soon = last_soon t whole hs y.me call o is.0 is.1 }; called = λ c number call s goes is. is.0 }) was)

@@ -7,6 +7,7 @@ use Rattle.std.proofs.lemmas.List.{length-append}
 use Rattle.tran_ids.proofs.ListedLemmas.{item_is}
 use Rattle.node_rules.specs.Data.{BranchId, Durable, Live, Post, Stmt}
 use Rattle.node_rules.specs.Data.kinds
+use Rattle.node_rules.specs.Data.stmts
 use Rattle.node_rules.specs.declared.session.PendingCall.TheVariants as pending
 use Rattle.node_rules.specs.declared.work.Going.{Going}
 use Rattle.node_rules.specs.declared.work.Work.{Work}
@@ -19,7 +20,7 @@ use Rattle.node_rules.specs.Sessions.{session_at}
 use Rattle.node_rules.specs.Turn.{turn_of, heard}
 use Rattle.node_rules.proofs.LiveLemmas.{each_same}
 use Rattle.node_rules.proofs.Steps as steps
-use Rattle.node_rules.proofs.Steps.{Step, Asked}
+use Rattle.node_rules.proofs.Steps.{Step, Asked, Goes_to}
 use Rattle.node_rules.proofs.HeardLemmas.{sessions_heard}
 use Rattle.run_rules.specs.Births.{Born, born_at}
 use Rattle.run_base_laws.specs.BirthLaws.{Began, LiveIs, GoesSo}
@@ -165,9 +166,9 @@ module _ (t : History) (whole : IsLawfulRun t) where
     -- a branch that has not begun sent no Open
     unopened : (b : BranchId) → born_at bs0 b ≡ None → OpensLow p D0 (GivenLast t whole hs1) (CalledLast t whole hs1) said b 0
     unopened b none =
-        all_map (λ (x : Post). x.from ≡ b → (edge : ℕ) (root : BranchId) (depth : ℕ) → x.kind ≡ kinds.Open edge root depth → edge ≤ 0) packet_post f0.net.packets
-        (all_weaker _ _ (λ x goes from edge root depth kind.
-        (let opens : GoesSo (Began bs0) x.msg.from x.msg.to (kinds.Open edge root depth) = subst (GoesSo (Began bs0) x.msg.from x.msg.to) kind goes in
+        all_map (λ (x : Post). x.from ≡ b → (edge : ℕ) (root : BranchId) (depth : ℕ) (read_at : Option ℕ) → x.kind ≡ kinds.Open edge root depth read_at → edge ≤ 0) packet_post f0.net.packets
+        (all_weaker _ _ (λ x goes from edge root depth read_at kind.
+        (let opens : GoesSo (Began bs0) x.msg.from x.msg.to (kinds.Open edge root depth read_at) = subst (GoesSo (Began bs0) x.msg.from x.msg.to) kind goes in
         let at : born_at bs0 b ≡ Some opens.0 = subst (λ c. born_at bs0 c ≡ Some opens.0) (opens.2 ∙ from) opens.1 in
         absurd (cc (at, none)))) f0.net.packets (messages_are_of_neighbors s0 lawful0))
 
@@ -178,14 +179,21 @@ module _ (t : History) (whole : IsLawfulRun t) where
         (all_unborn t.places t.commands t.of_a_script.each f0 (events_of s0) bs0 u k stand.0.1 stand.0.0.even (node_so t.places t.commands t.of_a_script.each f0 (events_of s0) stand.0)
         (owned_so t.places t.commands t.of_a_script.each f0 (events_of s0) stand.0) may.1 number stand.1))
 
-    given_so : {j : NodeState} {x : Branch} {s : Stmt} {given : ℕ} → SessionsFit j → Here x.live.me → Asked j u.input x s given → GivenLast t whole hs1 x.live.me x.work.came.last_call s
-    given_so ss here (steps.By_call n x s call rows has code live) = (
+    given_so : {j : NodeState} {x : Branch} {s : Stmt} {given : ℕ} → SessionsFit j → Here x.live.me → Asked j u.input x s given → GivenLast t whole hs1 x.live.me x.work.came.last_call (Some s)
+    given_so ss here (steps.By_call n x s call rows has code live may) = (
       record { before = hs; turn = u; rest = rest; is = is; how = inr (subst (λ m. IsCall u.input m s) (sym (ss.roots.each n x.live.me has)) call, rows, sym (here ∙ number)) },
       record { later = []; since = refl; quiet = tt },
     )
     given_so ss here (steps.By_exec x from call given advice s came live runs) = (record { before = hs; turn = u; rest = rest; is = is; how = inl (from, given, advice, came) }, record { later = []; since = refl; quiet = tt })
 
-    calls_so : (me c : BranchId) (n last : ℕ) (s : Stmt) (link table : List ℕ) → Here me → GivenLast t whole hs1 me last s → named_by D0 (ref_of s) ≡ Behind link table → target_of p D0 link ≡ Some c.node → newest_exec said me c < n
+    backs_so : {j : NodeState} {x : Branch} {step : ℕ} → SessionsFit j → Here x.live.me → Goes_to j u.input x step → GivenLast t whole hs1 x.live.me x.work.came.last_call None
+    backs_so ss here (steps.By_rollback_to n x name _ call has code live set) = (
+      record { before = hs; turn = u; rest = rest; is = is; how = inr (name, subst (λ m. IsCall u.input m (stmts.RollbackTo name)) (sym (ss.roots.each n x.live.me has)) call, sym (here ∙ number)) },
+      record { later = []; since = refl; quiet = tt },
+    )
+    backs_so ss here (steps.By_back x from call keep came live runs) = (record { before = hs; turn = u; rest = rest; is = is; how = inl (from, keep, came) }, record { later = []; since = refl; quiet = tt })
+
+    calls_so : (me c : BranchId) (n last : ℕ) (s : Stmt) (link table : List ℕ) → Here me → GivenLast t whole hs1 me last (Some s) → named_by D0 (ref_of s) ≡ Behind link table → target_of p D0 link ≡ Some c.node → newest_exec said me c < n
         → CalledLast t whole hs1 me c n last s (passed_on s table)
     calls_so me c n last s link table here gave named leads unmade =
         let at : u.node ≡ me.node = sym (here ∙ number) in (
@@ -193,7 +201,7 @@ module _ (t : History) (whole : IsLawfulRun t) where
             given = gave.0;
             before = hs;
             part = part0;
-            since = (let it : length hs1 ≡ length hs + 1 = length-append hs (happenings.Turn u ∷ []) in omega (arith, it, last_soon t whole hs1 me last s gave.0 gave.1));
+            since = (let it : length hs1 ≡ length hs + 1 = length-append hs (happenings.Turn u ∷ []) in omega (arith, it, last_soon t whole hs1 me last (Some s) gave.0 gave.1));
             link = link;
             table = table;
             named = subst (λ m. named_by (catalog t whole hs m) (ref_of s) ≡ Behind link table) at named;
@@ -207,8 +215,9 @@ module _ (t : History) (whole : IsLawfulRun t) where
     known : Known (edge_of bs0) (parent_of bs0) May Here u.input said received p D0 (GivenLast t whole hs1) (CalledLast t whole hs1)
     known = record {
       given = given_so;
+      backs = backs_so;
       calls = calls_so;
-      opened = λ from to edge strength came. (let o = opened_sent t whole hs u rest is from to edge strength came in (o.number, o.sent, o.at, o.from, o.root, o.depth, o.kind, o.to));
+      opened = λ from to edge strength came. (let o = opened_sent t whole hs u rest is from to edge strength came in (o.number, o.sent, o.at, o.from, o.root, o.depth, o.read_at, o.kind, o.to));
     }
 
     cat : OneCatalog (heard k u.input).stored.durable D0
@@ -235,7 +244,7 @@ module _ (t : History) (whole : IsLawfulRun t) where
     lines_after =
         each_same (LineOf (edge_of bs0) (parent_of bs0) May Here u.input said received p D0 (GivenLast t whole hs1) (CalledLast t whole hs1) (said ++ d.says)) _ d.after.lives d.after.works lines1.0
         (λ y v live any was. line_grows p D0 (catalog t whole hs1 u.node) (catalog_on t whole u.node hs (happenings.Turn u ∷ []) part1) (GivenLast t whole hs1) (GivenLast t whole hs1) (CalledLast t whole hs1) (CalledLast t whole hs1) (said ++ d.says)
-        (y.parent ≡ None → May y.me) (NeedsNoRollback d.after y) (λ goes none. (y, live, none, goes none)) y.me y.edges v (λ g going. record { given = λ call s it. it; called = λ c n call s goes it. it }) was)
+        (y.parent ≡ None → May y.me) (NeedsNoRollback d.after y) (λ goes none. (y, live, none, goes none)) y.me y.edges v (λ g going. record { given = λ call o it. it; called = λ c n call s goes it. it }) was)
 
     -- whose calls are sent by branches of its node
     pub calls_here : AllByRecursion (λ (x : Post). is_calling x.kind ≡ true → x.from.node ≡ p.number) d.says

@@ -11,7 +11,7 @@ use Rattle.run_rules.specs.Data.happenings
 use Rattle.run_rules.specs.Lawful.{History}
 use Rattle.answer_origin_laws.specs.LeadLaws.{NoCallSince}
 use Rattle.answer_origin_laws.proofs.PartLemmas.{between_so}
-use Rattle.answer_origin_laws.proofs.ReplyRunLemmas.{happens_at}
+use Rattle.answer_origin_laws.proofs.ReplyStandLemmas.{happens_at}
 
 -- a happening is no call of this session at this node
 abbrev pub IsNoCall : ℕ → ℕ → Happening → Type 0

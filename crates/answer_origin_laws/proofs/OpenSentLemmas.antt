@@ -8,17 +8,17 @@ use Rattle.node_rules.specs.Data.kinds
 use Rattle.node_rules.specs.Words.{numbered}
 use Rattle.node_rules.specs.Inputs.{Came}
 use Rattle.node_rules.specs.NodeState.{NodeState}
-use Rattle.node_rules.specs.Calls.{is_opening}
+use Rattle.node_rules.specs.Calls.{is_opening, strength_of}
 use Rattle.node_rules.specs.Client.{new_root}
 use Rattle.node_rules.specs.Sessions.{session_at}
-use Rattle.run_rules.specs.Births.{Born, born_id, root_born, roots_by, births_by_call, births_by_open, births_by_kind, births_by, births_at, births_after, births_from, births_of}
+use Rattle.run_rules.specs.Births.{Born, born_id, root_born, read_at_by, roots_by, births_by_call, births_by_open, births_by_kind, births_by, births_at, births_after, births_from, births_of}
 use Rattle.run_base_laws.specs.BirthLaws.{Began, IsChildAt, GoesSo}
 use Rattle.run_rules.specs.Data.{Took, Turn, Happening}
 use Rattle.run_rules.specs.Data.happenings
 use Rattle.run_rules.specs.Facts.{Facts, first_facts, place_at, node_at}
 use Rattle.run_base_laws.specs.InTurnLaws.{said_in}
 use Rattle.run_rules.specs.Lawful.{Comes, History, IsLawfulRun}
-use Rattle.run_rules.specs.Runs.{is_of_rows}
+use Rattle.run_rules.specs.Runs.{begins_transaction}
 use Rattle.run_base_laws.proofs.BirthRunLemmas.{messages_are_of_neighbors}
 use Rattle.run_base_laws.proofs.BirthsStandLemmas.{came_so}
 use Rattle.run_base_laws.proofs.InTurnRunLemmas.{came_here}
@@ -45,7 +45,8 @@ pub record IsOpenTo (said : List Post) (parent : BranchId) (edge node : ℕ) : T
   pub from : sent.from ≡ parent
   pub root : BranchId
   pub depth : ℕ
-  pub kind : sent.kind ≡ kinds.Open edge root depth
+  pub read_at : Option ℕ
+  pub kind : sent.kind ≡ kinds.Open edge root depth read_at
   pub to : sent.to.node ≡ node
 
 -- a branch below another was opened over its edge, at its node
@@ -55,37 +56,37 @@ WasOpened said x = (parent : BranchId) → x.parent ≡ Some parent → IsOpenTo
 opened_more : (said more : List Post) (x : Born) → WasOpened said x → WasOpened (said ++ more) x
 opened_more said more x was parent above =
     let is : IsOpenTo said parent x.edge x.me.node = was parent above in
-    record { number = is.number; sent = is.sent; at = numbered_more said more is.number is.sent is.at; from = is.from; root = is.root; depth = is.depth; kind = is.kind; to = is.to }
+    record { number = is.number; sent = is.sent; at = numbered_more said more is.number is.sent is.at; from = is.from; root = is.root; depth = is.depth; read_at = is.read_at; kind = is.kind; to = is.to }
 
 module _ (f : Facts) (k : NodeState) (p : Place) (node : ℕ) (number : p.number ≡ node) (input : Input) (took : Option Took) (comes : Comes f k node input took) where
   abbrev P : Born → Type 0
   P = WasOpened (said_in f)
 
-  root_opened : (b : BranchId) → P (root_born b)
-  root_opened b parent above = absurd cc
+  root_opened : (b : BranchId) (strength : ℕ) (read_at : Option ℕ) → P (root_born b strength read_at)
+  root_opened b strength read_at parent above = absurd cc
 
-  by_roots : (n : ℕ) (o : Option BranchId) → AllByRecursion P (roots_by p k n o)
-  by_roots n None = (root_opened (new_root p k n), tt)
-  by_roots n (Some root) = tt
+  by_roots : (n : ℕ) (read_at : Option ℕ) (o : Option BranchId) → AllByRecursion P (roots_by p k n read_at o)
+  by_roots n read_at None = (root_opened (new_root p k n) (strength_of p k) read_at, tt)
+  by_roots n read_at (Some root) = tt
 
   by_call : (n : ℕ) (s : Stmt) → AllByRecursion P (births_by_call p k n s)
-  by_call n s = by (is_of_rows s)
+  by_call n s = by (begins_transaction s)
     where
-      by : (q : Bool) → AllByRecursion P (if q then roots_by p k n (session_at k.sessions n).root else [])
-      by true = by_roots n (session_at k.sessions n).root
+      by : (q : Bool) → AllByRecursion P (if q then roots_by p k n (read_at_by k.clock s) (session_at k.sessions n).root else [])
+      by true = by_roots n (read_at_by k.clock s) (session_at k.sessions n).root
       by false = tt
 
-  by_open : (from to : BranchId) (edge : ℕ) (root : BranchId) (depth : ℕ) → Came input from to (kinds.Open edge root depth) → (o : Option Opening) → AllByRecursion P (births_by_open p k from edge root depth o)
-  by_open from to edge root depth came None =
-      let sent = came_sent f k node input took comes from to (kinds.Open edge root depth) came in (
+  by_open : (from to : BranchId) (edge : ℕ) (root : BranchId) (depth : ℕ) (read_at : Option ℕ) → Came input from to (kinds.Open edge root depth read_at) → (o : Option Opening) → AllByRecursion P (births_by_open p k from edge root depth read_at o)
+  by_open from to edge root depth read_at came None =
+      let sent = came_sent f k node input took comes from to (kinds.Open edge root depth read_at) came in (
         (λ parent above. (let it : Some from ≡ Some parent = above in let one : from ≡ parent = cc in
-            record { number = sent.0.number; sent = sent.2; at = sent.3; from = sent.4 ∙ one; root = root; depth = depth; kind = sent.5; to = ap (λ (b : BranchId). b.node) sent.6 ∙ (came_here f k node input took comes from to (kinds.Open edge root depth) came ∙ sym number) })),
+            record { number = sent.0.number; sent = sent.2; at = sent.3; from = sent.4 ∙ one; root = root; depth = depth; read_at = read_at; kind = sent.5; to = ap (λ (b : BranchId). b.node) sent.6 ∙ (came_here f k node input took comes from to (kinds.Open edge root depth read_at) came ∙ sym number) })),
         tt,
       )
-  by_open from to edge root depth came (Some o) = tt
+  by_open from to edge root depth read_at came (Some o) = tt
 
   by_kind : (from to : BranchId) (kind : Kind) → Came input from to kind → AllByRecursion P (births_by_kind p k from kind)
-  by_kind from to (kinds.Open edge root depth) came = by_open from to edge root depth came (find (is_opening from edge) k.opens)
+  by_kind from to (kinds.Open edge root depth read_at) came = by_open from to edge root depth read_at came (find (is_opening from edge) k.opens)
   by_kind from to _ came = tt
 
   by_input : (i : Input) → input ≡ i → AllByRecursion P (births_by p k i)
@@ -94,6 +95,7 @@ module _ (f : Facts) (k : NodeState) (p : Place) (node : ℕ) (number : p.number
   by_input (inputs.Message m) is = by_kind m.from m.to m.kind (record { scn = m.scn; is = is })
   by_input (inputs.GiveUp n) is = tt
   by_input inputs.Reco is = tt
+  by_input inputs.Checkpoint is = tt
 
   pub births_opened : AllByRecursion P (births_by p k input)
   births_opened = by_input input refl

@@ -9,9 +9,9 @@ use Rattle.run_rules.specs.Data.{Took, Turn, Happening}
 use Rattle.run_rules.specs.Data.happenings
 use Rattle.run_rules.specs.Facts.{Facts, first_facts, outcome_at}
 use Rattle.run_rules.specs.Lawful.{History}
-use Rattle.run_rules.specs.Runs.{Asking, asks, bare_name, table_by, run_at_table, run_by, run_in, answered_by, is_of_rows}
+use Rattle.run_rules.specs.Runs.{Asking, GoneBack, asks, bare_name, table_by, run_at_table, run_by, run_in, answered_by, begins_transaction}
 use Rattle.node_rules.specs.Names.{ref_of}
-use Rattle.run_rules.specs.Trail.{is_reply, next_root, root_seen, roots_begun, child_begun, children_begun, begun_in_turn, last_answer, handed_on, brought, origin_by, answers, origins_of, with_begun, with_plan, after_turn, brought_by, stopped_by, trail_after}
+use Rattle.run_rules.specs.Trail.{strength_at, is_reply, next_root, root_seen, roots_begun, child_begun, children_begun, begun_in_turn, last_answer, handed_on, brought, origin_by, answers, origins_of, with_begun, with_plan, after_turn, brought_by, stopped_by, trail_after}
 use Rattle.run_rules.specs.Branches.{is_live_at, Dropped}
 use Rattle.run_rules.proofs.ListLemmas.{all_append, all_map, all_weaker}
 use Rattle.run_base_laws.proofs.OwnLemmas.{all_found}
@@ -69,7 +69,7 @@ module _ (f : Facts) (tr : Trail) (u : Turn) where
 
     handed_before : (n : ℕ) (to : BranchId) (kind : Kind) → IsBefore tr.moment (handed_on tr n to kind)
     handed_before n to (kinds.Reply call weight count a) = found_before (λ (o : Origin). o.message == n) tr.origins now.origins
-    handed_before n to (kinds.Exec call given advice s) = last_before (seen_at tr to) to refl
+    handed_before n to (kinds.Exec call task) = last_before (seen_at tr to) to refl
     handed_before n to _ = tt
 
     brought_before : (took : Option Took) (input : Input) → IsBefore tr.moment (brought tr took input)
@@ -77,12 +77,14 @@ module _ (f : Facts) (tr : Trail) (u : Turn) where
     brought_before (Some t) (inputs.Call n s) = tt
     brought_before (Some t) (inputs.GiveUp n) = tt
     brought_before (Some t) inputs.Reco = tt
+    brought_before (Some t) inputs.Checkpoint = tt
     brought_before None input = tt
 
-    pub origin_before : (a : Option Asking) (o : Option Run) → run_in f tr u ≡ o → IsBefore (tr.moment + 1) (origin_by tr u a o)
-    origin_before a (Some r) is = omega (arith, run_now r is)
-    origin_before (Some a) None is = tt
-    origin_before None None is = more_before tr.moment (tr.moment + 1) (omega arith) (brought tr u.took u.input) (brought_before u.took u.input)
+    pub origin_before : (a : Option Asking) (back : Option GoneBack) (o : Option Run) → run_in f tr u ≡ o → IsBefore (tr.moment + 1) (origin_by tr u a back o)
+    origin_before a back (Some r) is = omega (arith, run_now r is)
+    origin_before (Some a) back None is = tt
+    origin_before None (Some g) None is = tt
+    origin_before None None None is = more_before tr.moment (tr.moment + 1) (omega arith) (brought tr u.took u.input) (brought_before u.took u.input)
 
 origins_before : (m k : ℕ) (o : Option Run) → IsBefore m o → (ms : List Msg) → AllByRecursion (λ (x : Origin). x.run.moment + 1 ≤ m) (origins_of k o ms)
 origins_before m k None is ms = tt
@@ -100,38 +102,40 @@ module _ (m : ℕ) where
   HasBefore s = IsBefore m s.answer
 
   root_new : (f : Facts) (tr : Trail) (n : ℕ) (input : Input) → AllByRecursion HasBefore (roots_begun f tr n input)
-  root_new f tr n (inputs.Call session (Some s)) = by (is_of_rows s && is_none (root_at tr n session))
+  root_new f tr n (inputs.Call session (Some s)) = by (begins_transaction s && is_none (root_at tr n session))
     where
-      by : (q : Bool) → AllByRecursion HasBefore (if q then root_seen (next_root f tr n session) ∷ [] else [])
+      by : (q : Bool) → AllByRecursion HasBefore (if q then root_seen f n s (next_root f tr n session) ∷ [] else [])
       by true = (tt, tt)
       by false = tt
   root_new f tr n (inputs.Call session None) = tt
   root_new f tr n (inputs.Message x) = tt
   root_new f tr n (inputs.GiveUp session) = tt
   root_new f tr n inputs.Reco = tt
+  root_new f tr n inputs.Checkpoint = tt
 
-  child_new : (tr : Trail) (came kind : Kind) (x : Msg) → AllByRecursion HasBefore (child_begun tr came kind x)
-  child_new tr (kinds.Open edge root depth) (kinds.Opened number strength) x = by (is_none (seen_at tr x.from))
+  child_new : (f : Facts) (tr : Trail) (came kind : Kind) (x : Msg) → AllByRecursion HasBefore (child_begun f tr came kind x)
+  child_new f tr (kinds.Open edge root depth read_at) (kinds.Opened number strength) x = by (is_none (seen_at tr x.from))
     where
-      by : (q : Bool) → AllByRecursion HasBefore (if q then newly_seen x.from root (Some x.to) ∷ [] else [])
+      by : (q : Bool) → AllByRecursion HasBefore (if q then newly_seen x.from root (Some x.to) (strength_at f x.from.node) read_at ∷ [] else [])
       by true = (tt, tt)
       by false = tt
-  child_new tr (kinds.Open edge root depth) _ x = tt
-  child_new tr _ kind x = tt
+  child_new f tr (kinds.Open edge root depth read_at) _ x = tt
+  child_new f tr _ kind x = tt
 
-  children_new : (tr : Trail) (input : Input) (ms : List Msg) → AllByRecursion HasBefore (children_begun tr input ms)
-  children_new tr (inputs.Message came) (x ∷ ms) = child_new tr came.kind x.kind x
-  children_new tr (inputs.Message came) [] = tt
-  children_new tr (inputs.Call session s) ms = tt
-  children_new tr (inputs.GiveUp session) ms = tt
-  children_new tr inputs.Reco ms = tt
+  children_new : (f : Facts) (tr : Trail) (input : Input) (ms : List Msg) → AllByRecursion HasBefore (children_begun f tr input ms)
+  children_new f tr (inputs.Message came) (x ∷ ms) = child_new f tr came.kind x.kind x
+  children_new f tr (inputs.Message came) [] = tt
+  children_new f tr (inputs.Call session s) ms = tt
+  children_new f tr (inputs.GiveUp session) ms = tt
+  children_new f tr inputs.Reco ms = tt
+  children_new f tr inputs.Checkpoint ms = tt
 
   begun_new : (f : Facts) (tr : Trail) (u : Turn) → AllByRecursion HasBefore (begun_in_turn f tr u)
   begun_new f tr u = by u.cut
     where
-      by : (cut : Bool) → AllByRecursion HasBefore (if cut then [] else roots_begun f tr u.node u.input ++ children_begun tr u.input u.sent)
+      by : (cut : Bool) → AllByRecursion HasBefore (if cut then [] else roots_begun f tr u.node u.input ++ children_begun f tr u.input u.sent)
       by true = tt
-      by false = all_append HasBefore (roots_begun f tr u.node u.input) (children_begun tr u.input u.sent) (root_new f tr u.node u.input) (children_new tr u.input u.sent)
+      by false = all_append HasBefore (roots_begun f tr u.node u.input) (children_begun f tr u.input u.sent) (root_new f tr u.node u.input) (children_new f tr u.input u.sent)
 
 -- ---- each happening
 
@@ -152,7 +156,7 @@ module _ (places : List Place) where
       let o = outcome_at places f u in
       let old = later (tr.moment + 1) tr1 refl (begun_before f tr u now) in
       let brings = brought_by f tr1 u o in
-      let new : IsBefore (tr.moment + 1) brings.origin = origin_before f tr1 u (begun_before f tr u now) (asks tr1 u.node u.input) (run_in f tr1 u) refl in
+      let new : IsBefore (tr.moment + 1) brings.origin = origin_before f tr1 u (begun_before f tr u now) (asks tr1 u.node u.input) brings.back (run_in f tr1 u) refl in
       record {
         origins = all_append (λ (x : Origin). x.run.moment + 1 ≤ tr.moment + 1) tr.origins (origins_of (length f.net.packets + 1) brings.origin u.sent) old.0 (origins_before (tr.moment + 1) (length f.net.packets + 1) brings.origin new u.sent);
         answers = all_map (λ (s : Seen). IsBefore (tr.moment + 1) s.answer) (after_turn f.book (with_plan places tr1 u (answered_by o)) u o brings) tr1.seen

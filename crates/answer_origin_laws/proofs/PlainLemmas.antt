@@ -1,13 +1,17 @@
 -- A turn on anything but an Exec and a Reply leaves the calls that came to branches below roots, and says no Reply.
-use Rattle.std.proofs.Common.{◌≡◌, ◌≢◌, ℕ, ◌+◌, ◌-◌, Bool, List, map, length, Option, Some, None, refl, sym, ap, subst}
+use Rattle.std.proofs.Common.{◌≡◌, ◌≢◌, ℕ, ◌+◌, Bool, List, map, length, Option, Some, None, refl, sym, ap, subst}
 use Rattle.tran_ids.proofs.ListedLemmas.{item_is}
 use Rattle.commit_forget.specs.declared.next.Next.TheVariants as nexts
 use Rattle.session_tree.specs.Live.{children_of, peer_of, new_edge, fresh_live}
 use Rattle.session_tree.specs.Tree.{step as step_from}
-use Rattle.node_rules.specs.Data.{Stmt, Answer, Advice, BranchId, Live, Act, Place, Input, Post}
+use Rattle.node_rules.specs.Data.{Stmt, Answer, Task, BranchId, Live, Act, Place, Input, Post}
+use Rattle.node_rules.specs.declared.work.Errand.{Errand}
+use Rattle.node_rules.specs.declared.work.Errand.TheVariants as errands
 use Rattle.node_rules.specs.declared.work.Work.{Work}
 use Rattle.node_rules.specs.Data.acts
 use Rattle.node_rules.specs.Data.answers
+use Rattle.node_rules.specs.Data.dones
+use Rattle.node_rules.specs.Data.tasks
 use Rattle.node_rules.specs.Data.kinds
 use Rattle.node_rules.specs.declared.session.PendingCall.TheVariants as pending
 use Rattle.node_rules.specs.declared.session.Session.{Session}
@@ -17,8 +21,9 @@ use Rattle.node_rules.specs.NodeState.{NodeState, Branch, TurnDraft, live_id, wo
 use Rattle.node_rules.specs.LiveBranches.{works_of, EachLive}
 use Rattle.node_rules.specs.Names.{passed_on}
 use Rattle.node_rules.specs.Statement.{ran, after_run, answer_of_run}
-use Rattle.node_rules.specs.Calls.{answer_says, exec_to, next_child, strength_of, with_edge, with_answer, called, waits_for_opened}
-use Rattle.node_rules.specs.Client.{new_root, fresh_root, gives_up}
+use Rattle.node_rules.specs.Marks.{node_back}
+use Rattle.node_rules.specs.Calls.{branch_ran, less_room, answer_says, exec_to, next_child, strength_of, with_edge, with_answer, called, waits_for_opened}
+use Rattle.node_rules.specs.Client.{new_root, fresh_root, marked, gives_up}
 use Rattle.node_rules.specs.Commit.{beyond}
 use Rattle.node_rules.specs.Prepare.{path_of, site_neighbors, ready, act_turn}
 use Rattle.node_rules.specs.Recovery.{kept_told}
@@ -26,23 +31,23 @@ use Rattle.node_rules.proofs.LiveLemmas.{each_put, each_changed, each_left, each
 use Rattle.node_rules.proofs.StandLemmas.{live_so}
 use Rattle.node_rules.proofs.StepLemmas.{acting_so}
 use Rattle.node_rules.proofs.Steps as steps
-use Rattle.node_rules.proofs.Steps.{Step, Asked, Acting, Says}
+use Rattle.node_rules.proofs.Steps.{Step, Asked, Goes_to, Calls_back, Acting, Says}
 use Rattle.run_rules.specs.Births.{Born}
 use Rattle.run_base_laws.proofs.KindSayLemmas.{OfDecisions, AllSay, one_says, each_says, prepares_say, told_says, passes_say, askings_say}
 use Rattle.run_rules.proofs.ListLemmas.{all_append}
 use Rattle.run_base_laws.proofs.NeighborLemmas.{News}
-use Rattle.run_base_laws.proofs.NeighborStepLemmas.{begun_news, pends_news, lets_news, acked_news}
-use Rattle.run_base_laws.proofs.RootLemmas.{SessionsFit, root_alone, begun_so, pends_so}
+use Rattle.run_base_laws.proofs.NeighborStepLemmas.{begun_news, counted_news, back_news, pends_news, lets_news, acked_news}
+use Rattle.run_base_laws.proofs.RootLemmas.{SessionsFit, root_alone, begun_so, counted_so, back_so, pends_so}
 use Rattle.answer_origin_laws.proofs.TaleLemmas.{IsMute}
 
 mute_decisions : OfDecisions IsMute
 mute_decisions = record { committed = λ n. refl; rolled_back = refl; rollback = refl; in_doubt = refl; ack = refl; forgotten = refl; ask = refl }
 
-pub exec_mute : (ss : List Session) (x : Branch) (i : ℕ) (s : Stmt) (given : ℕ) (o : Option BranchId) → AllSay IsMute (exec_to ss x i s given o)
-exec_mute ss x i s given None = tt
-exec_mute ss x i s given (Some peer) = (refl, tt)
+pub exec_mute : (ss : List Session) (x : Branch) (i : ℕ) (errand : Errand) (o : Option BranchId) → AllSay IsMute (exec_to ss x i errand o)
+exec_mute ss x i errand None = tt
+exec_mute ss x i errand (Some peer) = (refl, tt)
 
-module _ (k0 : NodeState) (p : Place) (input : Input) (no_exec : (from to : BranchId) (call given : ℕ) (advice : Option Advice) (s : Stmt) → Came input from to (kinds.Exec call given advice s) → ⊥)
+module _ (k0 : NodeState) (p : Place) (input : Input) (no_exec : (from to : BranchId) (call : ℕ) (task : Task) → Came input from to (kinds.Exec call task) → ⊥)
     (no_reply : (from to : BranchId) (call : ℕ) (weight : Option ℕ) (count : ℕ) (a : Answer) → Came input from to (kinds.Reply call weight count a) → ⊥) where
   -- a branch below a root has the calls that it had
   abbrev pub Was : Live → Work → Type 0
@@ -89,15 +94,15 @@ module _ (k0 : NodeState) (p : Place) (input : Input) (no_exec : (from to : Bran
     acts_leave l q acts.Abandon is = (left l.me, all_append (λ x. IsMute x.kind) (to_one l.me kinds.Abort l.parent) _ (one_says IsMute l.me kinds.Abort l.parent refl) (rolls l))
 
     says_mute : {says : List Post} → Says k input says → AllSay IsMute says
-    says_mute (steps.Gone_replies to from call given advice s came gone) = absurd (no_exec from to call given advice s came)
-    says_mute (steps.Replies_again x to call given advice s t came live last kept) = absurd (no_exec to x.live.me call given advice s came)
+    says_mute (steps.Gone_replies to from call task came gone) = absurd (no_exec from to call task came)
+    says_mute (steps.Replies_again x to call task t came live last kept) = absurd (no_exec to x.live.me call task came)
     says_mute (steps.Tells s from came kept) = (told_says IsMute mute_decisions (kept_told s from), tt)
     says_mute (steps.Recovers reco) = askings_say IsMute mute_decisions k
     says_mute (steps.Gone_aborts to from q comment came gone) = (refl, tt)
     says_mute (steps.Gone_rolls_back to from came gone) = (refl, tt)
     says_mute (steps.Gone_acks to from n came gone) = (refl, tt)
     says_mute (steps.Gone_forgets to from came gone) = (refl, tt)
-    says_mute (steps.Opened_again to parent edge root depth o came found) = (refl, tt)
+    says_mute (steps.Opened_again to parent edge root depth read_at o came found) = (refl, tt)
     says_mute (steps.Prepared_again s from q comment came kept again) = (refl, tt)
     says_mute (steps.Knows_commit s from n came kept knows) = (refl, tt)
     says_mute (steps.Knows_rollback s from came kept knows) = (refl, tt)
@@ -105,43 +110,61 @@ module _ (k0 : NodeState) (p : Place) (input : Input) (no_exec : (from to : Bran
 
     -- a statement comes to a root
     asked_root : {x : Branch} {s : Stmt} {given : ℕ} → SessionsFit k → Asked k input x s given → (x.live.parent ≡ None) × (x.work.branch ≡ x.live.me)
-    asked_root ss (steps.By_call n x s call rows has code live) = (root_alone k ss n x.live.me has x.live (live_so k x.live.me x live), work_is k x.live.me x live)
-    asked_root ss (steps.By_exec x from call given advice s came live runs) = absurd (no_exec from x.live.me call given advice s came)
+    asked_root ss (steps.By_call n x s call rows has code live may) = (root_alone k ss n x.live.me has x.live (live_so k x.live.me x live), work_is k x.live.me x live)
+    asked_root ss (steps.By_exec x from call given advice s came live runs) = absurd (no_exec from x.live.me call (tasks.Run given advice s) came)
+
+    -- so does what takes a branch back
+    goes_root : {x : Branch} {step : ℕ} → SessionsFit k → Goes_to k input x step → (x.live.parent ≡ None) × (x.work.branch ≡ x.live.me)
+    goes_root ss (steps.By_rollback_to n x name step call has code live set) = (root_alone k ss n x.live.me has x.live (live_so k x.live.me x live), work_is k x.live.me x live)
+    goes_root ss (steps.By_back x from call keep came live runs) = absurd (no_exec from x.live.me call (tasks.GoBack keep) came)
 
     -- a root's answer goes to its client
     root_mute : (x : Branch) (a : Answer) (o : Option BranchId) → o ≡ None → AllSay IsMute (answer_says x a o)
     root_mute x a None none = tt
     root_mute x a (Some parent) none = absurd cc
 
+  -- a branch whose children are to go back is a root
+  calling_root : {k : NodeState} {x : Branch} {step from : ℕ} → SessionsFit k → EachLive Was k.lives k.works → Calls_back k input x step from → (x.live.parent ≡ None) × (x.work.branch ≡ x.live.me)
+  calling_root ss now (steps.Has_gone j x step goes is) =
+      let back : SessionsFit (node_back j x step) = subst SessionsFit is ss in
+      goes_root j (subst (λ i. EachLive Was i.lives i.works) is now) (record { roots = back.roots; above = back.above }) goes
+  calling_root ss now (steps.Has_heard x weight count a i e g step answered going errand plain) = absurd (no_reply answered.from x.live.me answered.call weight count a answered.came)
+
   -- ---- every step
 
   pub plain_on : {k : NodeState} {d : TurnDraft} → Step p input k d → SessionsFit k → News HadNone p input k → EachLive Was k.lives k.works → Leaves d
-  plain_on (steps.Begins {k = k} n s call rows range none step) ss news now =
-      plain_on step (begun_so k ss p n) (begun_news HadNone p input k n news) (each_begun Was Was k.lives k.works now (fresh_root p k (new_root p k n)) (λ below. absurd (below refl)) (λ y v live any is. is))
-  plain_on (steps.Pends {k = k} n l given call has live code step) ss news now = plain_on step (pends_so k ss n pending.Commit) (pends_news HadNone p input k n given call news) now
+  plain_on (steps.Begins {k = k} n s read_at call begins range none step) ss news now =
+      plain_on step (begun_so k ss p n read_at) (begun_news HadNone p input k n read_at news) (each_begun Was Was k.lives k.works now (fresh_root p k (new_root p k n) read_at) (λ below. absurd (below refl)) (λ y v live any is. is))
+  plain_on (steps.Counts_call {k = k} n s call counts step) ss news now = plain_on step (counted_so k ss n) (counted_news HadNone p input k n news) now
+  plain_on (steps.Goes_back {k = k} x step goes next) ss news now = plain_on next (back_so k ss x step) (back_news HadNone p input k x step news) now
+  plain_on (steps.Pends {k = k} n l given call has live code writer step) ss news now = plain_on step (pends_so k ss n pending.Commit) (pends_news HadNone p input k n given call news) now
   plain_on (steps.Lets_reads_go {k = k} l comment q live begins step) ss news now = plain_on step (record { roots = ss.roots; above = ss.above }) (lets_news HadNone p input k l.me news) now
   plain_on (steps.Counts_ack {k = k} s from kept came counts step) ss news now = plain_on step (record { roots = ss.roots; above = ss.above }) (acked_news HadNone p input k _ news) now
   plain_on (steps.Sends {k = k} posts why) ss news now = (now, says_mute k now why)
   plain_on (steps.Runs {k = k} x s given t ask way) ss news now =
       let root = asked_root k now ss ask in (
-        put k now (after_run x.live (ran p k x.live.me s t)) (with_answer (record x { live = after_run x.live (ran p k x.live.me s t) }) _).work root.1 (λ below. absurd (below root.0)),
-        root_mute k now (record x { live = after_run x.live (ran p k x.live.me s t) }) (answer_of_run (ran p k x.live.me s t)) x.live.parent root.0,
+        put k now (after_run x.live (ran p k x.live.me s t)) (with_answer (branch_ran k.sessions x t (ran p k x.live.me s t)) (answer_of_run (ran p k x.live.me s t))).work root.1 (λ below. absurd (below root.0)),
+        root_mute k now (branch_ran k.sessions x t (ran p k x.live.me s t)) (answer_of_run (ran p k x.live.me s t)) x.live.parent root.0,
       )
   plain_on (steps.Goes_nowhere {k = k} x s given r ask way) ss news now =
       let root = asked_root k now ss ask in (put k now x.live (with_answer x _).work root.1 (λ below. absurd (below root.0)), root_mute k now x (answers.Refused r) x.live.parent root.0)
   plain_on (steps.Calls {k = k} x s given i table ask way) ss news now =
-      let root = asked_root k now ss ask in (put k now x.live (called x i (passed_on s table) given).work root.1 (λ below. absurd (below root.0)), exec_mute k.sessions x i (passed_on s table) given (peer_of x.live i))
+      let root = asked_root k now ss ask in (put k now x.live (called k.sessions x i (errands.Statement (passed_on s table) given)).work root.1 (λ below. absurd (below root.0)), exec_mute k.sessions x i (errands.Statement (passed_on s table) given) (peer_of x.live i))
   plain_on (steps.Opens {k = k} x s given node link table ask way) ss news now =
       let root = asked_root k now ss ask in (put k now x.live (waits_for_opened x link (passed_on s table) given).work root.1 (λ below. absurd (below root.0)), (refl, tt))
   plain_on (steps.Goes_on {k = k} x from strength g link opened) ss news now =
       let y : Branch = with_edge x (new_edge from link strength) in (
-        put k now y.live (called y (length x.live.edges + 1) g.statement (g.room - 1)).work (work_is k x.live.me x opened.live) (branch_was k now x opened.live),
-        exec_mute k.sessions y (length x.live.edges + 1) g.statement (g.room - 1) (peer_of y.live (length x.live.edges + 1)),
+        put k now y.live (called k.sessions y (length x.live.edges + 1) (less_room g.errand)).work (work_is k x.live.me x opened.live) (branch_was k now x opened.live),
+        exec_mute k.sessions y (length x.live.edges + 1) (less_room g.errand) (peer_of y.live (length x.live.edges + 1)),
       )
   plain_on (steps.Hears_reply {k = k} x weight count a i e answered) ss news now = absurd (no_reply answered.from x.live.me answered.call weight count a answered.came)
-  plain_on (steps.Opens_branch {k = k} to parent edge root depth came new) ss news now = (
-    each_begun Was Was k.lives k.works now (fresh_live (next_child p k) root (Some parent) depth (strength_of p k))
-        (λ below. sym (ap (λ o. (work_or (next_child p k) o).came) (news.child to parent edge root depth came new))) (λ y v live any is. is),
+  plain_on (steps.Backs {k = k} x step from i calls next) ss news now =
+      let root = calling_root ss now calls in (put k now x.live (called k.sessions x i (errands.GoBack step)).work root.1 (λ below. absurd (below root.0)), exec_mute k.sessions x i (errands.GoBack step) (peer_of x.live i))
+  plain_on (steps.Is_back {k = k} x step from calls none) ss news now =
+      let root = calling_root ss now calls in (put k now x.live (with_answer x _).work root.1 (λ below. absurd (below root.0)), root_mute k now x (answers.Did dones.RolledBack 0) x.live.parent root.0)
+  plain_on (steps.Opens_branch {k = k} to parent edge root depth read_at came new) ss news now = (
+    each_begun Was Was k.lives k.works now (fresh_live (next_child p k) root (Some parent) depth (strength_of p k) read_at)
+        (λ below. sym (ap (λ o. (work_or (next_child p k) o).came) (news.child to parent edge root depth read_at came new))) (λ y v live any is. is),
     (refl, tt),
   )
   plain_on (steps.Acts {k = k} l q a why) ss news now = acts_leave k now l q a (acting k now why)
@@ -153,7 +176,8 @@ module _ (k0 : NodeState) (p : Place) (input : Input) (no_exec : (from to : Bran
   plain_on (steps.Does {k = k} s from nexts.Forget kept why) ss news now = (now, each_says IsMute s.me kinds.Forgotten (map (λ b. b.branch) (beyond s)) refl)
   plain_on (steps.Does {k = k} s from nexts.SayForgotten kept why) ss news now = (now, (refl, tt))
   plain_on (steps.Does {k = k} s from nexts.SayAck kept why) ss news now = (now, (refl, tt))
-  plain_on (steps.Rolls_back {k = k} n x call has live) ss news now = (left k now x.live.me, rolls k now x.live)
+  plain_on (steps.Leaves {k = k} n s d x call ends has live) ss news now = (left k now x.live.me, rolls k now x.live)
+  plain_on (steps.Sets_savepoint {k = k} n x name call has code live) ss news now = (put k now x.live (marked k.sessions x name).work (work_is k x.live.me x live) (branch_was k now x live), tt)
   plain_on (steps.Gives_up {k = k} n x gives has calls live) ss news now = (put k now x.live (gives_up x).work (work_is k x.live.me x live) (branch_was k now x live), tt)
   plain_on (steps.Gives_up_commit {k = k} n b (Some l) gives has calls live) ss news now = (left k now l.me, rolls k now l)
   plain_on {k = k} _ ss news now = (now, tt)

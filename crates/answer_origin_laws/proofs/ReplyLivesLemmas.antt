@@ -20,7 +20,7 @@ use Rattle.run_rules.specs.Facts.{Facts, node_at, outcome_at, kept_after}
 use Rattle.run_base_laws.specs.InTurnLaws.{post_of, packet_post, said_in}
 use Rattle.run_rules.specs.Lawful.{IsOwed, History, IsLawfulRun}
 use Rattle.run_rules.specs.Runs.{is_accepted}
-use Rattle.run_rules.specs.Trail.{is_reply, answers, ended_by, origins_of, trail_after}
+use Rattle.run_rules.specs.Trail.{strength_at, is_reply, answers, ended_by, origins_of, trail_after}
 use Rattle.run_rules.proofs.AtNodeLemmas.{turn_elsewhere}
 use Rattle.run_base_laws.proofs.EventsStandLemmas.{run_stands, ids_name_their_node}
 use Rattle.run_base_laws.proofs.InTurnRunLemmas.{came_here}
@@ -46,7 +46,7 @@ use Rattle.tree_laws.proofs.AtTurn.{at_turn}
 use Rattle.tree_trail_laws.proofs.AtTrail.{at_trail}
 
 module _ (t : History) (whole : IsLawfulRun t) (Ans : BranchId → ℕ → Answer → Run → Type 0) where
-  abbrev AreTold : Calls → BranchId → Seen → Type 0
+  abbrev AreTold : ℕ → Calls → BranchId → Seen → Type 0
   AreTold = told.AreTold t whole Ans
 
   abbrev CallsOf : Facts → Trail → Type 0
@@ -55,7 +55,7 @@ module _ (t : History) (whole : IsLawfulRun t) (Ans : BranchId → ℕ → Answe
   abbrev RepliesOf : List Post → Trail → Type 0
   RepliesOf = told.RepliesOf t whole Ans
 
-  module _ (runs_so : told.RunsSo t whole Ans) (passes_so : told.PassesSo t whole Ans) (hs : List Happening) (u : Turn) (rest : List Happening) (is : hs ++ happenings.Turn u ∷ rest ≡ t.trace) (now : told.Holds t whole Ans hs) where
+  module _ (runs_so : told.RunsSo t whole Ans) (passes_so : told.PassesSo t whole Ans) (backs_so : told.BacksSo t whole Ans) (hs : List Happening) (u : Turn) (rest : List Happening) (is : hs ++ happenings.Turn u ∷ rest ≡ t.trace) (now : told.Holds t whole Ans hs) where
     open at_turn t whole hs u rest is use {after as hs1, part as part0, s as s0, lawful as lawful0, f as f0, g as f1, may, k, heard_k as kk, p, d, said as said0}
     open at_trail t hs u use {tr as tr0, tr_on as tr1, begun_tr as tr_begun}
 
@@ -64,6 +64,13 @@ module _ (t : History) (whole : IsLawfulRun t) (Ans : BranchId → ℕ → Answe
 
     abbrev made : Seen → Seen
     made s = turned t.places f0 tr0 u s
+
+    -- an answer of this turn, and one that stays told
+    abbrev AnswerSo : Option Run → ℕ → BranchId → ℕ → Answer → Type 0
+    AnswerSo = told.AnswerSo t whole Ans
+
+    later : (o p : Option Run) → ((r : Run) → o ≡ Some r → p ≡ Some r) → (b : BranchId) (call : ℕ) (a : Answer) → AnswerSo o tr0.moment b call a → AnswerSo p (tr0.moment + 1) b call a
+    later o p still b call a is = told.answer_later t whole Ans o p tr0.moment (tr0.moment + 1) (omega arith) still b call a is
 
     -- ---- live branches after the turn
 
@@ -83,7 +90,7 @@ module _ (t : History) (whole : IsLawfulRun t) (Ans : BranchId → ℕ → Answe
         pub at : seen_at tr_begun l.me ≡ Some seen
         pub alive : seen.exit ≡ None
         pub lower : seen.parent ≢ None
-        pub told : AreTold (calls0 kk u.input l.me) l.me seen
+        pub told : AreTold tr0.moment (calls0 kk u.input l.me) l.me seen
 
       ready : Ready
       ready = by (item_at live_id k.lives l.me) refl
@@ -98,11 +105,11 @@ module _ (t : History) (whole : IsLawfulRun t) (Ans : BranchId → ℕ → Answe
           new opened none =
               let calls : calls0 kk u.input l.me ≡ no_calls = calls_are no_calls (ap (λ o. (work_or l.me o).came) (tales.there t whole hs u rest is l.me none)) in
               record {
-                seen = newly_seen l.me opened.root (Some opened.parent);
+                seen = newly_seen l.me opened.root (Some opened.parent) (strength_at f0 l.me.node) opened.read_at;
                 at = kids.opened_begun t whole hs u rest is tells uncut l opened;
                 alive = refl;
                 lower = λ no. absurd cc;
-                told = subst (λ c. AreTold c l.me (newly_seen l.me opened.root (Some opened.parent))) (sym calls) (record { taken = refl; kept = λ rf some good. absurd cc });
+                told = subst (λ c. AreTold tr0.moment c l.me (newly_seen l.me opened.root (Some opened.parent) (strength_at f0 l.me.node) opened.read_at)) (sym calls) (record { taken = refl; kept = λ rf some good. absurd cc });
               }
 
           by : (o : Option Live) → item_at live_id k.lives l.me ≡ o → Ready
@@ -114,29 +121,29 @@ module _ (t : History) (whole : IsLawfulRun t) (Ans : BranchId → ℕ → Answe
               let z_below : z.parent ≢ None = (λ none. below (was.1 ∙ none)) in
               let before = seen_before u.node k may.1.up z z_live z_below in
               let at : seen_at tr0 l.me ≡ Some before.0 = subst (λ c. seen_at tr0 c ≡ Some before.0) me before.1 in
-              let told : AreTold (works_of k.works z.me).came z.me before.0 = now.calls u.node k may.1.up z z_live z_below before.0 before.1 in
+              let told : AreTold tr0.moment (works_of k.works z.me).came z.me before.0 = now.calls u.node k may.1.up z z_live z_below before.0 before.1 in
               record {
                 seen = before.0;
                 at = old_begun l.me before.0 at;
                 alive = before.2.live;
                 lower = λ none. z_below (sym before.2.parent ∙ none);
-                told = subst (λ c. AreTold c l.me before.0) (sym (calls_are (works_of k.works l.me).came refl)) (subst (λ b. AreTold (works_of k.works b).came b before.0) me told);
+                told = subst (λ c. AreTold tr0.moment c l.me before.0) (sym (calls_are (works_of k.works l.me).came refl)) (subst (λ b. AreTold tr0.moment (works_of k.works b).came b before.0) me told);
               }
 
       its_tale : Tale kk u.input d.says d.ended l.me (calls0 kk u.input l.me) (works_of d.after.works l.me).came
       its_tale = (tales.turn_tales t whole hs u rest is).0.each l.me l live below
 
-      after : AreTold (works_of d.after.works l.me).came l.me (made ready.seen) × told.Speaks t whole Ans runs_so passes_so hs u rest is now uncut l ready.seen ready.at ready.alive ready.lower ready.told
-      after = told.told_by t whole Ans runs_so passes_so hs u rest is now uncut l ready.seen ready.at ready.alive ready.lower ready.told (works_of d.after.works l.me).came its_tale
+      after : AreTold (tr0.moment + 1) (works_of d.after.works l.me).came l.me (made ready.seen) × told.Speaks t whole Ans runs_so passes_so backs_so hs u rest is now uncut l ready.seen ready.at ready.alive ready.lower ready.told
+      after = told.told_by t whole Ans runs_so passes_so backs_so hs u rest is now uncut l ready.seen ready.at ready.alive ready.lower ready.told (works_of d.after.works l.me).came its_tale
 
-      pub calls_after : (s : Seen) → seen_at tr1 l.me ≡ Some s → AreTold (works_of d.after.works l.me).came l.me s
+      pub calls_after : (s : Seen) → seen_at tr1 l.me ≡ Some s → AreTold (tr0.moment + 1) (works_of d.after.works l.me).came l.me s
       calls_after s at =
           let it : Some (made ready.seen) ≡ Some s = sym (seen_begun t.places f0 tr0 u l.me ready.seen ready.at) ∙ at in
           let one : made ready.seen ≡ s = cc in
-          subst (λ x. AreTold (works_of d.after.works l.me).came l.me x) one after.0
+          subst (λ x. AreTold (tr0.moment + 1) (works_of d.after.works l.me).came l.me x) one after.0
 
       pub speaks_after : NoReply l.me d.says
-          ⊎ ((to : BranchId) × (call : ℕ) × (weight : Option ℕ) × (count : ℕ) × (a : Answer) × (d.says ≡ post l.me to (kinds.Reply call weight count a)) × (is_accepted (Some a) ≡ true → (r : Run) × (origin ≡ Some r) × Ans l.me call a r))
+          ⊎ ((to : BranchId) × (call : ℕ) × (weight : Option ℕ) × (count : ℕ) × (a : Answer) × (d.says ≡ post l.me to (kinds.Reply call weight count a)) × (is_accepted (Some a) ≡ true → AnswerSo origin (tr0.moment + 1) l.me call a))
       speaks_after = after.1
 
     -- ---- other nodes
@@ -153,15 +160,15 @@ module _ (t : History) (whole : IsLawfulRun t) (Ans : BranchId → ℕ → Answe
 
         by : (cut : Bool) → u.cut ≡ cut → list_any (λ (m : Msg). same m.from b && is_reply m.kind) u.sent ≡ false
         by true cut = ap (list_any (λ (m : Msg). same m.from b && is_reply m.kind)) (subst (λ c. IsOwed p k u.input u.wrote u.sent c) cut may.1.owed).1
-        by false uncut = ap (list_any (λ (m : Msg). same m.from b && is_reply m.kind)) (told.sent_is t whole Ans runs_so passes_so hs u rest is now uncut) ∙ (said_on b d.after.clock d.says
+        by false uncut = ap (list_any (λ (m : Msg). same m.from b && is_reply m.kind)) (told.sent_is t whole Ans runs_so passes_so backs_so hs u rest is now uncut) ∙ (said_on b d.after.clock d.says
             ∙ unspoken (λ c. (from : BranchId) × (kind : Kind) × Came u.input from c kind) b (λ c. none_came b other c.0 c.1 c.2) d.says (good d.says (tales.turn_tales t whole hs u rest is).1))
 
-    elsewhere : (n : ℕ) (j : NodeState) → u.node ≢ n → node_at f1 n ≡ Some j → (l : Live) → live_at j l.me ≡ Some l → l.parent ≢ None → (s : Seen) → seen_at tr1 l.me ≡ Some s → AreTold (works_of j.works l.me).came l.me s
+    elsewhere : (n : ℕ) (j : NodeState) → u.node ≢ n → node_at f1 n ≡ Some j → (l : Live) → live_at j l.me ≡ Some l → l.parent ≢ None → (s : Seen) → seen_at tr1 l.me ≡ Some s → AreTold (tr0.moment + 1) (works_of j.works l.me).came l.me s
     elsewhere n j other up l live below s at =
         let before : node_at f0 n ≡ Some j = sym (turn_elsewhere t.places t.commands f0 (run_stands s0 lawful0).0.even u n other).0 ∙ up in
         let own : l.me.node ≡ n = all_found (λ l. l.me.node ≡ n) live_id j.lives l.me l (ids_name_their_node s0 lawful0 n j before).lives live in
         let was = seen_before n j before l live below in
-        let told : AreTold (works_of j.works l.me).came l.me was.0 = now.calls n j before l live below was.0 was.1 in
+        let told : AreTold tr0.moment (works_of j.works l.me).came l.me was.0 = now.calls n j before l live below was.0 was.1 in
         let me : was.0.me ≡ l.me = item_is seen_id tr0.seen l.me was.0 was.1 in
         let far : was.0.me.node ≢ u.node = (λ same. other (sym (sym own ∙ (sym (ap (λ (b : BranchId). b.node) me) ∙ same)))) in
         let lower : was.0.parent ≢ None = (λ none. below (sym was.2.parent ∙ none)) in
@@ -169,23 +176,27 @@ module _ (t : History) (whole : IsLawfulRun t) (Ans : BranchId → ℕ → Answe
         let one : made was.0 ≡ s = cc in
         let quiet : answers u (outcome_at t.places f0 u) was.0 ≡ false = ap (λ q. list_any (λ (m : Msg). same m.from was.0.me && is_reply m.kind) u.sent || q) (ends_none u.node was.0 lower (ended_by (outcome_at t.places f0 u))) ∙ ap (λ q. q || false) (unsaid was.0.me far) in
         let answer : (made was.0).answer ≡ was.0.answer = ap (λ q. if q then origin else was.0.answer) quiet in
-        let taken : (made was.0).taken ≡ was.0.taken = taken_still was.0 u.input (λ from call given advice st came. absurd (far (came_here f0 k u.node u.input u.took may.1.comes from was.0.me (kinds.Exec call given advice st) came))) in
-        subst (λ x. AreTold (works_of j.works l.me).came l.me x) one
-        (record { taken = taken ∙ told.taken; kept = λ rf some good. (let had = told.kept rf some good in (had.0, answer ∙ had.1, had.2)) })
+        let taken : (made was.0).taken ≡ was.0.taken = taken_still u.node was.0 lower u.input (λ from call task came. absurd (far (came_here f0 k u.node u.input u.took may.1.comes from was.0.me (kinds.Exec call task) came))) in
+        subst (λ x. AreTold (tr0.moment + 1) (works_of j.works l.me).came l.me x) one
+        (record { taken = taken ∙ told.taken; kept = λ rf some good. later was.0.answer (made was.0).answer (λ r had. answer ∙ had) l.me (works_of j.works l.me).came.last_call rf.result (told.kept rf some good) })
+
+    moment_is : tr1.moment ≡ tr0.moment + 1
+    unfolding trail_after
+    moment_is = refl
 
     calls_then : CallsOf f1 tr1
-    calls_then n j up l live below s at = elim (cases_eq u.node n) [
+    calls_then n j up l live below s at = subst (λ m. AreTold m (works_of j.works l.me).came l.me s) (sym moment_is) (elim (cases_eq u.node n) [
       | inl here ↦ own u.cut refl (subst (λ m. node_at f1 m ≡ Some j) (sym here) up)
       | inr other ↦ elsewhere n j other up l live below s at
-    ]
+    ])
       where
-        own : (cut : Bool) → u.cut ≡ cut → node_at f1 u.node ≡ Some j → AreTold (works_of j.works l.me).came l.me s
+        own : (cut : Bool) → u.cut ≡ cut → node_at f1 u.node ≡ Some j → AreTold (tr0.moment + 1) (works_of j.works l.me).came l.me s
         own true cut there =
             let none : node_at f1 u.node ≡ None = kids.here_after t whole hs u rest is tells ∙ ap (λ c. kept_after c (Some (turn_of p k u.input))) cut in absurd (cc (none, there))
         own false cut there =
             let both : Some d.after ≡ Some j = sym (kids.after_up t whole hs u rest is tells cut) ∙ there in
             let it : d.after ≡ j = cc in
-            subst (λ i. AreTold (works_of i.works l.me).came l.me s) it (calls_after cut l (subst (λ i. live_at i l.me ≡ Some l) (sym it) live) below s at)
+            subst (λ i. AreTold (tr0.moment + 1) (works_of i.works l.me).came l.me s) it (calls_after cut l (subst (λ i. live_at i l.me ≡ Some l) (sym it) live) below s at)
 
     -- ---- Replies
 
@@ -214,7 +225,7 @@ module _ (t : History) (whole : IsLawfulRun t) (Ans : BranchId → ℕ → Answe
     good_kind kind call weight count a at good = (ap is_good_reply at ∙ good, ap is_reply at)
 
     new_reply : (uncut : u.cut ≡ false) (n j : ℕ) (x : Post) → n ≡ length said0 + j → numbered d.says j ≡ Some x → (call : ℕ) (weight : Option ℕ) (count : ℕ) (a : Answer) → x.kind ≡ kinds.Reply call weight count a → is_accepted (Some a) ≡ true
-        → (r : Run) × (origin_at tr1 n ≡ Some r) × Ans x.from call a r
+        → AnswerSo (origin_at tr1 n) (tr0.moment + 1) x.from call a
     new_reply uncut n j x number at call weight count a reply good =
         let kind = good_kind x.kind call weight count a reply good in
         let its : IsGood kk u.input d.after.lives x = all_numbered (IsGood kk u.input d.after.lives) d.says j x (tales.turn_tales t whole hs u rest is).1 at in
@@ -229,27 +240,27 @@ module _ (t : History) (whole : IsLawfulRun t) (Ans : BranchId → ℕ → Answe
               let both : kinds.Reply said.1 said.2 said.3 said.4 ≡ kinds.Reply call weight count a = ap (λ (y : Post). y.kind) one.1 ∙ reply in
               let same_number : said.1 ≡ call = cc in
               let same_answer : said.4 ≡ a = cc in
-              let found = said.6 (ap (λ y. is_accepted (Some y)) same_answer ∙ good) in
+              let found : AnswerSo origin (tr0.moment + 1) l.me said.1 said.4 = said.6 (ap (λ y. is_accepted (Some y)) same_answer ∙ good) in
               let m : Msg = record { from = l.me; to = said.0; scn = d.after.clock; kind = kinds.Reply said.1 said.2 said.3 said.4 } in
-              let sent : u.sent ≡ m ∷ [] = told.sent_is t whole Ans runs_so passes_so hs u rest is now uncut ∙ ap (map (stamped d.after.clock)) said.5 in
+              let sent : u.sent ≡ m ∷ [] = told.sent_is t whole Ans runs_so passes_so backs_so hs u rest is now uncut ∙ ap (map (stamped d.after.clock)) said.5 in
               let last : n ≡ length said0 + 1 = omega (arith, number, one.0) in
-              let origin_is : origin_of (find (λ (o : Origin). o.message == n) (tr0.origins ++ origins_of (length f0.net.packets + 1) origin u.sent)) ≡ Some found.0
-              = ap (λ i. origin_of (find (λ (o : Origin). o.message == i) (tr0.origins ++ origins_of (length f0.net.packets + 1) origin u.sent))) last
+              subst (λ b. AnswerSo (origin_at tr1 n) (tr0.moment + 1) b call a) me (subst (λ i. AnswerSo (origin_at tr1 n) (tr0.moment + 1) l.me i a) same_number (subst (λ y. AnswerSo (origin_at tr1 n) (tr0.moment + 1) l.me said.1 y) same_answer
+              (told.answer_later t whole Ans origin (origin_at tr1 n) (tr0.moment + 1) (tr0.moment + 1) (omega arith) (λ r told_so. at_then n r
+              (ap (λ i. origin_of (find (λ (o : Origin). o.message == i) (tr0.origins ++ origins_of (length f0.net.packets + 1) origin u.sent))) last
               ∙ (ap (λ i. origin_of (find (λ (o : Origin). o.message == (length said0 + 1)) (tr0.origins ++ origins_of (i + 1) origin u.sent))) how_many
-              ∙ (ap (λ o. origin_of (find (λ (o : Origin). o.message == (length said0 + 1)) (tr0.origins ++ origins_of (length said0 + 1) o u.sent))) found.1
-              ∙ (ap (λ ms. origin_of (find (λ (o : Origin). o.message == (length said0 + 1)) (tr0.origins ++ origins_of (length said0 + 1) (Some found.0) ms))) sent ∙ origin_last tr0.origins (length said0) found.0 m refl now.low))) in
-              (found.0, at_then n found.0 origin_is, subst (λ b. Ans b call a found.0) me (subst (λ i. Ans l.me i a found.0) same_number (subst (λ y. Ans l.me said.1 y found.0) same_answer found.2))))
+              ∙ (ap (λ o. origin_of (find (λ (o : Origin). o.message == (length said0 + 1)) (tr0.origins ++ origins_of (length said0 + 1) o u.sent))) told_so
+              ∙ (ap (λ ms. origin_of (find (λ (o : Origin). o.message == (length said0 + 1)) (tr0.origins ++ origins_of (length said0 + 1) (Some r) ms))) sent ∙ origin_last tr0.origins (length said0) r m refl now.low))))) l.me said.1 said.4 found))))
         ]
 
     replies_then : RepliesOf (said_in f1) tr1
-    replies_then n x at call weight count a reply good = elim (numbered_append said0 (map post_of u.sent) n x (subst (λ xs. numbered xs n ≡ Some x) says_are at)) [
-      | inl old ↦ (let was = now.replies n x old call weight count a reply good in (was.0, at_then n was.0 (more_found (λ (o : Origin). o.message == n) tr0.origins _ was.0 was.1), was.2))
+    replies_then n x at call weight count a reply good = subst (λ m. AnswerSo (origin_at tr1 n) m x.from call a) (sym moment_is) (elim (numbered_append said0 (map post_of u.sent) n x (subst (λ xs. numbered xs n ≡ Some x) says_are at)) [
+      | inl old ↦ later (origin_at tr0 n) (origin_at tr1 n) (λ r was. at_then n r (more_found (λ (o : Origin). o.message == n) tr0.origins _ r was)) x.from call a (now.replies n x old call weight count a reply good)
       | inr new ↦ by u.cut refl new.0 new.1 new.2
-    ]
+    ])
       where
-        by : (cut : Bool) → u.cut ≡ cut → (j : ℕ) → n ≡ length said0 + j → numbered (map post_of u.sent) j ≡ Some x → (r : Run) × (origin_at tr1 n ≡ Some r) × Ans x.from call a r
+        by : (cut : Bool) → u.cut ≡ cut → (j : ℕ) → n ≡ length said0 + j → numbered (map post_of u.sent) j ≡ Some x → AnswerSo (origin_at tr1 n) (tr0.moment + 1) x.from call a
         by true cut j number there = absurd (none_at j (subst (λ ms. numbered (map post_of ms) j ≡ Some x) (subst (λ c. IsOwed p k u.input u.wrote u.sent c) cut may.1.owed).1 there))
-        by false uncut j number there = new_reply uncut n j x number (subst (λ xs. numbered xs j ≡ Some x) (ap (map post_of) (told.sent_is t whole Ans runs_so passes_so hs u rest is now uncut) ∙ posts_back d.after.clock d.says) there) call weight count a reply good
+        by false uncut j number there = new_reply uncut n j x number (subst (λ xs. numbered xs j ≡ Some x) (ap (map post_of) (told.sent_is t whole Ans runs_so passes_so backs_so hs u rest is now uncut) ∙ posts_back d.after.clock d.says) there) call weight count a reply good
 
     pub turn_holds : told.Holds t whole Ans hs1
     turn_holds = record {

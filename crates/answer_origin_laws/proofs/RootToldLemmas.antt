@@ -29,7 +29,7 @@ module _ (places : List Place) (f : Facts) (tr : Trail) (u : Turn) (o : TurnOutp
   -- one that is live after the turn was so before it
   was_live : (s : Seen) (e : Option Exit) → s.exit ≡ e → is_live (made s) ≡ true → is_none e ≡ true
   was_live s None at live = refl
-  was_live s (Some e) at live = absurd (let gone : (made s).exit ≡ Some e = ap (exit_after (planned places f tr u) u s (with_turn f.book u (outcome_at places f u) (brings places f tr u) s)) at in let none : is_live (made s) ≡ false = ap is_none gone in cc (live, none))
+  was_live s (Some e) at live = absurd (let gone : (made s).exit ≡ Some e = ap (exit_after (planned places f tr u) u (brings places f tr u).answer s (with_turn f.book u (outcome_at places f u) (brings places f tr u) s)) at in let none : is_live (made s) ≡ false = ap is_none gone in cc (live, none))
 
   was_root : (s : Seen) → is_root_of u.node session (made s) ≡ true → is_root_of u.node session s ≡ true
   was_root s is =

@@ -39,6 +39,7 @@ came_sent f k node (inputs.Message m) None comes from to kind came = absurd come
 came_sent f k node (inputs.Call session statement) took comes from to kind came = absurd (cc (came.is))
 came_sent f k node (inputs.GiveUp session) took comes from to kind came = absurd (cc (came.is))
 came_sent f k node inputs.Reco took comes from to kind came = absurd (cc (came.is))
+came_sent f k node inputs.Checkpoint took comes from to kind came = absurd (cc (came.is))
 
 -- an Exec is no newer than the newest
 pub exec_in : (said : List Post) (n : ℕ) (x : Post) → numbered said n ≡ Some x → (a b : BranchId) → x.from ≡ a → x.to ≡ b → exec_number x.kind ≤ newest_exec said a b

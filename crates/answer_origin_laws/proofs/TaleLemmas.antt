@@ -3,11 +3,15 @@
 use Rattle.std.proofs.Common.{◌≡◌, ◌≢◌, ℕ, ◌<◌, ◌≤◌, ◌&&◌, ◌||◌, Bool, true, false, List, [], ◌∷◌, Option, Some, None, refl, sym, ap, ◌∙◌}
 use Rattle.std.specs.List.{AllByRecursion, list_any}
 use Rattle.tran_ids.proofs.ListedLemmas.{item_is}
-use Rattle.node_rules.specs.Data.{Table, Stmt, Answer, Advice, BranchId, Kind, Edge, Live, Input, Msg, Post, ReplyFields, Calls}
+use Rattle.node_rules.specs.Data.{Table, Stmt, Answer, Advice, Task, BranchId, Kind, Edge, Live, Input, Msg, Post, ReplyFields, Calls}
+use Rattle.node_rules.specs.declared.work.Errand.{Errand}
+use Rattle.node_rules.specs.declared.work.Going.{Going}
 use Rattle.node_rules.specs.declared.work.Work.{Work}
 use Rattle.node_rules.specs.declared.session.Finished.{Finished}
 use Rattle.node_rules.specs.Data.inputs
 use Rattle.node_rules.specs.Data.kinds
+use Rattle.node_rules.specs.Data.tasks
+use Rattle.node_rules.specs.declared.work.Errand.TheVariants as errands
 use Rattle.node_rules.specs.Words.{same, item_at}
 use Rattle.node_rules.specs.Inputs.{Came}
 use Rattle.link_session.specs.Calls.{taken}
@@ -18,6 +22,7 @@ use Rattle.node_rules.proofs.Steps.{Is_answered}
 use Rattle.run_rules.specs.Runs.{is_accepted}
 use Rattle.run_rules.specs.Trail.{is_reply}
 use Rattle.run_base_laws.proofs.KindSayLemmas.{AllSay}
+use Rattle.answer_origin_laws.specs.ReplyLaws.{went_back}
 
 -- an accepted answer to a parent
 abbrev pub is_good_reply : Kind → Bool
@@ -44,16 +49,31 @@ mute_replies b (x ∷ xs) all = ap (λ q. (same x.from b && q) || list_any (λ y
 pub other_reply : (b c to : BranchId) (kind : Kind) → same c b ≡ false → NoReply b (post c to kind)
 other_reply b c to kind other = ap (λ q. (q && is_reply kind) || false) other
 
+-- an errand is a statement, or to go back
+abbrev pub IsOfStatement : Errand → Type 0
+IsOfStatement (errands.Statement s given) = Unit {0}
+IsOfStatement (errands.GoBack step) = ⊥
+
+abbrev pub IsOfBack : Errand → Type 0
+IsOfBack (errands.Statement s given) = ⊥
+IsOfBack (errands.GoBack step) = Unit {0}
+
 -- what a branch does about its calls, by what came
 pub data Tale (k : NodeState) (input : Input) (says : List Post) (ended : List Finished) (b : BranchId) (c d : Calls) : Type 0 where
-  Stays : d ≡ c → NoReply b says → ((from : BranchId) (call given : ℕ) (advice : Option Advice) (s : Stmt) → Came input from b (kinds.Exec call given advice s) → call ≤ c.last_call) → Tale k input says ended b c d
-  Says_again : (from : BranchId) (call given : ℕ) (advice : Option Advice) (s : Stmt) (t : ReplyFields) → Came input from b (kinds.Exec call given advice s) → c.last_call ≡ call → c.reply ≡ Some t → d ≡ c
+  Stays : d ≡ c → NoReply b says → ((from : BranchId) (call : ℕ) (task : Task) → Came input from b (kinds.Exec call task) → call ≤ c.last_call) → Tale k input says ended b c d
+  Says_again : (from : BranchId) (call : ℕ) (task : Task) (t : ReplyFields) → Came input from b (kinds.Exec call task) → c.last_call ≡ call → c.reply ≡ Some t → d ≡ c
       → says ≡ post b from (kinds.Reply c.last_call t.weight t.count t.result) → Tale k input says ended b c d
-  Takes : (from : BranchId) (call given : ℕ) (advice : Option Advice) (s : Stmt) → Came input from b (kinds.Exec call given advice s) → c.last_call < call → d ≡ taken call → NoReply b says → Tale k input says ended b c d
-  Answers : (from parent : BranchId) (call given : ℕ) (advice : Option Advice) (s : Stmt) (t : ReplyFields) → Came input from b (kinds.Exec call given advice s) → c.last_call < call
+  Takes : (from : BranchId) (call : ℕ) (task : Task) → Came input from b (kinds.Exec call task) → c.last_call < call → d ≡ taken call → NoReply b says → Tale k input says ended b c d
+  Answers : (from parent : BranchId) (call given : ℕ) (advice : Option Advice) (s : Stmt) (t : ReplyFields) → Came input from b (kinds.Exec call (tasks.Run given advice s)) → c.last_call < call
       → d ≡ record { last_call = call; reply = Some t } → says ≡ post b parent (kinds.Reply call t.weight t.count t.result) → ended ≡ []
       → (is_accepted (Some t.result) ≡ true → (table : Table) × (named_by k.stored.durable (ref_of s) ≡ A_table table)) → Tale k input says ended b c d
+  Goes_back : (from parent : BranchId) (call keep : ℕ) (t : ReplyFields) → Came input from b (kinds.Exec call (tasks.GoBack keep)) → c.last_call < call
+      → d ≡ record { last_call = call; reply = Some t } → says ≡ post b parent (kinds.Reply call t.weight t.count t.result) → t.result ≡ went_back → Tale k input says ended b c d
   Hears : (x : Branch) (parent : BranchId) (weight : Option ℕ) (count : ℕ) (a : Answer) (i : ℕ) (e : Edge) (t : ReplyFields) → Is_answered k input x weight count a i e → x.live.me ≡ b → x.live.parent ≡ Some parent → t.result ≡ a
+      → (is_accepted (Some a) ≡ true → (g : Going) × (x.work.going ≡ Some g) × IsOfStatement g.errand)
+      → d ≡ record { last_call = c.last_call; reply = Some t } → says ≡ post b parent (kinds.Reply c.last_call t.weight t.count t.result) → Tale k input says ended b c d
+  Is_back : (x : Branch) (parent : BranchId) (weight : Option ℕ) (count : ℕ) (a : Answer) (i : ℕ) (e : Edge) (g : Going) (t : ReplyFields) → Is_answered k input x weight count a i e → x.live.me ≡ b → x.live.parent ≡ Some parent
+      → x.work.going ≡ Some g → IsOfBack g.errand → t.result ≡ went_back
       → d ≡ record { last_call = c.last_call; reply = Some t } → says ≡ post b parent (kinds.Reply c.last_call t.weight t.count t.result) → Tale k input says ended b c d
 
 module _ (k : NodeState) (input : Input) where

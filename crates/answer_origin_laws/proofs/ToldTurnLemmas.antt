@@ -26,7 +26,7 @@ use Rattle.answer_origin_laws.specs.ToldLaws.{LinesComeFromTurns}
 use Rattle.answer_origin_laws.proofs.ToldCallLemmas.{AreNamed, IsNamed, call_named, were_same, Left, all_left, stopped_named}
 use Rattle.answer_origin_laws.proofs.ToldLineLemmas.{LineFrom, LinesFrom, From, world_from, told_from, same_from, own_from, finished_from, stopped_from, says_world, started_world}
 use Rattle.answer_origin_laws.proofs.NumberLemmas.{all_slice, take_more}
-use Rattle.answer_origin_laws.proofs.ReplyRunLemmas.{happens_at, prefix}
+use Rattle.answer_origin_laws.proofs.ReplyStandLemmas.{happens_at, prefix}
 
 -- ---- what leaves calls and lines
 
@@ -62,6 +62,7 @@ module _ (P : ℕ → Answer → Type 0) (running : ℕ) (t : RunReport) where
   input_so node (inputs.GiveUp session) = (refl, λ now. now)
   input_so node (inputs.Message m) = (refl, λ now. now)
   input_so node inputs.Reco = (refl, λ now. now)
+  input_so node inputs.Checkpoint = (refl, λ now. now)
 
 -- ---- a run so far
 

@@ -2,7 +2,7 @@
 use Rattle.std.proofs.Common.{◌≡◌, ℕ, List, ◌∷◌, ◌++◌, Option, Some, None, refl, sym, ap, subst, ◌∙◌}
 use Rattle.std.specs.Prelude.{IfSome}
 use Rattle.tran_ids.proofs.ListedLemmas.{item_is}
-use Rattle.node_rules.specs.Data.{Answer, Advice, BranchId, Kind, Live, Msg, Stmt, Input}
+use Rattle.node_rules.specs.Data.{Answer, Task, BranchId, Kind, Live, Msg, Input}
 use Rattle.node_rules.specs.Data.inputs
 use Rattle.node_rules.specs.Data.kinds
 use Rattle.node_rules.specs.Words.{item_at}
@@ -55,18 +55,21 @@ module _ (t : History) (whole : IsLawfulRun t) (hs : List Happening) (u : Turn) 
   heard_lives (inputs.Call n s) = refl
   heard_lives (inputs.GiveUp n) = refl
   heard_lives inputs.Reco = refl
+  heard_lives inputs.Checkpoint = refl
 
   pub heard_works : (input : Input) → (heard k input).works ≡ k.works
   heard_works (inputs.Message m) = refl
   heard_works (inputs.Call n s) = refl
   heard_works (inputs.GiveUp n) = refl
   heard_works inputs.Reco = refl
+  heard_works inputs.Checkpoint = refl
 
   pub heard_stored : (input : Input) → (heard k input).stored ≡ k.stored
   heard_stored (inputs.Message m) = refl
   heard_stored (inputs.Call n s) = refl
   heard_stored (inputs.GiveUp n) = refl
   heard_stored inputs.Reco = refl
+  heard_stored inputs.Checkpoint = refl
 
   pub there : (b : BranchId) → item_at live_id k.lives b ≡ None → item_at work_id k.works b ≡ None
   there = node_calls.there
@@ -82,6 +85,7 @@ module _ (t : History) (whole : IsLawfulRun t) (hs : List Happening) (u : Turn) 
   heard_fit (inputs.Call n s) = fit
   heard_fit (inputs.GiveUp n) = fit
   heard_fit inputs.Reco = fit
+  heard_fit inputs.Checkpoint = fit
 
   not_live : (b : BranchId) → born_at bs0 b ≡ None → (o : Option Live) → item_at live_id k.lives b ≡ o → o ≡ None
   not_live b unborn None none = refl
@@ -90,7 +94,7 @@ module _ (t : History) (whole : IsLawfulRun t) (hs : List Happening) (u : Turn) 
       let at : born_at bs0 b ≡ Some born.born = subst (λ c. born_at bs0 c ≡ Some born.born) (born.is_me ∙ item_is live_id k.lives b l some) born.began in
       absurd (cc (at, unborn))
 
-  news : (none : (from to : BranchId) (call given : ℕ) (advice : Option Advice) (s : Stmt) → Came u.input from to (kinds.Exec call given advice s) → ⊥)
+  news : (none : (from to : BranchId) (call : ℕ) (task : Task) → Came u.input from to (kinds.Exec call task) → ⊥)
       → (never : (from to : BranchId) (call : ℕ) (weight : Option ℕ) (count : ℕ) (a : Answer) → Came u.input from to (kinds.Reply call weight count a) → ⊥) → News (HadNone kk p u.input none never) p u.input kk
   news none never =
       news_of _ p k u.input
@@ -100,22 +104,22 @@ module _ (t : History) (whole : IsLawfulRun t) (hs : List Happening) (u : Turn) 
 
   -- ---- the tales
 
-  plain : ((from to : BranchId) (call given : ℕ) (advice : Option Advice) (s : Stmt) → Came u.input from to (kinds.Exec call given advice s) → ⊥)
+  plain : ((from to : BranchId) (call : ℕ) (task : Task) → Came u.input from to (kinds.Exec call task) → ⊥)
       → ((from to : BranchId) (call : ℕ) (weight : Option ℕ) (count : ℕ) (a : Answer) → Came u.input from to (kinds.Reply call weight count a) → ⊥) → Tales kk u.input (draft_of p k u.input)
   plain none never =
       let now : EachLive (Was kk p u.input none never) kk.lives kk.works = record { there = heard_there; each = λ b l found below. ap (λ c. (works_of kk.works c).came) (sym (item_is live_id kk.lives b l found)) } in
       let left = plain_on kk p u.input none never (serves t.places f0 u k may.1).step (heard_fit u.input) (news none never) now in
       let d : TurnDraft = draft_of p k u.input in (
         each_same (Was kk p u.input none never) (Told kk u.input d.says d.ended) d.after.lives d.after.works left.0
-            (λ y v live any was below. Stays (was below) (mute_replies y.me d.says left.1) (λ from call given advice s came. absurd (none from y.me call given advice s came))),
+            (λ y v live any was below. Stays (was below) (mute_replies y.me d.says left.1) (λ from call task came. absurd (none from y.me call task came))),
         mute_good kk u.input d.after.lives d.says left.1,
       )
 
   -- the parent of a branch calls it
-  above : (m : Msg) → u.input ≡ inputs.Message m → (call given : ℕ) (advice : Option Advice) (s : Stmt) → m.kind ≡ kinds.Exec call given advice s → (l : Live) → live_at kk m.to ≡ Some l → l.parent ≡ Some m.from
-  above m input call given advice s kind l live =
-      let came : Came u.input m.from m.to (kinds.Exec call given advice s) = record { scn = m.scn; is = input ∙ ap (λ x. inputs.Message (record { from = m.from; to = m.to; scn = m.scn; kind = x })) kind } in
-      let child : IsChild (Began bs0) m.to m.from = came_so (GoesSo (Began bs0)) f0 (messages_are_of_neighbors s0 lawful0) k u.node u.input u.took may.1.comes m.from m.to (kinds.Exec call given advice s) came in
+  above : (m : Msg) → u.input ≡ inputs.Message m → (call : ℕ) (task : Task) → m.kind ≡ kinds.Exec call task → (l : Live) → live_at kk m.to ≡ Some l → l.parent ≡ Some m.from
+  above m input call task kind l live =
+      let came : Came u.input m.from m.to (kinds.Exec call task) = record { scn = m.scn; is = input ∙ ap (λ x. inputs.Message (record { from = m.from; to = m.to; scn = m.scn; kind = x })) kind } in
+      let child : IsChild (Began bs0) m.to m.from = came_so (GoesSo (Began bs0)) f0 (messages_are_of_neighbors s0 lawful0) k u.node u.input u.took may.1.comes m.from m.to (kinds.Exec call task) came in
       let found : item_at live_id k.lives m.to ≡ Some l = subst (λ ls. item_at live_id ls m.to ≡ Some l) (heard_lives u.input) live in
       let lives : LiveIs (Began bs0) l = all_found (LiveIs (Began bs0)) live_id k.lives m.to l (nodes_name_the_born s0 lawful0 u.node k may.1.up).0 found in
       above_of bs0 l lives m.from (child_parent bs0 l.me m.from (subst (λ b. IsChild (Began bs0) b m.from) (sym (item_is live_id k.lives m.to l found)) child))
@@ -124,26 +128,27 @@ module _ (t : History) (whole : IsLawfulRun t) (hs : List Happening) (u : Turn) 
   HasTales input = Tales (heard k input) input (draft_of p k input)
 
   message : (m : Msg) → u.input ≡ inputs.Message m → (kind : Kind) → m.kind ≡ kind → HasTales (inputs.Message m)
-  message m input (kinds.Exec call given advice s) kind =
+  message m input (kinds.Exec call task) kind =
       subst (λ x. Tales (heard k (inputs.Message m)) (inputs.Message m) (kind_turn p (heard k (inputs.Message m)) m.from m.to x (status_of (heard k (inputs.Message m)) m.to))) (sym kind)
-      (exec_tales (heard k (inputs.Message m)) m (subst (λ i. (b : BranchId) → item_at live_id (heard k i).lives b ≡ None → item_at work_id (heard k i).works b ≡ None) input heard_there) p call given advice s kind
-      (subst (λ i. (l : Live) → live_at (heard k i) m.to ≡ Some l → l.parent ≡ Some m.from) input (above m input call given advice s kind)))
+      (exec_tales (heard k (inputs.Message m)) m (subst (λ i. (b : BranchId) → item_at live_id (heard k i).lives b ≡ None → item_at work_id (heard k i).works b ≡ None) input heard_there) p call task kind
+      (subst (λ i. (l : Live) → live_at (heard k i) m.to ≡ Some l → l.parent ≡ Some m.from) input (above m input call task kind)))
   message m input (kinds.Reply call weight count a) kind =
       subst (λ x. Tales (heard k (inputs.Message m)) (inputs.Message m) (kind_turn p (heard k (inputs.Message m)) m.from m.to x (status_of (heard k (inputs.Message m)) m.to))) (sym kind)
       (reply_tales (heard k (inputs.Message m)) m (subst (λ i. (b : BranchId) → item_at live_id (heard k i).lives b ≡ None → item_at work_id (heard k i).works b ≡ None) input heard_there) call weight count a kind)
   message m input kind is =
       subst HasTales input (plain
-      (λ from to call given advice s came. (let both = (came_one (subst (λ i. Came i from to (kinds.Exec call given advice s)) input came)).2 in let it : kind ≡ kinds.Exec call given advice s = sym is ∙ both in absurd cc))
+      (λ from to call task came. (let both = (came_one (subst (λ i. Came i from to (kinds.Exec call task)) input came)).2 in let it : kind ≡ kinds.Exec call task = sym is ∙ both in absurd cc))
       (λ from to call weight count a came. (let both = (came_one (subst (λ i. Came i from to (kinds.Reply call weight count a)) input came)).2 in let it : kind ≡ kinds.Reply call weight count a = sym is ∙ both in absurd cc)))
 
   other_input : (input : Input) → u.input ≡ input → ((m : Msg) → input ≡ inputs.Message m → ⊥) → HasTales u.input
-  other_input input at never = plain (λ from to call given advice s came. absurd (never _ (sym at ∙ came.is))) (λ from to call weight count a came. absurd (never _ (sym at ∙ came.is)))
+  other_input input at never = plain (λ from to call task came. absurd (never _ (sym at ∙ came.is))) (λ from to call weight count a came. absurd (never _ (sym at ∙ came.is)))
 
   by_input : (input : Input) → u.input ≡ input → HasTales u.input
   by_input (inputs.Message m) at = subst HasTales (sym at) (message m at m.kind refl)
   by_input (inputs.Call n s) at = other_input _ at (λ m it. absurd cc)
   by_input (inputs.GiveUp n) at = other_input _ at (λ m it. absurd cc)
   by_input inputs.Reco at = other_input _ at (λ m it. absurd cc)
+  by_input inputs.Checkpoint at = other_input _ at (λ m it. absurd cc)
 
   pub turn_tales : Tales kk u.input (draft_of p k u.input)
   turn_tales = by_input u.input refl

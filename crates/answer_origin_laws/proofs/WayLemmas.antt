@@ -81,6 +81,7 @@ module _ (running : ℕ) where
   input_way t node (inputs.GiveUp session) = same_way t
   input_way t node (inputs.Message m) = same_way t
   input_way t node inputs.Reco = same_way t
+  input_way t node inputs.Checkpoint = same_way t
 
 -- ---- before the calls of a turn end
 

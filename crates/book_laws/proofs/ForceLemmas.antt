@@ -87,6 +87,7 @@ sealed_there (records.Forced c d given ∷ rs) b r is = (let rest = sealed_there
 sealed_there (records.Met c d mixed ∷ rs) b r is = (let rest = sealed_there rs b r is in (inr rest.0, rest.1))
 sealed_there (records.Forgot c ∷ rs) b r is = (let rest = sealed_there rs b r is in (inr rest.0, rest.1))
 sealed_there (records.Hidden c ∷ rs) b r is = (let rest = sealed_there rs b r is in (inr rest.0, rest.1))
+sealed_there (records.Image i ∷ rs) b r is = (let rest = sealed_there rs b r is in (inr rest.0, rest.1))
 
 -- ---- rows
 

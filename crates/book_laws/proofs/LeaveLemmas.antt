@@ -18,7 +18,7 @@ use Rattle.node_rules.specs.Prepare.{collecting, with_comment, with_prepare_sent
 use Rattle.node_rules.specs.Turn.{draft_of}
 use Rattle.node_rules.specs.Words.{item_at}
 use Rattle.node_rules.proofs.Steps as steps
-use Rattle.node_rules.proofs.Steps.{Step, IsOfRows, Collects, Collected, Acting, vote_kind}
+use Rattle.node_rules.proofs.Steps.{Step, Collects, Collected, Acting, vote_kind}
 use Rattle.run_rules.specs.Births.{Born, births_of}
 use Rattle.run_base_laws.specs.BirthLaws.{Began, IsChild, LiveIs, GoesSo}
 use Rattle.run_rules.specs.Data.{Turn, Happening}
@@ -31,6 +31,7 @@ use Rattle.run_base_laws.proofs.BirthRunLemmas.{nodes_name_the_born, messages_ar
 use Rattle.run_base_laws.proofs.BirthsStandLemmas.{came_so}
 use Rattle.run_base_laws.proofs.LawfulLemmas.{of_wrote, serves, turn_of_node}
 use Rattle.run_base_laws.proofs.OwnLemmas.{all_found}
+use Rattle.run_base_laws.proofs.BeginLemmas.{MayBegin, may_begin}
 use Rattle.run_branch_laws.proofs.QuietLemmas.{call_apart, came_apart}
 use Rattle.tree_laws.proofs.LearnLemmas.{DisksLead, run_leads}
 use Rattle.tree_laws.proofs.PrefixLemmas.{so_far, f_at, each_prefix}
@@ -84,11 +85,11 @@ site_on (steps.Is_site none is) = none
 
 module _ {k : NodeState} {input : Input} (above : FromAbove k.lives input) where
   prepared_on : {l : Live} {comment : List ℕ} {b : Bool} → Collects k input l comment b → b ≡ false → IsPrepare l.me input
-  prepared_on (steps.By_commit n given call has code is) off = absurd (cc off)
+  prepared_on (steps.By_commit n given call has code writer is) off = absurd (cc off)
   prepared_on {comment = comment} (steps.By_prepare from site_below came working) off = (from, site_below, comment, came)
 
   committed_on : {l : Live} {comment : List ℕ} {b : Bool} → item_at live_id k.lives l.me ≡ Some l → Collects k input l comment b → l.parent ≡ None → IsCommit input
-  committed_on live (steps.By_commit n given call has code is) none = (n, given, call)
+  committed_on live (steps.By_commit n given call has code writer is) none = (n, given, call)
   committed_on {l = l} {comment = comment} live (steps.By_prepare from site_below came working) none = (let up : l.parent ≡ Some from = above l live from (kinds.Prepare site_below comment) refl came in absurd (cc (none, up)))
 
   seals_so : {l : Live} {b : Bool} → Acting k input l b acts.Seal → (x : Live) × (item_at live_id k.lives l.me ≡ Some x) × SealsOn x input
@@ -110,8 +111,8 @@ module _ {k : NodeState} {input : Input} (above : FromAbove k.lives input) where
 
 -- ---- steps
 
--- on a statement with a table no branch leaves
-module _ (input : Input) (m : ℕ) (s : Stmt) (call : IsCall input m s) (rows : IsOfRows s) where
+-- on a statement that begins a transaction no branch leaves
+module _ (input : Input) (m : ℕ) (s : Stmt) (call : IsCall input m s) (begins : MayBegin s) where
   no_seal : (l : Live) → SealsOn l input → ⊥
   no_seal l (inl last) = came_apart m s last.3 call
   no_seal l (inr (inl prepare)) = came_apart m s prepare.0.3 call
@@ -120,7 +121,7 @@ module _ (input : Input) (m : ℕ) (s : Stmt) (call : IsCall input m s) (rows : 
   no_decision : (l : Live) → DecidesOn l input → ⊥
   no_decision l (inl point) = came_apart m s point.1 call
   no_decision l (inr (root, inl last)) = came_apart m s last.3 call
-  no_decision l (inr (root, inr commit)) = subst IsOfRows (call_apart m commit.0.0 s (stmts.Commit commit.0.1) call commit.0.2) rows
+  no_decision l (inr (root, inr commit)) = subst MayBegin (call_apart m commit.0.0 s (stmts.Commit commit.0.1) call commit.0.2) begins
 
   none_leave : (before lives : List Live) (w : Option RedoRecord) → IfSome w (LeavesOn lives input) → IfSome w (LeavesOn before input)
   none_leave before lives None on = tt
@@ -130,9 +131,11 @@ module _ (input : Input) (m : ℕ) (s : Stmt) (call : IsCall input m s) (rows : 
 
 module _ (p : Place) (input : Input) where
   leaves_on : {k : NodeState} {d : TurnDraft} → Step p input k d → FromAbove k.lives input → IfSome d.wrote (LeavesOn k.lives input)
-  leaves_on (steps.Begins {k = k} {d = d} m s call rows fit none step) above =
-      none_leave input m s call rows k.lives (begun_by p k m None).lives d.wrote (leaves_on step (λ l live from kind down came. absurd (came_apart m s came call)))
-  leaves_on (steps.Pends m l comment call has live code step) above = leaves_on step above
+  leaves_on (steps.Begins {k = k} {d = d} m s read_at call begins fit none step) above =
+      none_leave input m s call (may_begin begins) k.lives (begun_by p k m read_at None).lives d.wrote (leaves_on step (λ l live from kind down came. absurd (came_apart m s came call)))
+  leaves_on (steps.Counts_call m s call counts step) above = leaves_on step above
+  leaves_on (steps.Goes_back x step goes next) above = leaves_on next above
+  leaves_on (steps.Pends m l comment call has live code writer step) above = leaves_on step above
   leaves_on (steps.Lets_reads_go l comment site_below live begins step) above = leaves_on step above
   leaves_on (steps.Counts_ack s from kept came counts step) above = leaves_on step above
   leaves_on (steps.Acts l site_below acts.Seal why) above = seals_so above why

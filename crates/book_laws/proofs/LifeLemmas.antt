@@ -41,6 +41,7 @@ module _ (p : Place) (f : Facts) (tr after : Trail) (k : NodeState) (n : ℕ) (i
   writes (records.Forced b d given) due life = due tr after
   writes (records.Met b d mixed) due life = due tr after
   writes (records.Hidden b) due life = due tr after
+  writes (records.Image i) due life = due tr after
 
   wrote_all : (w : Option RedoRecord) → IfSome w (IsToBeWritten p f k n input) → IfSome w (IsWrittenByLife p f tr after k n input) → IfSome w (MayWrite p f tr after k n input)
   wrote_all None due life = tt
@@ -49,7 +50,7 @@ module _ (p : Place) (f : Facts) (tr after : Trail) (k : NodeState) (n : ℕ) (i
   module _ (rs : List RedoRecord) where
     says : (from to : BranchId) (kind : Kind) → TellsRecorded rs from kind → IsSaidByLife p f tr after rs input from to kind → MaySay p f tr after rs input from to kind
     says from to (kinds.Committed m) told life = told
-    says from to (kinds.Exec call given advice passed) told life = life
+    says from to (kinds.Exec call task) told life = life
     says from to kinds.Abort told life = life
     says from to kinds.ReadOnly told life = life
     says from to _ told life = tt

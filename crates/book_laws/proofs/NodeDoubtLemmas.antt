@@ -1,15 +1,14 @@
--- The branches in doubt of a node, with what they hold back, are those of its book, in their order.
+-- The branches in doubt of a node, with what they hold back, are those of its book.
 use Rattle.std.proofs.Common.{◌≡◌, ℕ, ◌==◌, ◌||◌, ◌&&◌, not, Bool, true, false, true≢false, if◌then◌else◌, List, [], ◌∷◌, ◌++◌, filter, flat_map, map, inl, inr, refl, sym, ap, subst, ◌∙◌, append-nil, append_assoc}
-use Rattle.std.specs.List.{AllByRecursion}
+use Rattle.std.specs.List.{AllByRecursion, list_any}
 use Rattle.std.proofs.lemmas.Bool.{eq-eqb}
-use Rattle.std.proofs.lemmas.List.{map-append}
 use Rattle.tran_ids.proofs.BranchLemmas.{equal_from_same, same_from_equal}
 use Rattle.agreement.proofs.BookTests.{not_true}
-use Rattle.node_rules.specs.Data.{Change, BranchId, RedoRecord, Doubt}
+use Rattle.node_rules.specs.Data.{Value, Change, BranchId, RedoRecord, Doubt}
 use Rattle.node_rules.specs.Data.records
 use Rattle.node_rules.specs.NodeState.{Stored, doubt_id}
 use Rattle.node_rules.specs.Records.{applied, nothing_stored, stored_by, doubt_over}
-use Rattle.node_rules.specs.Words.{same, same_text, drop_item}
+use Rattle.node_rules.specs.Words.{same, same_text, drop_item, put_by_branch}
 use Rattle.run_rules.specs.Data.{Entry}
 use Rattle.run_rules.specs.Data.entries
 use Rattle.run_rules.specs.Book.{is_sealed_of, is_end_of, stands, EachAgainst, changes_in, changes_of, doubt_in, in_doubt}
@@ -17,6 +16,8 @@ use Rattle.run_rules.specs.Entries.{entry_of, book_of}
 use Rattle.run_rules.specs.Facts.{records_at}
 use Rattle.run_rules.specs.Lawful.{facts_at}
 use Rattle.run_rules.specs.Runs.{keys_in_doubt}
+use Rattle.tran_ids.specs.Branch.{branch_below}
+use Rattle.run_rules.proofs.ListLemmas.{all_put}
 use Rattle.run_key_laws.proofs.KeyRunLemmas.{doubts_same}
 use Rattle.run_base_laws.proofs.StoredLemmas.{records_are_kept}
 use Rattle.run_key_laws.proofs.ToldLemmas.{changes_more}
@@ -36,10 +37,6 @@ all_of_one : {A : Type 0} (P Q : A → Type 0) (xs : List A) → ((x : A) → Is
 all_of_one P Q [] each all = tt
 all_of_one P Q (x ∷ xs) each all = (each x (inl refl) all.0, all_of_one P Q xs (λ y there is. each y (inr there) is) all.1)
 
-all_last : {A : Type 0} (P : A → Type 0) (xs : List A) (x : A) → AllByRecursion P xs → P x → AllByRecursion P (xs ++ x ∷ [])
-all_last P [] x all is = (is, tt)
-all_last P (y ∷ xs) x all is = (all.0, all_last P xs x all.1 is)
-
 all_filtered : {A : Type 0} (P : A → Type 0) (p : A → Bool) (xs : List A) → AllByRecursion P xs → AllByRecursion P (filter p xs)
 all_filtered P p [] all = tt
 all_filtered P p (x ∷ xs) all = by (p x) (all_filtered P p xs all.1)
@@ -48,10 +45,70 @@ all_filtered P p (x ∷ xs) all = by (p x) (all_filtered P p xs all.1)
     by true rest = (all.0, rest)
     by false rest = rest
 
-one_mapped : {A B : Type 0} (f : A → B) (a : A) (xs : List A) → IsOne a xs → IsOne (f a) (map f xs)
-one_mapped f a [] there = absurd there
-one_mapped f a (x ∷ xs) (inl here) = inl (ap f here)
-one_mapped f a (x ∷ xs) (inr there) = inr (one_mapped f a xs there)
+-- one that passes a test
+one_passes : (p : BranchId → Bool) (d : Doubt) (ds : List Doubt) → IsOne d ds → p d.branch ≡ true → list_any p (map doubt_id ds) ≡ true
+one_passes p d [] there is = absurd there
+one_passes p d (x ∷ xs) (inl here) is = (let passes : p x.branch ≡ true = ap (λ (y : Doubt). p y.branch) here ∙ is in ap (λ q. q || list_any p (map doubt_id xs)) passes)
+one_passes p d (x ∷ xs) (inr there) is = by (p x.branch) (one_passes p d xs there is)
+  where
+    by : (q : Bool) → list_any p (map doubt_id xs) ≡ true → (q || list_any p (map doubt_id xs)) ≡ true
+    by true rest = refl
+    by false rest = rest
+
+passing_one : (b : BranchId) (bs : List BranchId) → list_any (λ c. same c b) bs ≡ true → IsOne b bs
+passing_one b [] is = absurd cc
+passing_one b (c ∷ bs) is = by (same c b) refl is (passing_one b bs)
+  where
+    by : (q : Bool) → same c b ≡ q → (q || list_any (λ d. same d b) bs) ≡ true → (list_any (λ d. same d b) bs ≡ true → IsOne b bs) → IsOne b (c ∷ bs)
+    by true here is rest = inl (equal_from_same c b here)
+    by false here is rest = inr (rest is)
+
+-- by any test one is so, or none
+any_behind : {A : Type 0} (p : A → Bool) (xs ys : List A) → list_any p (xs ++ ys) ≡ (list_any p xs || list_any p ys)
+any_behind p [] ys = refl
+any_behind p (x ∷ xs) ys = by (p x) (any_behind p xs ys)
+  where
+    by : (q : Bool) → list_any p (xs ++ ys) ≡ (list_any p xs || list_any p ys) → (q || list_any p (xs ++ ys)) ≡ ((q || list_any p xs) || list_any p ys)
+    by true rest = refl
+    by false rest = rest
+
+any_flat : {A B : Type 0} (p : B → Bool) (g : A → List B) (xs : List A) → list_any p (flat_map g xs) ≡ list_any (λ x. list_any p (g x)) xs
+any_flat p g [] = refl
+any_flat p g (x ∷ xs) = any_behind p (g x) (flat_map g xs) ∙ ap (λ q. list_any p (g x) || q) (any_flat p g xs)
+
+any_filtered : {A : Type 0} (p q : A → Bool) (xs : List A) → list_any p (filter q xs) ≡ list_any (λ x. q x && p x) xs
+any_filtered p q [] = refl
+any_filtered p q (x ∷ xs) = by (q x) (any_filtered p q xs)
+  where
+    by : (here : Bool) → list_any p (filter q xs) ≡ list_any (λ y. q y && p y) xs → list_any p (if here then x ∷ filter q xs else filter q xs) ≡ ((here && p x) || list_any (λ y. q y && p y) xs)
+    by true rest = ap (λ r. p x || r) rest
+    by false rest = rest
+
+-- one placed by its id
+any_placed : (p : BranchId → Bool) (ds : List Doubt) (d : Doubt) → list_any p (map doubt_id (put_by_branch doubt_id ds d)) ≡ (list_any p (map doubt_id ds) || p d.branch)
+any_placed p [] d = by (p d.branch)
+  where
+    by : (q : Bool) → (q || false) ≡ q
+    by true = refl
+    by false = refl
+any_placed p (x ∷ xs) d = by (branch_below d.branch x.branch) (any_placed p xs d)
+  where
+    or_last : (a b c : Bool) → (a || (b || c)) ≡ ((b || c) || a)
+    or_last true true c = refl
+    or_last true false true = refl
+    or_last true false false = refl
+    or_last false true c = refl
+    or_last false false true = refl
+    or_last false false false = refl
+
+    or_next : (b c a : Bool) → (b || (c || a)) ≡ ((b || c) || a)
+    or_next true c a = refl
+    or_next false c a = refl
+
+    by : (above : Bool) → list_any p (map doubt_id (put_by_branch doubt_id xs d)) ≡ (list_any p (map doubt_id xs) || p d.branch)
+        → list_any p (map doubt_id (if above then d ∷ x ∷ xs else x ∷ put_by_branch doubt_id xs d)) ≡ ((p x.branch || list_any p (map doubt_id xs)) || p d.branch)
+    by true rest = or_last (p d.branch) (p x.branch) (list_any p (map doubt_id xs))
+    by false rest = ap (λ q. p x.branch || q) rest ∙ or_next (p x.branch) (list_any p (map doubt_id xs)) (p d.branch)
 
 map_filtered : {A B : Type 0} (f : A → B) (p : B → Bool) (xs : List A) → map f (filter (λ x. p (f x)) xs) ≡ filter p (map f xs)
 map_filtered f p [] = refl
@@ -111,14 +168,14 @@ module _ (n : ℕ) (es : List Entry) (e : Entry) where
 
 -- They are the branches in doubt by these entries, and hold back what the entries have of them.
 pub record DoubtsStand (n : ℕ) (es : List Entry) (ds : List Doubt) : Type 0 where
-  pub branches : map doubt_id ds ≡ in_doubt es n
+  pub branches : (p : BranchId → Bool) → list_any p (map doubt_id ds) ≡ list_any p (in_doubt es n)
   pub changes : AllByRecursion (λ d. d.changes ≡ changes_of es d.branch) ds
 
 module _ (n : ℕ) (es : List Entry) (ds : List Doubt) (now : DoubtsStand n es ds) where
   -- a branch in doubt is sealed by an entry
   in_doubt_sealed : (d : Doubt) → IsOne d ds → stands (is_sealed_of d.branch) es ≡ true
   in_doubt_sealed d there =
-      let opened : IsOpenIn es n d.branch = open_of es n d.branch (subst (IsOne d.branch) now.branches (one_mapped doubt_id d ds there)) in
+      let opened : IsOpenIn es n d.branch = open_of es n d.branch (passing_one d.branch (in_doubt es n) (sym (now.branches (λ c. same c d.branch)) ∙ one_passes (λ c. same c d.branch) d ds there (same_from_equal d.branch d.branch refl))) in
       seal_found es d.branch opened.global opened.changes opened.scn opened.sealed
 
   module _ (e : Entry) (alone : SealsAlone es e) where
@@ -142,25 +199,37 @@ module _ (n : ℕ) (es : List Entry) (ds : List Doubt) (now : DoubtsStand n es d
 
     -- an entry that seals and ends nobody
     stands_on : ((b : BranchId) → is_end_of b e ≡ false) → doubt_in longer n e ≡ [] → DoubtsStand n longer ds
-    stands_on endless none = record { branches = now.branches ∙ (sym (append-nil (in_doubt es n)) ∙ (ap (λ bs. in_doubt es n ++ bs) (sym none) ∙ sym (doubts_more n es e endless))); changes = changes_on }
+    stands_on endless none = record {
+      branches = λ p. now.branches p ∙ ap (list_any p) (sym (append-nil (in_doubt es n)) ∙ (ap (λ bs. in_doubt es n ++ bs) (sym none) ∙ sym (doubts_more n es e endless)));
+      changes = changes_on;
+    }
 
     -- one that ends a branch
     stands_less : (c : BranchId) → ((b : BranchId) → is_end_of b e ≡ same c b) → doubt_in longer n e ≡ [] → DoubtsStand n longer (drop_item doubt_id ds c)
     stands_less c ends none = record {
-      branches = map_filtered doubt_id (λ b. not (same b c)) ds ∙ (ap (filter (λ b. not (same b c))) now.branches ∙ sym (doubts_less n es e c ends none));
+      branches = λ p. ap (list_any p) (map_filtered doubt_id (λ b. not (same b c)) ds)
+          ∙ (any_filtered p (λ b. not (same b c)) (map doubt_id ds)
+          ∙ (now.branches (λ b. not (same b c) && p b) ∙ (sym (any_filtered p (λ b. not (same b c)) (in_doubt es n)) ∙ ap (list_any p) (sym (doubts_less n es e c ends none)))));
       changes = all_filtered (λ d. d.changes ≡ changes_of longer d.branch) (λ d. not (same d.branch c)) ds changes_on;
     }
 
   -- one that seals a branch
-  stands_sealed : (b g : BranchId) (cs : List Change) (scn : ℕ) (d : Doubt) → SealsAlone es (entries.Sealed b g cs scn) → b.node ≡ n → d.branch ≡ b → d.changes ≡ cs → DoubtsStand n (es ++ entries.Sealed b g cs scn ∷ []) (ds ++ d ∷ [])
+  stands_sealed : (b g : BranchId) (cs : List Change) (scn : ℕ) (d : Doubt) → SealsAlone es (entries.Sealed b g cs scn) → b.node ≡ n → d.branch ≡ b → d.changes ≡ cs → DoubtsStand n (es ++ entries.Sealed b g cs scn ∷ []) (put_by_branch doubt_id ds d)
   stands_sealed b g cs scn d alone here me changed = record {
-    branches = map-append doubt_id ds (d ∷ []) ∙ (ap (λ bs. bs ++ d.branch ∷ []) now.branches
-        ∙ (ap (λ z. in_doubt es n ++ z ∷ []) me
-        ∙ (ap (λ bs. in_doubt es n ++ bs) (sym own) ∙ sym (doubts_more n es (entries.Sealed b g cs scn) (λ z. refl)))));
-    changes = all_last (λ d. d.changes ≡ changes_of (es ++ entries.Sealed b g cs scn ∷ []) d.branch) ds d (changes_on (entries.Sealed b g cs scn) alone)
+    branches = λ p. any_placed p ds d
+        ∙ (ap (λ q. q || p d.branch) (now.branches p)
+        ∙ (ap (λ z. list_any p (in_doubt es n) || p z) me
+        ∙ (ap (λ q. list_any p (in_doubt es n) || q) (or_none (p b))
+        ∙ (sym (any_behind p (in_doubt es n) (b ∷ []))
+        ∙ ap (list_any p) (ap (λ bs. in_doubt es n ++ bs) (sym own) ∙ sym (doubts_more n es (entries.Sealed b g cs scn) (λ z. refl)))))));
+    changes = all_put (λ d. d.changes ≡ changes_of (es ++ entries.Sealed b g cs scn ∷ []) d.branch) doubt_id ds d (changes_on (entries.Sealed b g cs scn) alone)
         (changed ∙ (sym given ∙ ap (changes_of (es ++ entries.Sealed b g cs scn ∷ [])) (sym me)));
   }
     where
+      or_none : (q : Bool) → q ≡ (q || false)
+      or_none true = refl
+      or_none false = refl
+
       own : doubt_in (es ++ entries.Sealed b g cs scn ∷ []) n (entries.Sealed b g cs scn) ≡ b ∷ []
       own =
           ap (λ q. if q && not (stands (is_end_of b) (es ++ entries.Sealed b g cs scn ∷ [])) then b ∷ [] else []) (eq-eqb b.node n here)
@@ -217,7 +286,7 @@ module _ (n : ℕ) where
 
   none_stand : DoubtsStand n [] []
   unfolding in_doubt
-  none_stand = record { branches = refl; changes = tt }
+  none_stand = record { branches = λ p. refl; changes = tt }
 
   pub disk_stands : (rs : List RedoRecord) → EachAgainst (ComesHere n) [] (told rs) → DoubtsStand n (told rs) (stored_by nothing_stored rs).doubts
   disk_stands rs all = stands_by [] nothing_stored rs all none_stand
@@ -232,8 +301,14 @@ keys_of_branches es table (d ∷ ds) all =
     ∙ ap (λ ks. map (λ c. c.key) (filter (λ c. same_text c.table table) d.changes) ++ ks) (keys_of_branches es table ds all.1)
 
 -- by the entries of a node
-keys_by : (n : ℕ) (es : List Entry) (ds : List Doubt) (table : List ℕ) → DoubtsStand n es ds → keys_in_doubt es n table ≡ doubtful_keys ds table
-keys_by n es ds table stands = ap (λ bs. flat_map (λ b. map (λ c. c.key) (filter (λ c. same_text c.table table) (changes_of es b))) bs) (sym stands.branches) ∙ keys_of_branches es table ds stands.changes
+keys_by : (n : ℕ) (es : List Entry) (ds : List Doubt) (table : List ℕ) (test : Value → Bool) → DoubtsStand n es ds → list_any test (keys_in_doubt es n table) ≡ list_any test (doubtful_keys ds table)
+keys_by n es ds table test stands =
+    any_flat test keys (in_doubt es n)
+    ∙ (sym (stands.branches (λ b. list_any test (keys b)))
+    ∙ (sym (any_flat test keys (map doubt_id ds)) ∙ ap (list_any test) (keys_of_branches es table ds stands.changes)))
+  where
+    keys : BranchId → List Value
+    keys b = map (λ c. c.key) (filter (λ c. same_text c.table table) (changes_of es b))
 
 -- and by all of the book
 own_keys : (n : ℕ) (book : List Entry) (table : List ℕ) → keys_in_doubt (own_entries n book) n table ≡ keys_in_doubt book n table
@@ -243,11 +318,12 @@ own_keys n book table =
     (λ b there. ap (λ cs. map (λ c. c.key) (filter (λ c. same_text c.table table) cs)) (own_changes_of n book b (open_of book n b there).here))
 
 pub doubts_agree : DoubtsAgree
-doubts_agree t lawful n k up table =
+doubts_agree t lawful n k up table test =
     let rs : List RedoRecord = records_at (facts_at t) n in
     let disk : own_entries n (book_of t.trace) ≡ flat_map (entry_of n) rs = books_are_of_disks t lawful n in
     let comes : EachAgainst (ComesHere n) [] (flat_map (entry_of n) rs) = subst (EachAgainst (ComesHere n) []) disk (all_here n (book_of t.trace) (runs_agree t lawful).0) in
-    ap (λ book. keys_in_doubt book n table) (run_book t)
-    ∙ (sym (own_keys n (book_of t.trace) table)
-    ∙ (ap (λ es. keys_in_doubt es n table) disk
-    ∙ (keys_by n (flat_map (entry_of n) rs) (stored_by nothing_stored rs).doubts table (disk_stands n rs comes) ∙ ap (λ ds. doubtful_keys ds table) (sym (doubts_same rs k (records_are_kept t lawful n k up))))))
+    ap (λ book. list_any test (keys_in_doubt book n table)) (run_book t)
+    ∙ (ap (list_any test) (sym (own_keys n (book_of t.trace) table))
+    ∙ (ap (λ es. list_any test (keys_in_doubt es n table)) disk
+    ∙ (keys_by n (flat_map (entry_of n) rs) (stored_by nothing_stored rs).doubts table test (disk_stands n rs comes)
+    ∙ ap (λ ds. list_any test (doubtful_keys ds table)) (sym (doubts_same rs k (records_are_kept t lawful n k up))))))

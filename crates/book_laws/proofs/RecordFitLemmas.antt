@@ -13,7 +13,9 @@ use Rattle.node_rules.specs.Data.decisions
 use Rattle.node_rules.specs.Data.params
 use Rattle.node_rules.specs.Data.records
 use Rattle.commit_forget.specs.declared.next.Next.TheVariants as nexts
-use Rattle.node_rules.specs.NodeState.{NodeState, TurnDraft, Stored}
+use Rattle.node_rules.specs.NodeState.{NodeState, TurnDraft, Branch, Stored}
+use Rattle.node_rules.specs.Calls.{backs_to, goes_back}
+use Rattle.node_rules.specs.Marks.{node_back, branch_back, next_back}
 use Rattle.node_rules.specs.Records.{applied, nothing_stored, stored_by}
 use Rattle.node_rules.specs.Rows.{apply}
 use Rattle.node_rules.specs.Words.{same}
@@ -65,18 +67,29 @@ stay s (records.Forced b d given) cs all = all
 stay s (records.Met b d mixed) cs all = all
 stay s (records.Forgot b) cs all = all
 stay s (records.Hidden b) cs all = all
+stay s (records.Image i) cs all = all
+
+-- a branch that goes back writes nothing
+backs_unwritten : (P : RedoRecord → Type 0) (k : NodeState) (x : Branch) (step : ℕ) (o : Option ℕ) → IfSome (backs_to k x step o).wrote P
+backs_unwritten P k x step None = tt
+backs_unwritten P k x step (Some i) = tt
+
+back_unwritten : (P : RedoRecord → Type 0) (k : NodeState) (x : Branch) (step : ℕ) → IfSome (goes_back k x step).wrote P
+back_unwritten P k x step = backs_unwritten P (node_back k x step) (branch_back k x step) step (next_back (branch_back k x step).work step 1)
 
 -- the record of a step has changes of tables of its node
 step_changes : (p : Place) (input : Input) {k : NodeState} {d : TurnDraft} → Step p input k d → LiveChangesFit k.stored.durable.tables k.owns → IfSome d.wrote (HasChangesIn k.stored.durable.tables)
-step_changes p input (steps.Begins n s call rows fit none step) own = step_changes p input step own
-step_changes p input (steps.Pends n l given call has live code step) own = step_changes p input step own
+step_changes p input (steps.Begins n s read_at call begins fit none step) own = step_changes p input step own
+step_changes p input (steps.Counts_call n s call counts step) own = step_changes p input step own
+step_changes p input (steps.Goes_back {k = k} x step goes next) own = back_unwritten (HasChangesIn k.stored.durable.tables) k x step
+step_changes p input (steps.Pends n l given call has live code writer step) own = step_changes p input step own
 step_changes p input (steps.Lets_reads_go l comment site_below live begins step) own = step_changes p input step own
 step_changes p input (steps.Counts_ack s from kept came counts step) own = step_changes p input step own
 step_changes p input (steps.Acts {k = k} l site_below acts.Seal why) own = own l.me
 step_changes p input (steps.Acts {k = k} l site_below (acts.SealAndPass i) why) own = own l.me
 step_changes p input (steps.Acts {k = k} l site_below acts.Decide why) own = own l.me
 step_changes p input (steps.Does s from nexts.Rest kept why) own = tt
-step_changes p input (steps.Makes_record {k = k} n s r d call makes) own = made_so (HasChangesIn k.stored.durable.tables) (λ t. tt) (λ l. tt) (λ y. tt) (λ on. tt) makes
+step_changes p input (steps.Makes_record {k = k} n s r d call makes) own = made_so (HasChangesIn k.stored.durable.tables) (λ t. tt) (λ l. tt) (λ y. tt) (λ setting. tt) makes
 step_changes p input (steps.Gives_up_commit n b None gives has calls gone) own = tt
 step_changes p input _ own = tt
 

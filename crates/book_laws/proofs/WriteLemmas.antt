@@ -17,6 +17,7 @@ use Rattle.node_rules.specs.Data.stmts
 use Rattle.node_rules.specs.Data.inputs
 use Rattle.node_rules.specs.Words.{item_at}
 use Rattle.node_rules.specs.Ids.{local_text}
+use Rattle.node_rules.specs.Images.{image_at}
 use Rattle.node_rules.specs.Force.{is_sealed, may_purge, branch_to_force}
 use Rattle.redo_record.specs.Durable.{durable}
 use Rattle.node_rules.specs.NodeState.{NodeState, TurnDraft, kept_row_id}
@@ -131,6 +132,7 @@ module _ (p : Place) (f : Facts) (held : NodeState) (n : ℕ) (input : Input) wh
   made_so m call (steps.Makes_link l free) = λ before after. (m, call)
   made_so m call (steps.Makes_synonym y free) = λ before after. (m, call)
   made_so m call (steps.Sets_recovery on) = λ before after. (m, call)
+  made_so m call (steps.Sets_strength strength) = λ before after. (m, call)
 
   -- what is known of a row
   abbrev pub RowDue : KeptRow → Type 0
@@ -139,23 +141,30 @@ module _ (p : Place) (f : Facts) (held : NodeState) (n : ℕ) (input : Input) wh
   row_found : (k : NodeState) (s : KeptRow) → AllByRecursion RowDue k.stored.durable.kept → steps.IsKept k s → RowDue s
   row_found k s now kept = all_found RowDue kept_row_id k.stored.durable.kept s.me s now kept
 
-  step_due : {k : NodeState} {d : TurnDraft} → Step p input k d → AllByRecursion RowDue k.stored.durable.kept → ForcedSo k → IfSome d.wrote (IsToBeWritten p f held n input)
-  step_due (steps.Begins m s call rows fit none step) now forced = step_due step now forced
-  step_due (steps.Pends m l comment call has live code step) now forced = step_due step now forced
-  step_due (steps.Lets_reads_go l comment site_below live begins step) now forced = step_due step now forced
-  step_due (steps.Counts_ack {k = k} s from kept came counts step) now forced = step_due step (all_with RowDue kept_row_id k.stored.durable.kept (acked_by s from) now (row_found k s now kept)) (λ m x call. absurd (came_apart m x came call))
-  step_due (steps.Acts l site_below acts.Rest why) now forced = tt
-  step_due (steps.Does {k = k} s from (nexts.End d) kept why) now forced = λ before after. ends_so s (row_found k s now kept).0 why
-  step_due (steps.Does {k = k} s from (nexts.Meet d mixed) kept why) now forced = λ before after. meets_so s (row_found k s now kept).0 why
-  step_due (steps.Does {k = k} s from nexts.Forget kept why) now forced = forgets_so s (row_found k s now kept).0 why
-  step_due (steps.Makes_record m s r d call makes) now forced = made_so m call makes
-  step_due (steps.Forces_given m id c b call named) now forced = λ before after. (id, (forced m (stmts.CommitForce id (Some c)) call).1 id b named, (m, call))
-  step_due (steps.Forces_commit {k = k} m id b call named) now forced =
+  -- an image, where a checkpoint came
+  abbrev pub ImagedSo : NodeState → Type 0
+  ImagedSo k = input ≡ inputs.Checkpoint → image_at k.stored k.clock ≡ image_at held.stored held.clock
+
+  step_due : {k : NodeState} {d : TurnDraft} → Step p input k d → AllByRecursion RowDue k.stored.durable.kept → ForcedSo k → ImagedSo k → IfSome d.wrote (IsToBeWritten p f held n input)
+  step_due (steps.Begins m s read_at call begins fit none step) now forced imaged = step_due step now forced imaged
+  step_due (steps.Counts_call m s call counts step) now forced imaged = step_due step now forced imaged
+  step_due (steps.Goes_back x step goes next) now forced imaged = step_due next now forced imaged
+  step_due (steps.Pends m l comment call has live code writer step) now forced imaged = step_due step now forced imaged
+  step_due (steps.Lets_reads_go l comment site_below live begins step) now forced imaged = step_due step now forced imaged
+  step_due (steps.Counts_ack {k = k} s from kept came counts step) now forced imaged = step_due step (all_with RowDue kept_row_id k.stored.durable.kept (acked_by s from) now (row_found k s now kept)) (λ m x call. absurd (came_apart m x came call)) (λ is. absurd (cc (came.is, is)))
+  step_due (steps.Acts l site_below acts.Rest why) now forced imaged = tt
+  step_due (steps.Does {k = k} s from (nexts.End d) kept why) now forced imaged = λ before after. ends_so s (row_found k s now kept).0 why
+  step_due (steps.Does {k = k} s from (nexts.Meet d mixed) kept why) now forced imaged = λ before after. meets_so s (row_found k s now kept).0 why
+  step_due (steps.Does {k = k} s from nexts.Forget kept why) now forced imaged = forgets_so s (row_found k s now kept).0 why
+  step_due (steps.Makes_record m s r d call makes) now forced imaged = made_so m call makes
+  step_due (steps.Forces_given m id c b call named) now forced imaged = λ before after. (id, (forced m (stmts.CommitForce id (Some c)) call).1 id b named, (m, call))
+  step_due (steps.Forces_commit {k = k} m id b call named) now forced imaged =
       (let of = forced m (stmts.CommitForce id None) call in λ before after. (id, of.1 id b named, ((m, call), ap (λ c. c + 1) of.0)))
-  step_due (steps.Forces_rollback m id b call named) now forced = λ before after. (id, (forced m (stmts.RollbackForce id) call).1 id b named, ((m, call), refl))
-  step_due (steps.Hides {k = k} m mixed id s call found) now forced = (let shown = find_so RowDue (may_purge mixed id) k.stored.durable.kept s now found in λ before after. hides_so s shown.0.1 m mixed id call shown.1)
-  step_due (steps.Gives_up_commit m b None gives has calls live) now forced = tt
-  step_due _ now forced = tt
+  step_due (steps.Forces_rollback m id b call named) now forced imaged = λ before after. (id, (forced m (stmts.RollbackForce id) call).1 id b named, ((m, call), refl))
+  step_due (steps.Hides {k = k} m mixed id s call found) now forced imaged = (let shown = find_so RowDue (may_purge mixed id) k.stored.durable.kept s now found in λ before after. hides_so s shown.0.1 m mixed id call shown.1)
+  step_due (steps.Images {k = k} is) now forced imaged = λ before after. (is, imaged is)
+  step_due (steps.Gives_up_commit m b None gives has calls live) now forced imaged = tt
+  step_due _ now forced imaged = tt
 
 -- a node hears nothing in a client's call
 heard_call : (k : NodeState) (input : Input) (m : ℕ) (x : Stmt) → IsCall input m x → heard k input ≡ k
@@ -163,6 +172,11 @@ heard_call k (inputs.Call n s) m x call = refl
 heard_call k (inputs.Message y) m x call = absurd cc
 heard_call k (inputs.GiveUp n) m x call = absurd cc
 heard_call k inputs.Reco m x call = absurd cc
+heard_call k inputs.Checkpoint m x call = absurd cc
+
+-- nor where a checkpoint came
+heard_checkpoint : (k : NodeState) (input : Input) → input ≡ inputs.Checkpoint → heard k input ≡ k
+heard_checkpoint k input is = ap (heard k) is
 
 -- ---- every run
 
@@ -189,7 +203,8 @@ module _ (t : History) (before : List Happening) (lawful : IsLawfulRun (so_far t
       (step_due (place_at t.places u.node) (f_at t before) k u.node u.input (serves t.places (f_at t before) u k may).step
       (subst (λ (ks : List KeptRow). AllByRecursion (λ s. RowSo (f_at t before) s × IsKnownRow (durable rs).kept s) ks) (sym (heard_rows k u.input)) due)
       (λ m x call. subst (λ z. (z.clock ≡ k.clock) × ((id : List ℕ) (b : BranchId) → branch_to_force (place_at t.places u.node).names z.stored.durable.kept id ≡ Ok b → named_in_doubt (place_at t.places u.node).names (f_at t before) (place_at t.places u.node).number id ≡ b ∷ []))
-      (sym (heard_call k u.input m x call)) (refl, λ id b named. subst (λ i. named_in_doubt (place_at t.places u.node).names (f_at t before) i id ≡ b ∷ []) (sym number) (named_one (so_far t before) lawful u.node k may.up node.stored own (place_at t.places u.node).names id b named))))
+      (sym (heard_call k u.input m x call)) (refl, λ id b named. subst (λ i. named_in_doubt (place_at t.places u.node).names (f_at t before) i id ≡ b ∷ []) (sym number) (named_one (so_far t before) lawful u.node k may.up node.stored own (place_at t.places u.node).names id b named)))
+      (λ is. ap (λ (z : NodeState). image_at z.stored z.clock) (heard_checkpoint k u.input is)))
 
   due_on : (said : List Post) → DisksLead said (f_at t before) → (h : Happening) → MayHappen t.places t.commands (f_at t before) h → WritesDue t.places (f_at t before) h
   due_on said leads (happenings.Turn u) may = λ k up. turn_due said leads u k (turn_of_node t.places (f_at t before) u k t.commands may up)

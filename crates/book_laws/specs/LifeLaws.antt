@@ -27,7 +27,7 @@ IsWrittenByLife p f tr after k n input _ = Unit {0}
 
 -- Exec, Abort and ReadOnly
 abbrev pub IsSaidByLife : Place → Facts → Trail → Trail → List RedoRecord → Input → BranchId → BranchId → Kind → Type 0
-IsSaidByLife p f tr after rs input b to (kinds.Exec call given advice passed) = MaySay p f tr after rs input b to (kinds.Exec call given advice passed)
+IsSaidByLife p f tr after rs input b to (kinds.Exec call task) = MaySay p f tr after rs input b to (kinds.Exec call task)
 IsSaidByLife p f tr after rs input b to kinds.Abort = MaySay p f tr after rs input b to kinds.Abort
 IsSaidByLife p f tr after rs input b to kinds.ReadOnly = MaySay p f tr after rs input b to kinds.ReadOnly
 IsSaidByLife p f tr after rs input b to _ = Unit {0}

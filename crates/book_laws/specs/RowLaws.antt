@@ -1,7 +1,7 @@
 -- What the nodes store, by the book: at each key that is not in doubt a node has the row that the committed transactions of
 -- the book leave there, and its keys in doubt are those of the book. (Database Administrator's Guide, "Distributed
 -- Transactions Concepts": in-doubt transactions.)
-use Rattle.std.specs.Prelude.{◌≡◌, ℕ, false, List, filter, flat_map, map, Some}
+use Rattle.std.specs.Prelude.{◌≡◌, ℕ, Bool, false, List, filter, flat_map, map, Some}
 use Rattle.std.specs.List.{list_any}
 use Rattle.sql_eval.specs.Laws.{AreRowsOf}
 use Rattle.node_rules.specs.Data.{Value, Table, Doubt}
@@ -19,10 +19,11 @@ use Rattle.run_key_laws.specs.TableLaws.{table_in}
 abbrev pub doubtful_keys : List Doubt → List ℕ → List Value
 doubtful_keys ds table = flat_map (λ d. map (λ c. c.key) (filter (λ c. same_text c.table table) d.changes)) ds
 
--- the keys in doubt by the book are those of the branches in doubt of the node, in their order
+-- the keys in doubt by the book are those of the branches in doubt of the node, which stand in the order of their ids: any test
+-- holds of one of these keys where it holds of one of those
 abbrev pub DoubtsAgree : Type 0
-DoubtsAgree = (t : History) → IsLawfulRun t → (n : ℕ) (k : NodeState) → node_at (facts_at t) n ≡ Some k → (table : List ℕ)
-    → keys_in_doubt (facts_at t).book n table ≡ doubtful_keys k.stored.doubts table
+DoubtsAgree = (t : History) → IsLawfulRun t → (n : ℕ) (k : NodeState) → node_at (facts_at t) n ≡ Some k → (table : List ℕ) (test : Value → Bool)
+    → list_any test (keys_in_doubt (facts_at t).book n table) ≡ list_any test (doubtful_keys k.stored.doubts table)
 
 -- at each key that is not in doubt the commits of a node leave the same row in their own order, one entry of the book after
 -- the other, as in the order of the decisions, whether the node is up or down

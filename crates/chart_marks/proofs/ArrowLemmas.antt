@@ -6,7 +6,7 @@ use Rattle.chart_marks.specs.Data.happenings
 use Rattle.chart_marks.specs.Data.ends
 use Rattle.chart_marks.specs.declared.cursor.Cursor.{Cursor}
 use Rattle.chart_marks.specs.Rows.{start, row_of, cursor_after, along, rows_of}
-use Rattle.chart_marks.specs.Marks.{sent_arrow, with_sent, with_end, ended_at, ended, with_taken, arrows_after, is_flying, shown_from, arrows_of}
+use Rattle.chart_marks.specs.Marks.{sent_arrow, with_sent, with_end, ended_at, ended, with_taken, arrows_after, is_flying, shown_from}
 use Rattle.chart_marks.specs.Messages.{messages_of, messages_in, route_of, drawn_route, EachMessageHasItsArrow}
 
 -- ---- an end changes no route

@@ -97,6 +97,7 @@ note_kind_of_input (inputs.Call session s) = Some (note_kinds.Call session)
 note_kind_of_input (inputs.GiveUp session) = Some (note_kinds.GiveUp session)
 note_kind_of_input (inputs.Message m) = None
 note_kind_of_input inputs.Reco = Some note_kinds.Reco
+note_kind_of_input inputs.Checkpoint = None
 
 -- the decision reaches a prepared branch
 abbrev pub note_kind_ended : Decision → NoteKind

@@ -20,6 +20,7 @@ fn note_kind_taken(input: &Input) -> Option<NoteKind>
         Input::GiveUp { session } => Some(NoteKind::GiveUp(*session)),
         Input::Message(_) => None,
         Input::Reco => Some(NoteKind::Reco),
+        Input::Checkpoint => None,
     }
 }
 

@@ -16,8 +16,8 @@ use Rattle.run_rules.specs.Data.{Took, Turn, Happening}
 use Rattle.run_rules.specs.Data.happenings
 use Rattle.run_rules.specs.Facts.{Facts}
 use Rattle.run_rules.specs.Lawful.{Comes, History, IsLawfulRun}
-use Rattle.run_rules.specs.Runs.{is_of_rows}
-use Rattle.run_rules.specs.Trail.{acked_by, acks_after, begun_in_turn, child_begun, children_begun, next_root, root_seen, roots_begun, stopped_by, trail_after, trail_of}
+use Rattle.run_rules.specs.Runs.{begins_transaction}
+use Rattle.run_rules.specs.Trail.{acked_by, acks_after, begun_in_turn, child_begun, children_begun, next_root, root_seen, roots_begun, stopped_by, strength_at, trail_after, trail_of}
 use Rattle.run_rules.proofs.ListLemmas.{all_append}
 use Rattle.run_base_laws.proofs.OwnLemmas.{all_found}
 use Rattle.tree_laws.proofs.PrefixLemmas.{f_at}
@@ -65,21 +65,22 @@ abbrev HasNone : Seen → Type 0
 HasNone s = s.acks ≡ []
 
 roots_none : (f : Facts) (tr : Trail) (n : ℕ) (input : Input) → AllByRecursion HasNone (roots_begun f tr n input)
-roots_none f tr n (inputs.Call m (Some s)) = cond_both (is_of_rows s && is_none (root_at tr n m)) (root_seen (next_root f tr n m) ∷ []) [] (AllByRecursion HasNone) (λ begins. (refl, tt)) (λ other. tt)
+roots_none f tr n (inputs.Call m (Some s)) = cond_both (begins_transaction s && is_none (root_at tr n m)) (root_seen f n s (next_root f tr n m) ∷ []) [] (AllByRecursion HasNone) (λ begins. (refl, tt)) (λ other. tt)
 roots_none f tr n _ = tt
 
-child_none : (tr : Trail) (came sent : Kind) (m : Msg) → AllByRecursion HasNone (child_begun tr came sent m)
-child_none tr (kinds.Open edge root depth) (kinds.Opened number strength) m = cond_both (is_none (seen_at tr m.from)) (newly_seen m.from root (Some m.to) ∷ []) [] (AllByRecursion HasNone) (λ new. (refl, tt)) (λ old. tt)
-child_none tr _ _ m = tt
+child_none : (f : Facts) (tr : Trail) (came sent : Kind) (m : Msg) → AllByRecursion HasNone (child_begun f tr came sent m)
+child_none f tr (kinds.Open edge root depth read_at) (kinds.Opened number strength) m =
+    cond_both (is_none (seen_at tr m.from)) (newly_seen m.from root (Some m.to) (strength_at f m.from.node) read_at ∷ []) [] (AllByRecursion HasNone) (λ new. (refl, tt)) (λ old. tt)
+child_none f tr _ _ m = tt
 
-children_none : (tr : Trail) (input : Input) (sent : List Msg) → AllByRecursion HasNone (children_begun tr input sent)
-children_none tr (inputs.Message came) (m ∷ ms) = child_none tr came.kind m.kind m
-children_none tr _ _ = tt
+children_none : (f : Facts) (tr : Trail) (input : Input) (sent : List Msg) → AllByRecursion HasNone (children_begun f tr input sent)
+children_none f tr (inputs.Message came) (m ∷ ms) = child_none f tr came.kind m.kind m
+children_none f tr _ _ = tt
 
 begun_none : (f : Facts) (tr : Trail) (u : Turn) → AllByRecursion HasNone (begun_in_turn f tr u)
 begun_none f tr u =
-    cond_both u.cut [] (roots_begun f tr u.node u.input ++ children_begun tr u.input u.sent) (AllByRecursion HasNone) (λ cut. tt)
-    (λ whole. all_append HasNone (roots_begun f tr u.node u.input) (children_begun tr u.input u.sent) (roots_none f tr u.node u.input) (children_none tr u.input u.sent))
+    cond_both u.cut [] (roots_begun f tr u.node u.input ++ children_begun f tr u.input u.sent) (AllByRecursion HasNone) (λ cut. tt)
+    (λ whole. all_append HasNone (roots_begun f tr u.node u.input) (children_begun f tr u.input u.sent) (roots_none f tr u.node u.input) (children_none f tr u.input u.sent))
 
 -- ---- a turn
 

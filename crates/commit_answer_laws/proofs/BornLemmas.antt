@@ -9,12 +9,12 @@ use Rattle.node_rules.specs.Words.{numbered}
 use Rattle.node_rules.specs.Calls.{next_child, is_opening}
 use Rattle.node_rules.specs.NodeState.{NodeState}
 use Rattle.node_rules.specs.Sessions.{session_at, fresh_session}
-use Rattle.run_rules.specs.Births.{Born, births_by_open, births_by_kind, births_by, births_at, births_after, births_from, births_of, roots_by}
+use Rattle.run_rules.specs.Births.{Born, births_by_open, births_by_kind, births_by, births_at, births_after, births_from, births_of, read_at_by, roots_by}
 use Rattle.run_rules.specs.Data.{Happening, Command}
 use Rattle.run_rules.specs.Data.happenings
 use Rattle.run_rules.specs.Facts.{Facts, first_facts, place_at, node_at, facts_after}
 use Rattle.run_rules.specs.Lawful.{History}
-use Rattle.run_rules.specs.Runs.{is_of_rows}
+use Rattle.run_rules.specs.Runs.{begins_transaction}
 use Rattle.run_rules.proofs.AtNodeLemmas.{range_of}
 use Rattle.run_rules.proofs.ListLemmas.{all_append}
 
@@ -24,28 +24,29 @@ High x = x.parent ≢ None → 65 ≤ x.me.session
 abbrev AllHigh : List Born → Type 0
 AllHigh bs = AllByRecursion High bs
 
-roots_high : (p : Place) (k : NodeState) (n : ℕ) (o : Option BranchId) → AllHigh (roots_by p k n o)
-roots_high p k n None = (λ some. absurd (some refl), tt)
-roots_high p k n (Some b) = tt
+roots_high : (p : Place) (k : NodeState) (n : ℕ) (read_at : Option ℕ) (o : Option BranchId) → AllHigh (roots_by p k n read_at o)
+roots_high p k n read_at None = (λ some. absurd (some refl), tt)
+roots_high p k n read_at (Some b) = tt
 
 either_high : (q : Bool) (xs : List Born) → AllHigh xs → AllHigh (if q then xs else [])
 either_high true xs all = all
 either_high false xs all = tt
 
-open_high : (p : Place) (k : NodeState) (parent : BranchId) (edge : ℕ) (root : BranchId) (depth : ℕ) (o : Option Opening) → AllHigh (births_by_open p k parent edge root depth o)
-open_high p k parent edge root depth None = (λ some. (let at : (next_child p k).session ≡ 65 + length k.opens = refl in omega (arith, at)), tt)
-open_high p k parent edge root depth (Some o) = tt
+open_high : (p : Place) (k : NodeState) (parent : BranchId) (edge : ℕ) (root : BranchId) (depth : ℕ) (read_at : Option ℕ) (o : Option Opening) → AllHigh (births_by_open p k parent edge root depth read_at o)
+open_high p k parent edge root depth read_at None = (λ some. (let at : (next_child p k).session ≡ 65 + length k.opens = refl in omega (arith, at)), tt)
+open_high p k parent edge root depth read_at (Some o) = tt
 
 kind_high : (p : Place) (k : NodeState) (from : BranchId) (kind : Kind) → AllHigh (births_by_kind p k from kind)
-kind_high p k from (kinds.Open edge root depth) = open_high p k from edge root depth (find (is_opening from edge) k.opens)
+kind_high p k from (kinds.Open edge root depth read_at) = open_high p k from edge root depth read_at (find (is_opening from edge) k.opens)
 kind_high p k from _ = tt
 
 by_high : (p : Place) (k : NodeState) (input : Input) → AllHigh (births_by p k input)
-by_high p k (inputs.Call n (Some s)) = either_high (is_of_rows s) _ (roots_high p k n (session_at k.sessions n).root)
+by_high p k (inputs.Call n (Some s)) = either_high (begins_transaction s) _ (roots_high p k n (read_at_by k.clock s) (session_at k.sessions n).root)
 by_high p k (inputs.Call n None) = tt
 by_high p k (inputs.Message m) = kind_high p k m.from m.kind
 by_high p k (inputs.GiveUp n) = tt
 by_high p k inputs.Reco = tt
+by_high p k inputs.Checkpoint = tt
 
 at_high : (p : Place) (input : Input) (o : Option NodeState) → AllHigh (births_at p input o)
 at_high p input None = tt

@@ -196,8 +196,8 @@ module _ (t : History) (whole : IsLawfulRun t) (g : BranchId) (a : Answer) (it :
             m,
             record {
               seen = subst (λ c. seen_at tr c ≡ Some s) me seen.1;
-              came = abort_came u.node u.input u.sent z s s_me seen.2 from sb answers;
-              first = abort_first u.node u.input u.sent z s s_me seen.2 from sb answers;
+              came = abort_came u.node None u.input u.sent z s s_me seen.2 from sb answers;
+              first = abort_first u.node None u.input u.sent z s s_me seen.2 from sb answers;
             },
             refl,
           )
@@ -323,8 +323,8 @@ module _ (t : History) (whole : IsLawfulRun t) (g : BranchId) (a : Answer) (it :
 
   ends_for : StepEnd k u.input o.after o.wrote o.sent g a → Cause
   ends_for (Has_decided r z live is its none complete) = decided r z live is its none complete
-  ends_for (Has_no_site leaves top ends complete) =
-      causes.None_had_changes (agrees_by leaves.live leaves.there top ends) (plan_there t whole hs u it.later it.is k up g leaves.live (me leaves.live leaves.there) leaves.there top ends) complete
+  ends_for (Has_no_site leaves top ends writes complete) =
+      causes.None_had_changes (agrees_by leaves.live leaves.there top ends) (plan_there t whole hs u it.later it.is k up g leaves.live (me leaves.live leaves.there) leaves.there top ends writes) complete
   ends_for (Has_forgotten s row is complete) = forgotten s row is complete
   ends_for (Hears_abort from sb came leaves answers refused) = causes.A_child_aborted (aborted leaves.live leaves.there (top_of leaves.live leaves.there) from sb answers) refused
   ends_for (Is_given_up given leaves refused) = causes.Given_up_early (none_in_book s0 lawful g (alive leaves.live leaves.there)) given refused

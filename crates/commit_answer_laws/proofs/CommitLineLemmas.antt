@@ -2,16 +2,16 @@
 use Rattle.std.proofs.Common.{◌≡◌, ℕ, zero, suc, ◌+◌, ◌<◌, ◌≤◌, List, [], ◌∷◌, ◌++◌, length, IfSome, option_map, Option, Some, None, inl, inr, refl, sym, ap, subst, ◌∙◌, arith}
 use Rattle.std.specs.Prelude.{◌⊎◌, true, slice_get, take}
 use Rattle.tran_ids.proofs.ListedLemmas.{item_is}
-use Rattle.node_rules.specs.Data.{Answer, BranchId, Stmt}
+use Rattle.node_rules.specs.Data.{Answer, BranchId, Live, Stmt}
 use Rattle.node_rules.specs.Data.inputs
 use Rattle.node_rules.specs.Data.stmts
 use Rattle.node_rules.specs.declared.session.Finished.{Finished}
 use Rattle.node_rules.specs.declared.session.PendingCall.TheVariants as pending
 use Rattle.node_rules.specs.Client.{commit_call, root_at as kept_root, root_by}
-use Rattle.node_rules.specs.NodeState.{NodeState, TurnOutput, with_work}
+use Rattle.node_rules.specs.NodeState.{NodeState, TurnOutput, live_at, live_id, with_work}
 use Rattle.node_rules.specs.Sessions.{session_at, commit_complete, tran_refusal}
 use Rattle.node_rules.specs.Turn.{turn_of}
-use Rattle.run_rules.specs.Branches.{Seen, Trail, root_at, seen_id}
+use Rattle.run_rules.specs.Branches.{Seen, Trail, read_at_at, read_at_of, root_at, seen_at, seen_id}
 use Rattle.run_rules.specs.Commands.{commits_first}
 use Rattle.run_rules.specs.Data.{Turn, Happening}
 use Rattle.run_rules.specs.Data.commands
@@ -23,7 +23,7 @@ use Rattle.run_rules.specs.Scripts.{IsTheRunOf}
 use Rattle.run_rules.specs.Trail.{trail_after}
 use Rattle.run_claims.specs.Places.{past_upto}
 use Rattle.run_claims.specs.ReportedDone.{ComesIn, CameTo}
-use Rattle.run_base_laws.proofs.RootLemmas.{SessionsFit}
+use Rattle.run_base_laws.proofs.RootLemmas.{SessionsFit, root_alone}
 use Rattle.run_base_laws.proofs.RestRunLemmas.{NodeRests, run_roots}
 use Rattle.run_ready_laws.proofs.RunLawfulLemmas.{the_run_is_lawful}
 use Rattle.tree_laws.proofs.PrefixLemmas.{so_far, f_at}
@@ -40,10 +40,12 @@ use Rattle.answer_origin_laws.proofs.PartLemmas.{split_at}
 use Rattle.answer_origin_laws.proofs.ReplyRunLemmas.{prefix}
 use Rattle.answer_origin_laws.proofs.ToldTurnLemmas.{lines_come_from_turns}
 use Rattle.answer_origin_laws.proofs.UptoLemmas.{facts_there, may_at}
-use Rattle.commit_answer_laws.specs.CommitEndLaws.{EndsCall, CommitPends}
-use Rattle.commit_answer_laws.specs.CommitCauses.{AnswerCause, Has_none, Needs_rollback, Ends_for}
-use Rattle.commit_answer_laws.specs.CommitLines.{IsTrueOf, Had_none, Is_decided, Had_no_changes, Is_rolled_back, Is_committed, Is_in_doubt, Must_roll_back, AnswersTruly, CommitsAnswerTruly, transaction_at}
+use Rattle.commit_answer_laws.specs.CommitEndLaws.{EndsCall, CommitPends, LeavesUnrecorded}
+use Rattle.commit_answer_laws.specs.CommitCauses.{AnswerCause, Has_none, Needs_rollback, Is_read_only, Ends_for}
+use Rattle.commit_answer_laws.specs.CommitLines.{IsTrueOf, Had_none, Is_decided, Had_no_changes, Was_read_only, Is_rolled_back, Is_committed, Is_in_doubt, Must_roll_back, AnswersTruly, CommitsAnswerTruly, transaction_at}
 use Rattle.commit_answer_laws.proofs.CauseLemmas.{its_cause}
+use Rattle.commit_answer_laws.specs.UndecidedLaws.{IsUndecided}
+use Rattle.commit_answer_laws.proofs.DroppedLemmas as drops
 use Rattle.commit_answer_laws.proofs.DownLineLemmas.{down_lines_are_true, stopped_calls_are_told}
 use Rattle.commit_answer_laws.proofs.EndRunLemmas.{ends_for}
 use Rattle.commit_answer_laws.proofs.EndStepLemmas as ends
@@ -71,7 +73,7 @@ module _ (t : History) (whole : IsLawfulRun t) (g : BranchId) (a : Answer) (it :
       by : StepEnd it.kept it.turn.input (turn_of (place_at t.places it.turn.node) it.kept it.turn.input).after (turn_of (place_at t.places it.turn.node) it.kept it.turn.input).wrote (turn_of (place_at t.places it.turn.node) it.kept it.turn.input).sent g a
           → IsTrueOf t (Some g) a
       by (ends.Has_decided r l live wrote me none is) = complete_is is
-      by (ends.Has_no_site leaves top found is) = complete_is is
+      by (ends.Has_no_site leaves top found writes is) = complete_is is
       by (ends.Has_forgotten s row wrote is) = complete_is is
       by (ends.Hears_abort from sb came leaves answers is) = refused_is is
       by (ends.Is_given_up given leaves is) = refused_is is
@@ -230,6 +232,27 @@ module _ (t : History) (run : IsTheRunOf t) (command node session : ℕ) (commen
   ends_so : (g : BranchId) → (session_at k.sessions e.session).root ≡ Some g → StepEnd k e.turn.input o.after o.wrote o.sent g a → SaysOf (Some g)
   ends_so g root end = (end_is_true t whole g a (ends_as g root end), Ends_for g refl (its_cause t whole g a (ends_as g root end)))
 
+  -- the turn of its root
+  abbrev root_turn : (g : BranchId) → (session_at k.sessions e.session).root ≡ Some g → drops.RootTurn t g
+  root_turn g root = record {
+    before = split.0;
+    turn = e.turn;
+    later = split.1;
+    is = split.2;
+    uncut = e.uncut;
+    kept = k;
+    up = up;
+    root = subst (λ i. (session_at k.sessions i).root ≡ Some g) (sym (rests.roots.each e.session g root)) root;
+  }
+
+  -- one that is READ ONLY
+  reads_so : (g : BranchId) (scn : ℕ) → (session_at k.sessions e.session).root ≡ Some g → (l : Live) → live_at k g ≡ Some l → l.read_at ≡ Some scn → IsUndecided t g → a ≡ commit_complete → SaysOf (Some g)
+  reads_so g scn root l live reads none is =
+      let me : l.me ≡ g = item_is live_id k.lives g l live in
+      let seen = (at_moment t (λ places f tr h. Sees f tr) (all_is_seen t whole) split.0 (happenings.Turn e.turn) split.1 split.2).tops e.turn.node k up l (subst (λ c. live_at k c ≡ Some l) (sym me) live) (root_alone k rests e.session g root l live) in
+      let at : read_at_at (tr_at t split.0) g ≡ Some scn = ap read_at_of (subst (λ c. seen_at (tr_at t split.0) c ≡ Some seen.0) me seen.1) ∙ (seen.2.read_at ∙ reads) in
+      (Was_read_only g e.ended scn refl is (ap (λ xs. read_at_at (tr_at t xs) g) upto ∙ at) none, Is_read_only g scn refl at is)
+
   -- later than it came
   says_later : came.moment < e.ended → Says
   says_later later =
@@ -270,6 +293,9 @@ module _ (t : History) (run : IsTheRunOf t) (command node session : ℕ) (commen
     unfolding turn_of
     by_end (own_ends.Has_no_root none is) = (Had_none (no_live_root none) is, Has_none (no_live_root none) is)
     by_end (own_ends.Must_roll_back g code root is) = (Must_roll_back g code (root_is ∙ root) is, Needs_rollback g code (root_is ∙ root) is)
+    by_end (own_ends.Ends_reading g scn root leaves reads is) =
+        let left : LeavesUnrecorded k o.after o.wrote o.sent g = subst (λ i. LeavesUnrecorded k (turn_of (place_at t.places e.turn.node) k i).after (turn_of (place_at t.places e.turn.node) k i).wrote (turn_of (place_at t.places e.turn.node) k i).sent g) (sym call) leaves in
+        subst SaysOf (sym (root_is ∙ root)) (reads_so g scn root leaves.live leaves.there reads (drops.undecided_book t whole g (root_turn g root) (drops.drop_undecided t whole g (root_turn g root) left)) is)
     by_end (own_ends.Ends_at_once g root end) =
         subst SaysOf (sym (root_is ∙ root))
         (ends_so g root (subst (λ i. StepEnd k i (turn_of (place_at t.places e.turn.node) k i).after (turn_of (place_at t.places e.turn.node) k i).wrote (turn_of (place_at t.places e.turn.node) k i).sent g a) (sym call) end))

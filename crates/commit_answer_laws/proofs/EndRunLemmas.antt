@@ -37,6 +37,7 @@ branch_heard k (inputs.Message m) b = refl
 branch_heard k (inputs.Call n s) b = refl
 branch_heard k (inputs.GiveUp n) b = refl
 branch_heard k inputs.Reco b = refl
+branch_heard k inputs.Checkpoint b = refl
 
 given_heard : (k : NodeState) (input : Input) (n : ℕ) → input ≡ inputs.GiveUp n → heard k input ≡ k
 given_heard k input n is = ap (heard k) is

@@ -16,6 +16,7 @@ use Rattle.node_rules.specs.Data.decisions
 use Rattle.node_rules.specs.Data.inputs
 use Rattle.node_rules.specs.Data.kinds
 use Rattle.node_rules.specs.Data.stmts
+use Rattle.node_rules.specs.Data.tasks
 use Rattle.node_rules.specs.Data.votes
 use Rattle.node_rules.specs.Data.records
 use Rattle.node_rules.specs.declared.session.Finished.{Finished}
@@ -24,6 +25,7 @@ use Rattle.node_rules.specs.declared.session.PendingCall.TheVariants as pending
 use Rattle.node_rules.specs.Words.{same, set_numbered, item_at, drop_item}
 use Rattle.node_rules.specs.Calls.{answer_ends, hears_reply, reply_going, reply_of}
 use Rattle.node_rules.specs.Client.{new_root, begun_by, given_up_code, commit_given_up}
+use Rattle.node_rules.specs.Marks.{node_back}
 use Rattle.node_rules.specs.Commit.{decision_answers, acked_by}
 use Rattle.node_rules.specs.Inputs.{Came}
 use Rattle.node_rules.specs.NodeState.{NodeState, Branch, TurnDraft, live_id, live_at, branch_at, kept_row_id, kept_row_at, with_kept_row}
@@ -33,12 +35,14 @@ use Rattle.node_rules.specs.Statement.{ran, after_run}
 use Rattle.node_rules.proofs.StandLemmas.{live_so}
 use Rattle.node_rules.proofs.StepLemmas.{branch_found, IsLive, acting_live}
 use Rattle.node_rules.proofs.Steps as steps
-use Rattle.node_rules.proofs.Steps.{Step, Answers, Asked, Acting, Collects, Collected}
+use Rattle.node_rules.proofs.Steps.{Step, Answers, Asked, Acting, Calls_back, Collects, Collected, Goes_to}
 use Rattle.run_branch_laws.proofs.QuietLemmas.{NoRows, acting_apart, came_apart}
-use Rattle.run_base_laws.proofs.RootLemmas.{SessionsFit, session_or_before, begun_so, pends_so}
+use Rattle.run_base_laws.proofs.BeginLemmas.{may_begin}
+use Rattle.run_base_laws.proofs.RootLemmas.{SessionsFit, session_or_before, begun_so, counted_so, back_so, counted_session, pends_so}
 use Rattle.answer_origin_laws.proofs.ExecLemmas.{ExecsBelow}
 use Rattle.tree_laws.proofs.TopStepLemmas.{Finishes, On_answer}
 use Rattle.run_claims.specs.Knowledge.{neighbors_of}
+use Rattle.tree_trail_laws.proofs.NoSiteLemmas.{Writes}
 use Rattle.commit_answer_laws.specs.CommitEndLaws as laws
 use Rattle.commit_answer_laws.specs.CommitEndLaws.{row_knows, LeavesUnrecorded, CommitEnd, EndsCall}
 use Rattle.commit_answer_laws.proofs.AloneLemmas.{alone_names_none}
@@ -52,7 +56,7 @@ neither false q r none rest = rest
 -- session tree has changes.
 pub data StepEnd (k : NodeState) (input : Input) (after : NodeState) (wrote : Option RedoRecord) (sent : List Msg) (g : BranchId) (a : Answer) : Type 0 where
   Has_decided : (r : Decided) (l : Live) → live_at k g ≡ Some l → wrote ≡ Some (records.Decided r) → r.me ≡ g → neighbors_of r ≡ [] → a ≡ commit_complete → StepEnd k input after wrote sent g a
-  Has_no_site : (leaves : LeavesUnrecorded k after wrote sent g) → leaves.live.parent ≡ None → Finishes input g leaves.live k.sessions → a ≡ commit_complete → StepEnd k input after wrote sent g a
+  Has_no_site : (leaves : LeavesUnrecorded k after wrote sent g) → leaves.live.parent ≡ None → Finishes input g leaves.live k.sessions → Writes input leaves.live → a ≡ commit_complete → StepEnd k input after wrote sent g a
   Has_forgotten : (s : KeptRow) → kept_row_at k g ≡ Some s → wrote ≡ Some (records.Forgot g) → a ≡ commit_complete → StepEnd k input after wrote sent g a
   Hears_abort : (from : BranchId) (sb : Bool) → Came input from g kinds.Abort → (leaves : LeavesUnrecorded k after wrote sent g) → Answers input leaves.live from votes.Abort sb → a ≡ tran_refusal 2050 g → StepEnd k input after wrote sent g a
   Is_given_up : input ≡ inputs.GiveUp g.session → LeavesUnrecorded k after wrote sent g → a ≡ tran_refusal 2050 g → StepEnd k input after wrote sent g a
@@ -65,7 +69,7 @@ pub data StepEnd (k : NodeState) (input : Input) (after : NodeState) (wrote : Op
 -- the reason that the law gives
 pub as_end : {k : NodeState} {input : Input} {after : NodeState} {wrote : Option RedoRecord} {sent : List Msg} {g : BranchId} {a : Answer} → StepEnd k input after wrote sent g a → CommitEnd k input after wrote sent g a
 as_end (Has_decided r l live wrote me none is) = laws.Has_decided r l live wrote me is
-as_end (Has_no_site leaves top ends is) = laws.Has_no_site leaves is
+as_end (Has_no_site leaves top ends writes is) = laws.Has_no_site leaves is
 as_end (Has_forgotten s row wrote is) = laws.Has_forgotten s row wrote is
 as_end (Hears_abort from sb came leaves answers is) = laws.Hears_abort from came leaves is
 as_end (Is_given_up given leaves is) = laws.Is_given_up given leaves is
@@ -162,8 +166,18 @@ module _ (k0 : NodeState) (input : Input) (g : BranchId) (a : Answer) where
   -- a client's call is of another session
   module _ (other : (n : ℕ) (s : Option Stmt) → input ≡ inputs.Call n s → n ≢ g.session) where
     asked_not : {k : NodeState} {x : Branch} {s : Stmt} {given : ℕ} → Known k → Asked k input x s given → x.live.parent ≡ None → x.live.me.session ≡ g.session → ⊥
-    asked_not now (steps.By_call n x s call rows has code live) top at = other n (Some s) call (sym (now.fit.roots.each n x.live.me has) ∙ at)
-    asked_not {k = k} now (steps.By_exec x from call given advice s came live runs) top at = now.below from x.live.me call given advice s came x.live (live_so k x.live.me x live) top
+    asked_not now (steps.By_call n x s call rows has code live may) top at = other n (Some s) call (sym (now.fit.roots.each n x.live.me has) ∙ at)
+    asked_not {k = k} now (steps.By_exec x from call given advice s came live runs) top at = now.below from x.live.me call (tasks.Run given advice s) came x.live (live_so k x.live.me x live) top
+
+    -- nor does the root of that session go back
+    gone_not : (k : NodeState) {x : Branch} {step : ℕ} → Known (node_back k x step) → Goes_to k input x step → x.live.parent ≡ None → x.live.me.session ≡ g.session → ⊥
+    gone_not k now (steps.By_rollback_to n x name step call has code live set) top at = other n (Some (stmts.RollbackTo name)) call (sym (now.fit.roots.each n x.live.me has) ∙ at)
+    gone_not k now (steps.By_back x from call keep came live runs) top at = now.below from x.live.me call (tasks.GoBack keep) came x.live (live_so k x.live.me x live) top
+
+    back_not : {k : NodeState} {x : Branch} {step from : ℕ} → Known k → Calls_back k input x step from → x.live.parent ≡ None → x.live.me.session ≡ g.session → ⊥
+    back_not now (steps.Has_gone before x step goes is) top at = gone_not before (subst Known is now) goes top at
+    back_not now (steps.Has_heard x weight count b i e h step answered going errand plain) top at =
+        (let none = now.replies x answered.from answered.call weight count b answered.came answered.live top at in absurd (cc (none, going)))
 
     -- a live root that is near is live before
     live_near : (k : NodeState) → Near k → (b : BranchId) (l : Live) → live_at k b ≡ Some l → live_at k0 b ≡ Some l
@@ -207,13 +221,13 @@ module _ (k0 : NodeState) (input : Input) (g : BranchId) (a : Answer) where
 
       -- a root ends without a site, on the last answer of its children
       finish_ends : {l : Live} {below : Bool} → Near k → Acting k input l below acts.Finish → l.me ≡ g → a ≡ commit_complete → End (act_turn k l below acts.Finish)
-      finish_ends near (steps.Has_no_children y comment below _ found (steps.By_commit n given call has code is) none collected) me complete =
+      finish_ends near (steps.Has_no_children y comment below _ found (steps.By_commit n given call has code writer is) none collected) me complete =
           absurd (other n (Some (stmts.Commit given)) call (sym (now.fit.roots.each n y.me has) ∙ ap (λ (z : BranchId). z.session) me))
       finish_ends near (steps.Has_no_children y comment below _ found (steps.By_prepare from _ came working) none collected) me complete =
           absurd (now.prepared from y.me below comment came y found (no_site collected).0)
       finish_ends near (steps.Hears_last y from v below _ found answers more all collected) me complete =
           let so = no_site collected in
-          Has_no_site (leaves_by k near (voted y from v) me (y, found) (act_turn k (voted y from v) below acts.Finish).after refl [] refl) so.0 (On_answer from v below answers more all so.1) complete
+          Has_no_site (leaves_by k near (voted y from v) me (y, found) (act_turn k (voted y from v) below acts.Finish).after refl [] refl) so.0 (On_answer from v below answers more all so.1) (λ n given call. absurd (came_apart n (stmts.Commit given) answers.came call)) complete
       finish_ends near (steps.At_point y from _ found came is pointed) me complete = elim pointed [ ]
 
       -- on a child's Abort a root rolls back
@@ -275,14 +289,18 @@ module _ (k0 : NodeState) (input : Input) (g : BranchId) (a : Answer) where
     came_not_given came gives = (let is = came.is in absurd cc)
 
     collects_not_given : {k : NodeState} {l : Live} {comment : List ℕ} {below : Bool} {m : ℕ} → Collects k input l comment below → input ≡ inputs.GiveUp m → ⊥
-    collects_not_given (steps.By_commit n given call has code is) gives = call_not_given call gives
+    collects_not_given (steps.By_commit n given call has code writer is) gives = call_not_given call gives
     collects_not_given (steps.By_prepare from below came working) gives = came_not_given came gives
+
+    goes_not_given : {k : NodeState} {x : Branch} {step m : ℕ} → Goes_to k input x step → input ≡ inputs.GiveUp m → ⊥
+    goes_not_given (steps.By_rollback_to n x name step call has code live set) gives = call_not_given call gives
+    goes_not_given (steps.By_back x from call keep came live runs) gives = came_not_given came gives
 
     call_no_reply : {n : ℕ} {s : Option Stmt} (k : NodeState) → input ≡ inputs.Call n s → NoReply k
     call_no_reply k call x from number weight count said came live top at = (let is = came.is in absurd cc)
 
     call_below : {n : ℕ} {s : Option Stmt} (k : NodeState) → input ≡ inputs.Call n s → ExecsBelow input k
-    call_below k call from to number given advice s came l live none = (let is = came.is in absurd cc)
+    call_below k call from to number task came l live none = (let is = came.is in absurd cc)
 
     call_prepares : {n : ℕ} {s : Option Stmt} (k : NodeState) → input ≡ inputs.Call n s → PreparesBelow input k
     call_prepares k call from to below comment came l live none = (let is = came.is in absurd cc)
@@ -329,20 +347,46 @@ module _ (k0 : NodeState) (input : Input) (g : BranchId) (a : Answer) where
 
     module _ (p : Place) where
       pub ends_on : {k : NodeState} {d : TurnDraft} → Step p input k d → Known k → EndsCall its d.ended → End d
-      ends_on (steps.Begins {k = k} n s call rows range none step) now is =
+      ends_on (steps.Begins {k = k} n s read_at call begins range none step) now is =
           ends_on step
           (record {
-            root = root_stays k.sessions n (record (session_at k.sessions n) { seq = (new_root p k n).seq; root = Some (new_root p k n) }) (other n (Some s) call) now.root;
-            fit = begun_so k now.fit p n;
-            below = call_below (begun_by p k n None) call;
-            prepared = call_prepares (begun_by p k n None) call;
-            replies = call_no_reply (begun_by p k n None) call;
-            near = λ no. absurd (no n s call rows);
+            root = root_stays k.sessions n (record (session_at k.sessions n) { seq = (new_root p k n).seq; root = Some (new_root p k n); calls = 0 }) (other n (Some s) call) now.root;
+            fit = begun_so k now.fit p n read_at;
+            below = call_below (begun_by p k n read_at None) call;
+            prepared = call_prepares (begun_by p k n read_at None) call;
+            replies = call_no_reply (begun_by p k n read_at None) call;
+            near = λ no. absurd (no n s call (may_begin begins));
             given = λ m gives. absurd (call_not_given call gives);
             commits = now.commits;
             rows = now.rows;
           }) is
-      ends_on (steps.Pends {k = k} n l given call has live code step) now is =
+      ends_on (steps.Counts_call {k = k} n s call counts step) now is =
+          ends_on step
+          (record {
+            root = ap (λ (z : Session). z.root) (counted_session k.sessions n g.session (session_at k.sessions n).root).1 ∙ now.root;
+            fit = counted_so k now.fit n;
+            below = now.below;
+            prepared = now.prepared;
+            replies = now.replies;
+            near = now.near;
+            given = λ m gives. absurd (call_not_given call gives);
+            commits = now.commits;
+            rows = now.rows;
+          }) is
+      ends_on (steps.Goes_back {k = k} x step goes next) now is =
+          ends_on next
+          (record {
+            root = now.root;
+            fit = back_so k now.fit x step;
+            below = now.below;
+            prepared = now.prepared;
+            replies = now.replies;
+            near = now.near;
+            given = λ m gives. absurd (goes_not_given goes gives);
+            commits = now.commits;
+            rows = now.rows;
+          }) is
+      ends_on (steps.Pends {k = k} n l given call has live code writer step) now is =
           ends_on step
           (record {
             root = root_stays k.sessions n (record (session_at k.sessions n) { call = pending.Commit }) (other n (Some (stmts.Commit given)) call) now.root;
@@ -387,6 +431,7 @@ module _ (k0 : NodeState) (input : Input) (g : BranchId) (a : Answer) where
       ends_on (steps.Hears_reply {k = k} x weight count b i e answered) now is =
           (let one = answer_its (hears_reply x i weight count e).live _ x.live.parent is in
           absurd (not_replied x answered.from answered.call i e (now.replies x answered.from answered.call weight count b answered.came answered.live one.0 one.1) answered.waits))
+      ends_on (steps.Is_back {k = k} x step from calls none) now is = (let one = answer_its x.live _ x.live.parent is in absurd (back_not now calls one.0 one.1))
       ends_on (steps.Acts {k = k} l below x why) now is = act_ends k now l below x why is
       ends_on (steps.Does {k = k} s from (nexts.End d) kept why) now is =
           (let one = back_its k now s.me d is in Ends_back (ap Some (ap (records.Ended s.me) one.0 ∙ ap (λ i. records.Ended i decisions.Rollback) one.1)) one.2)
@@ -406,7 +451,9 @@ module _ (k0 : NodeState) (input : Input) (g : BranchId) (a : Answer) where
       ends_on (steps.Forces_rollback {k = k} n id b call named) now is = (let one = forced_its k now b _ n (other n _ call) is in Is_forced decisions.Rollback false (ap (λ i. Some (records.Forced i decisions.Rollback false)) one.0) one.1)
       ends_on (steps.Hides n mixed id s call found) now is = absurd (none_own n _ (other n _ call) is)
       ends_on (steps.Advises n x call) now is = absurd (none_own n _ (other n _ call) is)
-      ends_on (steps.Rolls_back n x call has live) now is = absurd (none_own n _ (other n _ call) is)
+      ends_on (steps.Leaves n s d x call ends has live) now is = absurd (none_own n _ (other n _ call) is)
+      ends_on (steps.Sets_read_only n call) now is = absurd (none_own n _ (other n _ call) is)
+      ends_on (steps.Sets_savepoint n x name call has code live) now is = absurd (none_own n _ (other n _ call) is)
       ends_on (steps.Gives_up {k = k} n x gives has calls live) now is = absurd (given_statement k now n x gives has calls _ is)
       ends_on (steps.Gives_up_commit {k = k} n b (Some l) gives has calls live) now is =
           (let one = commit_its k.sessions now.root l.me _ is in
@@ -424,6 +471,8 @@ module _ (k0 : NodeState) (input : Input) (g : BranchId) (a : Answer) where
       ends_on (steps.Calls x s given i table asked way) now none = absurd none
       ends_on (steps.Opens x s given node link table asked way) now none = absurd none
       ends_on (steps.Goes_on x from strength h link opened) now none = absurd none
-      ends_on (steps.Opens_branch to parent edge root depth came new) now none = absurd none
+      ends_on (steps.Backs x step from i calls next) now none = absurd none
+      ends_on (steps.Opens_branch to parent edge root depth read_at came new) now none = absurd none
+      ends_on (steps.Images is) now none = absurd none
       ends_on (steps.Drops_told l live drops) now none = absurd none
       ends_on (steps.Drops_asked l from live came parent) now none = absurd none

@@ -196,7 +196,7 @@ module _ (t : History) (whole : IsLawfulRun t) (hs : List Happening) (u : Turn) 
 
     answered_so : (a : Answer) → StepEnd k u.input o.after o.wrote o.sent g a → a ≡ commit_complete
     answered_so a (Has_decided x l live is_x its none complete) = complete
-    answered_so a (Has_no_site leaves top ends complete) = complete
+    answered_so a (Has_no_site leaves top ends writes complete) = complete
     answered_so a (Has_forgotten s row is_x complete) = complete
     answered_so a (Hears_abort from sb came leaves answers refused) = absurd (live_not leaves.live leaves.there (unwritten leaves.unwritten))
     answered_so a (Is_given_up given leaves refused) = absurd (live_not leaves.live leaves.there (unwritten leaves.unwritten))

@@ -119,3 +119,4 @@ module _ (P : ℕ → Said → Type 0) where
     input_have node (inputs.GiveUp session) = now
     input_have node (inputs.Message m) = now
     input_have node inputs.Reco = now
+    input_have node inputs.Checkpoint = now

@@ -16,7 +16,7 @@ use Rattle.node_rules.specs.Commit.{decided_sessions}
 use Rattle.node_rules.specs.NodeState.{NodeState, TurnDraft}
 use Rattle.node_rules.specs.Prepare.{abandoned_sessions, act_turn, is_alone}
 use Rattle.node_rules.specs.Refusals.{dtx}
-use Rattle.node_rules.specs.Sessions.{session_at, fresh_session, with_call, needs_rollback, no_transaction, commit_is_pending, commit_ended}
+use Rattle.node_rules.specs.Sessions.{session_at, fresh_session, with_call, with_root, needs_rollback, no_transaction, commit_is_pending, commit_ended}
 use Rattle.node_rules.specs.Statement.{ran, after_run}
 use Rattle.node_rules.specs.Turn.{start_of}
 use Rattle.node_rules.specs.Words.{set_numbered}
@@ -27,7 +27,7 @@ use Rattle.run_rules.specs.Lawful.{History, IsLawfulRun, boots, facts_at}
 use Rattle.run_rules.proofs.BootLemmas.{boots_with, step_of_turn}
 use Rattle.run_base_laws.proofs.FreshLemmas.{Disk, Node, nodes}
 use Rattle.run_base_laws.proofs.NodeLemmas.{Keeps, node_keeps}
-use Rattle.run_base_laws.proofs.RootLemmas.{session_or_before}
+use Rattle.run_base_laws.proofs.RootLemmas.{session_or_before, counted_session}
 use Rattle.run_ready_laws.proofs.TurnCallLemmas.{fresh_at}
 
 -- ---- sessions
@@ -96,15 +96,18 @@ module _ (p : Place) (input : Input) (boot : ℕ) where
   Booted k = (n : ℕ) (b : BranchId) → (session_at k.sessions n).root ≡ Some b → b.boot ≡ boot
 
   begins : (k : NodeState) (n : ℕ) → k.stored.durable.boot ≡ boot → Booted k
-      → (m : ℕ) (b : BranchId) → (session_at (set_numbered k.sessions n (record (session_at k.sessions n) { seq = (new_root p k n).seq; root = Some (new_root p k n) })) m).root ≡ Some b → b.boot ≡ boot
-  begins k n is now m b has = elim (session_or_before k.sessions n m (record (session_at k.sessions n) { seq = (new_root p k n).seq; root = Some (new_root p k n) })) [
+      → (m : ℕ) (b : BranchId) → (session_at (with_root k.sessions n (new_root p k n)) m).root ≡ Some b → b.boot ≡ boot
+  begins k n is now m b has = elim (session_or_before k.sessions n m (record (session_at k.sessions n) { seq = (new_root p k n).seq; root = Some (new_root p k n); calls = 0 })) [
     | inl still ↦ now m b (sym (ap (λ (x : Session). x.root) still) ∙ has)
     | inr new ↦ (let both : Some (new_root p k n) ≡ Some b = sym (ap (λ (x : Session). x.root) new.1) ∙ has in let one : new_root p k n ≡ b = cc in sym (ap (λ (x : BranchId). x.boot) one) ∙ is)
   ]
 
   booted_on : {k : NodeState} {d : TurnDraft} → Step p input k d → k.stored.durable.boot ≡ boot → Booted k → Booted d.after
-  booted_on (steps.Begins {k = k} n s call rows range none step) is now = booted_on step is (begins k n is now)
-  booted_on (steps.Pends {k = k} n l given call has live code step) is now = booted_on step is (λ m b at. now m b (call_fewer k.sessions n (record (session_at k.sessions n) { call = pending.Commit }) refl m b at))
+  booted_on (steps.Begins {k = k} n s read_at call may range none step) is now = booted_on step is (begins k n is now)
+  booted_on (steps.Counts_call {k = k} n s call counts step) is now =
+      booted_on step is (λ m b at. now m b (sym (ap (λ (x : Session). x.root) (counted_session k.sessions n m (session_at k.sessions n).root).1) ∙ at))
+  booted_on (steps.Goes_back x step goes next) is now = booted_on next is now
+  booted_on (steps.Pends {k = k} n l given call has live code writer step) is now = booted_on step is (λ m b at. now m b (call_fewer k.sessions n (record (session_at k.sessions n) { call = pending.Commit }) refl m b at))
   booted_on (steps.Lets_reads_go l comment site_below live begins step) is now = booted_on step is now
   booted_on (steps.Counts_ack s from kept came counts step) is now = booted_on step is now
   booted_on (steps.Runs {k = k} x s given t asked way) is now = λ m b at. now m b (answered k.sessions (after_run x.live (ran p k x.live.me s t)) x.live.parent m b at)
@@ -114,6 +117,8 @@ module _ (p : Place) (input : Input) (boot : ℕ) where
   booted_on (steps.Goes_on {k = k} x from strength g link opened) is now = λ m b at. now m b (goes_on k.sessions (with_edge x (new_edge from link strength)).live m b at)
   booted_on (steps.Hears_reply {k = k} x weight count a i e heard_it) is now =
       let y : Live = (hears_reply x i weight count e).live in λ m b at. now m b (heard_so k.sessions y a m b (answered (heard_sessions k.sessions y a) y x.live.parent m b at))
+  booted_on (steps.Backs {k = k} x step from i calls next) is now = λ m b at. now m b (goes_on k.sessions x.live m b at)
+  booted_on (steps.Is_back {k = k} x step from calls none) is now = λ m b at. now m b (answered k.sessions x.live x.live.parent m b at)
   booted_on (steps.Acts {k = k} l sb a why) is now = λ m b at. now m b (act_fewer k l sb a m b at)
   booted_on (steps.Does {k = k} s from (nexts.End d) kept why) is now = λ m b at. now m b (decided k.sessions s.me d m b at)
   booted_on (steps.Does {k = k} s from (nexts.Meet d mixed) kept why) is now = λ m b at. now m b (decided k.sessions s.me d m b at)
@@ -126,7 +131,7 @@ module _ (p : Place) (input : Input) (boot : ℕ) where
   booted_on (steps.Forces_commit {k = k} n id c call named) is now = λ m b at. now m b (ended k.sessions c m b at)
   booted_on (steps.Forces_rollback {k = k} n id c call named) is now = λ m b at. now m b (ended k.sessions c m b at)
   booted_on (steps.Advises {k = k} n a call) is now = λ m b at. now m b (call_fewer k.sessions n (record (session_at k.sessions n) { advice = a }) refl m b at)
-  booted_on (steps.Rolls_back {k = k} n x call has live) is now = λ m b at. now m b (done k.sessions n m b at)
+  booted_on (steps.Leaves {k = k} n s d x call ends has live) is now = λ m b at. now m b (done k.sessions n m b at)
   booted_on (steps.Gives_up {k = k} n x gives has calls live) is now =
       let zs : List Session = with_call k.sessions n pending.NoCall in
       λ m b at. now m b (call_fewer k.sessions n (record (session_at k.sessions n) { call = pending.NoCall }) refl m b (call_fewer zs n (record (session_at zs n) { code = Some (dtx 3 []).code }) refl m b at))

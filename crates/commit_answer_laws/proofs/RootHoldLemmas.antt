@@ -17,10 +17,12 @@ use Rattle.node_rules.specs.Data.stmts
 use Rattle.node_rules.specs.declared.session.PendingCall.TheVariants as pending
 use Rattle.node_rules.specs.declared.session.Session.{Session}
 use Rattle.node_rules.specs.Calls.{heard_sessions, hears_reply, with_edge}
-use Rattle.node_rules.specs.Client.{begun_by, new_root}
+use Rattle.node_rules.specs.Client.{begun_by, counted, new_root}
+use Rattle.node_rules.specs.Marks.{node_back}
 use Rattle.node_rules.specs.Commit.{acked_by, next_turn}
 use Rattle.node_rules.specs.Inputs.{IsCall, Brings, Commit_came, Rollback_came, Rolled_back_came}
-use Rattle.node_rules.specs.NodeState.{NodeState, Stored, TurnDraft, live_id, live_at, kept_row_id, kept_row_at, with_kept_row}
+use Rattle.node_rules.specs.Images.{image_at}
+use Rattle.node_rules.specs.NodeState.{NodeState, Branch, Stored, TurnDraft, live_id, live_at, kept_row_id, kept_row_at, with_kept_row}
 use Rattle.node_rules.specs.Prepare.{abandoned_sessions, act_turn, decided_of, is_alone, own_changes, ready, sealed_of}
 use Rattle.node_rules.specs.Records.{applied}
 use Rattle.node_rules.specs.Refusals.{dtx}
@@ -29,13 +31,14 @@ use Rattle.node_rules.specs.Statement.{ran, after_run}
 use Rattle.node_rules.specs.Words.{same, item_at, put_item, drop_item}
 use Rattle.node_rules.proofs.StepLemmas.{branch_found, acting_live, acting_so}
 use Rattle.node_rules.proofs.Steps as steps
-use Rattle.node_rules.proofs.Steps.{Step, Acting, Collected, Doing, IsOfRows, Makes}
-use Rattle.run_base_laws.proofs.RootLemmas.{SessionsFit, session_or_before, root_alone, begun_so, pends_so}
+use Rattle.node_rules.proofs.Steps.{Step, Acting, BeginsBy, Collected, Doing, IsCounted, Makes}
+use Rattle.run_base_laws.proofs.BeginLemmas.{MayBegin, may_begin}
+use Rattle.run_base_laws.proofs.RootLemmas.{SessionsFit, session_or_before, root_alone, begun_so, counted_so, back_so, counted_session, pends_so}
 use Rattle.run_branch_laws.proofs.QuietLemmas.{NoRows, acting_apart, came_apart}
 use Rattle.run_ready_laws.proofs.RootLiveLemmas.{RollsBelow}
 use Rattle.commit_answer_laws.proofs.AloneLemmas.{others_are_kept}
 use Rattle.commit_answer_laws.proofs.EndStepLemmas.{PreparesBelow}
-use Rattle.commit_answer_laws.proofs.StillLemmas.{Still, Less, set_other, set_same, done_less, ended_less, abandoned_less, none_still, answered_still, goes_still, heard_still}
+use Rattle.commit_answer_laws.proofs.StillLemmas.{Still, Less, set_other, set_same, done_less, ended_less, abandoned_less, none_still, counted_still, answered_still, goes_still, heard_still}
 use Rattle.commit_answer_laws.proofs.RowHoldLemmas.{StandsWell, well_row, HasRow, Spares, row_applied, sealed_row, decided_row}
 
 -- ---- what holds
@@ -96,14 +99,14 @@ meets_forced (steps.Meets_so d brings toward none unsealed uncommitted met) = (b
 parent_some : (b : BranchId) (o : Option BranchId) → is_branch b o ≡ true → o ≢ None
 parent_some b o is none = let it = branch_found b o is in absurd (cc (it, none))
 
--- Sessions fit; no Rollback and no Prepare comes to a root; the walk comes to a root that collects; no statement comes to a session
--- whose COMMIT is pending; a live branch has no row.
+-- Sessions fit; no Rollback and no Prepare comes to a root; the walk comes to a root that collects; no statement that begins a
+-- transaction comes to a session whose COMMIT is pending; a live branch has no row.
 pub record Known (input : Input) (k : NodeState) : Type 0 where
   pub fit : SessionsFit k
   pub rolls : RollsBelow input k
   pub prepared : PreparesBelow input k
   pub way : NoRows input → (l : Live) → live_at k l.me ≡ Some l → l.parent ≡ None → l.phase ≢ phases.Collecting false
-  pub free : (n : ℕ) (s : Stmt) → IsCall input n s → IsOfRows s → (session_at k.sessions n).call ≢ pending.Commit
+  pub free : (n : ℕ) (s : Stmt) → IsCall input n s → MayBegin s → (session_at k.sessions n).call ≢ pending.Commit
   pub alone : NoRows input → (b : BranchId) (l : Live) → live_at k b ≡ Some l → kept_row_at k b ≡ None
 
 module _ (input : Input) (k : NodeState) (now : Known input k) (holds : RootsHold k) where
@@ -127,7 +130,7 @@ module _ (input : Input) (k : NodeState) (now : Known input k) (holds : RootsHol
   none_off (steps.Has_nothing is) = refl
 
   quiet_below : {l : Live} {sb : Bool} → Acting k input l sb acts.SayReadOnly → l.parent ≢ None
-  quiet_below (steps.Has_no_children l comment sb _ found (steps.By_commit n given call has code is) none collected) = absurd (let off = none_off collected in cc)
+  quiet_below (steps.Has_no_children l comment sb _ found (steps.By_commit n given call has code writer is) none collected) = absurd (let off = none_off collected in cc)
   quiet_below (steps.Has_no_children l comment sb _ found (steps.By_prepare from _ came working) none collected) = now.prepared from l.me sb comment came l found
   quiet_below (steps.Hears_last l from v sb _ found answers other all collected) = λ top. now.way (λ n st call rows. came_apart n st answers.came call) l found top (answers.collecting ∙ ap phases.Collecting (none_off collected))
   quiet_below (steps.At_point l from _ found came is pointed) = elim pointed [ ]
@@ -242,6 +245,8 @@ module _ (input : Input) (k : NodeState) (now : Known input k) (holds : RootsHol
   made_holds (steps.Makes_link l free) = kept_by k.sessions k.lives (applied k.stored (records.Link l)).durable.kept (λ m. none_still k.sessions m) (λ b was. write_holds k.lives k.stored b (records.Link l) tt was)
   made_holds (steps.Makes_synonym y free) = kept_by k.sessions k.lives (applied k.stored (records.Synonym y)).durable.kept (λ m. none_still k.sessions m) (λ b was. write_holds k.lives k.stored b (records.Synonym y) tt was)
   made_holds (steps.Sets_recovery on) = kept_by k.sessions k.lives (applied k.stored (records.Param (params.Recovery on))).durable.kept (λ m. none_still k.sessions m) (λ b was. write_holds k.lives k.stored b (records.Param (params.Recovery on)) tt was)
+  made_holds (steps.Sets_strength strength) =
+      kept_by k.sessions k.lives (applied k.stored (records.Param (params.Strength strength))).durable.kept (λ m. none_still k.sessions m) (λ b was. write_holds k.lives k.stored b (records.Param (params.Strength strength)) tt was)
 
 -- ---- steps
 
@@ -254,27 +259,42 @@ call_prepares k call from to sb comment came l live none = (let is = came.is in 
 
 module _ (p : Place) (input : Input) where
   -- a transaction begins
-  begun_known : (k : NodeState) (n : ℕ) (s : Stmt) → IsCall input n s → IsOfRows s → Known input k → Known input (begun_by p k n None)
-  begun_known k n s call rows now = record {
-    fit = begun_so k now.fit p n;
-    rolls = call_rolls (begun_by p k n None) call;
-    prepared = call_prepares (begun_by p k n None) call;
-    way = λ none. absurd (none n s call rows);
-    free = λ m st other of_rows commits. (let y : Session = record (session_at k.sessions n) { seq = (new_root p k n).seq; root = Some (new_root p k n) } in
+  begun_known : (k : NodeState) (n : ℕ) (s : Stmt) (read_at : Option ℕ) → IsCall input n s → BeginsBy k.clock s read_at → Known input k → Known input (begun_by p k n read_at None)
+  begun_known k n s read_at call begins now = record {
+    fit = begun_so k now.fit p n read_at;
+    rolls = call_rolls (begun_by p k n read_at None) call;
+    prepared = call_prepares (begun_by p k n read_at None) call;
+    way = λ none. absurd (none n s call (may_begin begins));
+    free = λ m st other may commits. (let y : Session = record (session_at k.sessions n) { seq = (new_root p k n).seq; root = Some (new_root p k n); calls = 0 } in
         elim (session_or_before k.sessions n m y) [
-          | inl still ↦ now.free m st other of_rows (sym (ap (λ (x : Session). x.call) still) ∙ commits)
-          | inr new ↦ now.free m st other of_rows (ap (λ i. (session_at k.sessions i).call) (sym new.0) ∙ (sym (ap (λ (x : Session). x.call) new.1) ∙ commits))
+          | inl still ↦ now.free m st other may (sym (ap (λ (x : Session). x.call) still) ∙ commits)
+          | inr new ↦ now.free m st other may (ap (λ i. (session_at k.sessions i).call) (sym new.0) ∙ (sym (ap (λ (x : Session). x.call) new.1) ∙ commits))
         ]);
-    alone = λ none. absurd (none n s call rows);
+    alone = λ none. absurd (none n s call (may_begin begins));
   }
 
-  begun_holds : (k : NodeState) (n : ℕ) (s : Stmt) → IsCall input n s → IsOfRows s → Known input k → RootsHold k → RootsHold (begun_by p k n None)
-  begun_holds k n s call rows now holds m b has commits =
-      let y : Session = record (session_at k.sessions n) { seq = (new_root p k n).seq; root = Some (new_root p k n) } in
+  begun_holds : (k : NodeState) (n : ℕ) (s : Stmt) (read_at : Option ℕ) → IsCall input n s → BeginsBy k.clock s read_at → Known input k → RootsHold k → RootsHold (begun_by p k n read_at None)
+  begun_holds k n s read_at call begins now holds m b has commits =
+      let y : Session = record (session_at k.sessions n) { seq = (new_root p k n).seq; root = Some (new_root p k n); calls = 0 } in
       elim (session_or_before k.sessions n m y) [
         | inl still ↦ more_holds k.lives _ k.stored.durable.kept b (holds m b (sym (ap (λ (x : Session). x.root) still) ∙ has) (sym (ap (λ (x : Session). x.call) still) ∙ commits))
-        | inr new ↦ absurd (now.free n s call rows (sym (ap (λ (x : Session). x.call) new.1) ∙ commits))
+        | inr new ↦ absurd (now.free n s call (may_begin begins) (sym (ap (λ (x : Session). x.call) new.1) ∙ commits))
       ]
+
+  -- a call is counted
+  counted_known : (k : NodeState) (n : ℕ) → Known input k → Known input (counted k n)
+  counted_known k n now = record {
+    fit = counted_so k now.fit n;
+    rolls = now.rolls;
+    prepared = now.prepared;
+    way = now.way;
+    free = λ m st other may commits. now.free m st other may (sym (ap (λ (x : Session). x.call) (counted_session k.sessions n m (session_at k.sessions n).root).1) ∙ commits);
+    alone = now.alone;
+  }
+
+  -- a branch goes back
+  back_known : (k : NodeState) (x : Branch) (step : ℕ) → Known input k → Known input (node_back k x step)
+  back_known k x step now = record { fit = back_so k now.fit x step; rolls = now.rolls; prepared = now.prepared; way = now.way; free = now.free; alone = now.alone }
 
   -- COMMIT comes to a live root
   pends_known : (k : NodeState) (n : ℕ) (given : Option (List ℕ)) → IsCall input n (stmts.Commit given) → Known input k → Known input (record k { sessions = with_call k.sessions n pending.Commit })
@@ -283,7 +303,7 @@ module _ (p : Place) (input : Input) where
     rolls = now.rolls;
     prepared = now.prepared;
     way = now.way;
-    free = λ m st other of_rows. (let both : inputs.Call n (Some (stmts.Commit given)) ≡ inputs.Call m (Some st) = sym call ∙ other in let it : stmts.Commit given ≡ st = cc in absurd (subst IsOfRows (sym it) of_rows));
+    free = λ m st other may. (let both : inputs.Call n (Some (stmts.Commit given)) ≡ inputs.Call m (Some st) = sym call ∙ other in let it : stmts.Commit given ≡ st = cc in absurd (subst MayBegin (sym it) may));
     alone = now.alone;
   }
 
@@ -324,8 +344,11 @@ module _ (p : Place) (input : Input) where
 
   -- what each step leaves
   pub holds_on : {k : NodeState} {d : TurnDraft} → Step p input k d → Known input k → RootsHold k → RootsHold d.after
-  holds_on (steps.Begins {k = k} n s call rows range none step) now holds = holds_on step (begun_known k n s call rows now) (begun_holds k n s call rows now holds)
-  holds_on (steps.Pends {k = k} n l given call has live code step) now holds = holds_on step (pends_known k n given call now) (pends_holds k n l has live holds)
+  holds_on (steps.Begins {k = k} n s read_at call begins range none step) now holds = holds_on step (begun_known k n s read_at call begins now) (begun_holds k n s read_at call begins now holds)
+  holds_on (steps.Counts_call {k = k} n s call counts step) now holds =
+      holds_on step (counted_known k n now) (kept_by input k now holds _ k.lives k.stored.durable.kept (λ m. counted_still k.sessions m n (session_at k.sessions n).root) (λ b was. was))
+  holds_on (steps.Goes_back {k = k} x step goes next) now holds = holds_on next (back_known k x step now) holds
+  holds_on (steps.Pends {k = k} n l given call has live code writer step) now holds = holds_on step (pends_known k n given call now) (pends_holds k n l has live holds)
   holds_on (steps.Lets_reads_go {k = k} l comment sb live begins step) now holds =
       holds_on step (record { fit = record { roots = now.fit.roots; above = now.fit.above }; rolls = now.rolls; prepared = now.prepared; way = now.way; free = now.free; alone = now.alone }) holds
   holds_on (steps.Counts_ack {k = k} s from kept came counts step) now holds = holds_on step (acked_known k s from kept now) (acked_holds k s from kept holds)
@@ -347,7 +370,11 @@ module _ (p : Place) (input : Input) where
       let l : Live = (hears_reply x i weight count e).live in
       kept_by input k now holds _ (put_item live_id k.lives l) k.stored.durable.kept
       (λ m b has commits. (let was = answered_still (heard_sessions k.sessions l a) m l x.live.parent b has commits in heard_still k.sessions m l a b was.0 was.1)) (λ b. put_holds k.lives k.stored.durable.kept b l)
-  holds_on (steps.Opens_branch {k = k} to parent edge root depth came new) now holds = kept_by input k now holds k.sessions _ k.stored.durable.kept (λ m. none_still k.sessions m) (λ b. more_holds k.lives _ k.stored.durable.kept b)
+  holds_on (steps.Backs {k = k} x step from i calls next) now holds =
+      kept_by input k now holds _ (put_item live_id k.lives x.live) k.stored.durable.kept (λ m. goes_still k.sessions m x.live) (λ b. put_holds k.lives k.stored.durable.kept b x.live)
+  holds_on (steps.Is_back {k = k} x step from calls none) now holds =
+      kept_by input k now holds _ (put_item live_id k.lives x.live) k.stored.durable.kept (λ m. answered_still k.sessions m x.live x.live.parent) (λ b. put_holds k.lives k.stored.durable.kept b x.live)
+  holds_on (steps.Opens_branch {k = k} to parent edge root depth read_at came new) now holds = kept_by input k now holds k.sessions _ k.stored.durable.kept (λ m. none_still k.sessions m) (λ b. more_holds k.lives _ k.stored.durable.kept b)
   holds_on (steps.Acts {k = k} l sb a why) now holds = act_holds input k now holds l sb a why
   holds_on (steps.Drops_told {k = k} l live (steps.By_rollback from came)) now holds =
       kept_less input k now holds l.me k.sessions (drop_item live_id k.lives l.me) k.stored.durable.kept (none_less input k now holds l.me (λ m has. now.rolls from l.me came l live (is_top input k now holds m l live has)))
@@ -369,7 +396,12 @@ module _ (p : Place) (input : Input) where
       kept_by input k now holds k.sessions k.lives (applied k.stored (records.Hidden s.me)).durable.kept (λ m. none_still k.sessions m) (λ b was. write_holds k.lives k.stored b (records.Hidden s.me) tt was)
   holds_on (steps.Advises {k = k} n x call) now holds =
       kept_by input k now holds _ k.lives k.stored.durable.kept (λ m. set_same k.sessions m n (record (session_at k.sessions n) { advice = x }) refl refl) (λ b was. was)
-  holds_on (steps.Rolls_back {k = k} n x call has live) now holds =
+  holds_on (steps.Sets_read_only n call) now holds = holds
+  holds_on (steps.Sets_savepoint {k = k} n x name call has code live) now holds =
+      kept_by input k now holds k.sessions (put_item live_id k.lives x.live) k.stored.durable.kept (λ m. none_still k.sessions m) (λ b. put_holds k.lives k.stored.durable.kept b x.live)
+  holds_on (steps.Images {k = k} is) now holds =
+      kept_by input k now holds k.sessions k.lives (applied k.stored (records.Image (image_at k.stored k.clock))).durable.kept (λ m. none_still k.sessions m) (λ b was. write_holds k.lives k.stored b (records.Image (image_at k.stored k.clock)) tt was)
+  holds_on (steps.Leaves {k = k} n s d x call ends has live) now holds =
       kept_less input k now holds x.live.me _ (drop_item live_id k.lives x.live.me) k.stored.durable.kept (λ m. done_less k.sessions m now.fit.roots n x.live.me has) (λ b. drop_holds k.lives k.stored.durable.kept b x.live.me)
   holds_on (steps.Gives_up {k = k} n x gives has calls live) now holds =
       let zs : List Session = with_call k.sessions n pending.NoCall in

@@ -36,12 +36,14 @@ heard_live k (inputs.Message m) b = refl
 heard_live k (inputs.Call n s) b = refl
 heard_live k (inputs.GiveUp n) b = refl
 heard_live k inputs.Reco b = refl
+heard_live k inputs.Checkpoint b = refl
 
 heard_holds : (k : NodeState) (input : Input) → RootsHold k → RootsHold (heard k input)
 heard_holds k (inputs.Message m) holds = holds
 heard_holds k (inputs.Call n s) holds = holds
 heard_holds k (inputs.GiveUp n) holds = holds
 heard_holds k inputs.Reco holds = holds
+heard_holds k inputs.Checkpoint holds = holds
 
 started_holds : (rs : List RedoRecord) → RootsHold (start_of rs)
 unfolding start_of

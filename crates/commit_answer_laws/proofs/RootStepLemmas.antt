@@ -10,7 +10,7 @@ use Rattle.node_rules.specs.declared.session.PendingCall.TheVariants as pending
 use Rattle.node_rules.specs.declared.session.Session.{Session}
 use Rattle.session_tree.specs.Live.{new_edge}
 use Rattle.node_rules.specs.Calls.{call_pends, answered_sessions, hears_reply, heard_sessions, is_gone, with_edge}
-use Rattle.node_rules.specs.Client.{commit_by, commit_call, new_root, root_at}
+use Rattle.node_rules.specs.Client.{commit_at, commit_by, commit_call, new_root, root_at}
 use Rattle.node_rules.specs.Commit.{decided_sessions}
 use Rattle.node_rules.specs.NodeState.{NodeState, Branch, TurnDraft}
 use Rattle.node_rules.specs.Prepare.{abandoned_sessions, act_turn, collecting, first_act, is_alone, with_comment, without_read_keys}
@@ -21,7 +21,7 @@ use Rattle.node_rules.specs.Words.{set_numbered}
 use Rattle.node_rules.proofs.StandLemmas.{RootSo, root_so}
 use Rattle.node_rules.proofs.Steps as steps
 use Rattle.node_rules.proofs.Steps.{Step}
-use Rattle.run_base_laws.proofs.RootLemmas.{session_or_before}
+use Rattle.run_base_laws.proofs.RootLemmas.{session_or_before, counted_session}
 
 module _ (ss : List Session) (m : ℕ) where
   -- the transaction is what it was
@@ -95,8 +95,11 @@ module _ (p : Place) (input : Input) (m : ℕ) (other : (s : Option Stmt) → in
   ]
 
   pub root_on : {k : NodeState} {d : TurnDraft} → Step p input k d → (session_at d.after.sessions m).call ≡ pending.Commit → (session_at d.after.sessions m).root ≡ (session_at k.sessions m).root
-  root_on (steps.Begins {k = k} n s call rows range none step) is = root_on step is ∙ begun_same k.sessions n (record (session_at k.sessions n) { seq = (new_root p k n).seq; root = Some (new_root p k n) }) (Some s) call
-  root_on (steps.Pends {k = k} n l given call has live code step) is = root_on step is ∙ set_same k.sessions m n (record (session_at k.sessions n) { call = pending.Commit }) refl
+  root_on (steps.Begins {k = k} n s read_at call begins range none step) is =
+      root_on step is ∙ begun_same k.sessions n (record (session_at k.sessions n) { seq = (new_root p k n).seq; root = Some (new_root p k n); calls = 0 }) (Some s) call
+  root_on (steps.Counts_call {k = k} n s call counts step) is = root_on step is ∙ ap (λ (x : Session). x.root) (counted_session k.sessions n m (session_at k.sessions n).root).1
+  root_on (steps.Goes_back {k = k} x step goes next) is = root_on next is
+  root_on (steps.Pends {k = k} n l given call has live code writer step) is = root_on step is ∙ set_same k.sessions m n (record (session_at k.sessions n) { call = pending.Commit }) refl
   root_on (steps.Lets_reads_go l comment site_below live begins step) is = root_on step is
   root_on (steps.Counts_ack s from kept came counts step) is = root_on step is
   root_on (steps.Runs {k = k} x s given t asked way) is = answered k.sessions m (after_run x.live (ran p k x.live.me s t)) x.live.parent
@@ -106,6 +109,8 @@ module _ (p : Place) (input : Input) (m : ℕ) (other : (s : Option Stmt) → in
   root_on (steps.Goes_on {k = k} x from strength g link opened) is = goes_on k.sessions m (with_edge x (new_edge from link strength)).live
   root_on (steps.Hears_reply {k = k} x weight count a i e heard_it) is =
       let y : Live = (hears_reply x i weight count e).live in answered (heard_sessions k.sessions y a) m y x.live.parent ∙ heard_so k.sessions m y a
+  root_on (steps.Backs {k = k} x step from i calls next) is = goes_on k.sessions m x.live
+  root_on (steps.Is_back {k = k} x step from calls none) is = answered k.sessions m x.live x.live.parent
   root_on (steps.Acts {k = k} l site_below a why) is = act_back k m l site_below a is
   root_on (steps.Does {k = k} s from (nexts.End d) kept why) is = decided k.sessions m s.me d is
   root_on (steps.Does {k = k} s from (nexts.Meet d mixed) kept why) is = decided k.sessions m s.me d is
@@ -118,7 +123,7 @@ module _ (p : Place) (input : Input) (m : ℕ) (other : (s : Option Stmt) → in
   root_on (steps.Forces_commit {k = k} n id b call named) is = ended k.sessions m b is
   root_on (steps.Forces_rollback {k = k} n id b call named) is = ended k.sessions m b is
   root_on (steps.Advises {k = k} n a call) is = set_same k.sessions m n (record (session_at k.sessions n) { advice = a }) refl
-  root_on (steps.Rolls_back {k = k} n x call has live) is = done k.sessions m n is
+  root_on (steps.Leaves {k = k} n s d x call ends has live) is = done k.sessions m n is
   root_on (steps.Gives_up {k = k} n x gives has calls live) is =
       let zs : List Session = with_call k.sessions n pending.NoCall in
       set_same zs m n (record (session_at zs n) { code = Some (dtx 3 []).code }) refl ∙ set_same k.sessions m n (record (session_at k.sessions n) { call = pending.NoCall }) refl
@@ -143,11 +148,20 @@ commit_root k n given free = by (session_at k.sessions n).code (root_at k n) (ro
     by None None so is = absurd (cc (free, is))
     by (Some c) None so is = absurd (cc (free, is))
     by (Some c) (Some x) so is = absurd (cc (free, is))
-    by None (Some x) so is =
-        let l : Live = collecting (with_comment x.live (unwrap_or given [])) true in
-        let k2 : NodeState = without_read_keys (record k { sessions = with_call k.sessions n pending.Commit }) x.live.me in
-        record {
-          root = x.live.me;
-          was = so.0;
-          stays = act_back k2 n l true (first_act l true) is ∙ (set_same k.sessions n n (record (session_at k.sessions n) { call = pending.Commit }) refl ∙ so.0);
-        }
+    by None (Some x) so is = at_root x so x.live.read_at is
+      where
+        -- one that is READ ONLY is complete at once
+        at_root : (x : Branch) → RootSo k n (Some x) → (o : Option ℕ) → (session_at (commit_at k n (unwrap_or given []) x o).after.sessions n).call ≡ pending.Commit
+            → KeepsRoot k.sessions (commit_at k n (unwrap_or given []) x o).after.sessions n
+        at_root x so (Some scn) is = elim (session_or_before k.sessions n n (no_transaction (session_at k.sessions n))) [
+          | inl still ↦ (let was = sym (ap (λ (s : Session). s.call) still) ∙ is in absurd (cc (free, was)))
+          | inr new ↦ (let was = sym (ap (λ (s : Session). s.call) new.1) ∙ is in absurd cc)
+        ]
+        at_root x so None is =
+            let l : Live = collecting (with_comment x.live (unwrap_or given [])) true in
+            let k2 : NodeState = without_read_keys (record k { sessions = with_call k.sessions n pending.Commit }) x.live.me in
+            record {
+              root = x.live.me;
+              was = so.0;
+              stays = act_back k2 n l true (first_act l true) is ∙ (set_same k.sessions n n (record (session_at k.sessions n) { call = pending.Commit }) refl ∙ so.0);
+            }

@@ -1,6 +1,6 @@
 -- A COMMIT that is pending after a change of sessions was pending before, of the same root; where the transaction of a branch ended,
 -- of another root than this.
-use Rattle.std.proofs.Common.{◌≡◌, ◌≢◌, ℕ, ◌&&◌, Bool, true, false, if◌then◌else◌, is_none, List, [], unwrap_or, Option, Some, None, inl, inr, refl, sym, ap, subst, ◌∙◌}
+use Rattle.std.proofs.Common.{◌≡◌, ◌≢◌, ℕ, ◌+◌, ◌&&◌, Bool, true, false, if◌then◌else◌, is_none, List, [], unwrap_or, Option, Some, None, inl, inr, refl, sym, ap, subst, ◌∙◌}
 use Rattle.std.proofs.lemmas.Bool.{and_parts, cond_both}
 use Rattle.tran_ids.proofs.BranchLemmas.{same_from_equal}
 use Rattle.session_tree.specs.Live.{is_branch}
@@ -10,7 +10,7 @@ use Rattle.node_rules.specs.declared.session.Session.{Session}
 use Rattle.node_rules.specs.Calls.{answered_sessions, call_pends, heard_sessions, is_gone}
 use Rattle.node_rules.specs.Prepare.{abandoned_sessions}
 use Rattle.node_rules.specs.Refusals.{dtx}
-use Rattle.node_rules.specs.Sessions.{session_at, fresh_session, with_call, needs_rollback, no_transaction, is_commit, commit_is_pending, commit_ended}
+use Rattle.node_rules.specs.Sessions.{session_at, fresh_session, with_call, with_call_of, needs_rollback, no_transaction, is_commit, commit_is_pending, commit_ended}
 use Rattle.node_rules.specs.Words.{numbered, set_numbered}
 use Rattle.node_rules.proofs.StandLemmas.{session_set}
 use Rattle.node_rules.proofs.StepLemmas.{branch_found}
@@ -79,6 +79,11 @@ module _ (ss : List Session) (m : ℕ) where
 
   pub none_still : Still ss
   none_still b has commits = (has, commits)
+
+  -- a call is counted
+  pub counted_still : (n : ℕ) (o : Option BranchId) → Still (with_call_of ss n o)
+  counted_still n None = none_still
+  counted_still n (Some root) = set_same n (record (session_at ss n) { calls = (session_at ss n).calls + 1 }) refl refl
 
   pub answered_still : (l : Live) (o : Option BranchId) → Still (answered_sessions ss l o)
   answered_still l None = set_other l.me.session (record (session_at ss l.me.session) { call = pending.NoCall }) (λ is. absurd cc)

@@ -1,13 +1,12 @@
 -- In every lawful run no decision stands of a transaction whose COMMIT was answered ORA-02050: its root was dropped, or it
 -- learned the rollback.
-use Rattle.std.proofs.Common.{◌≡◌, ◌≢◌, ℕ, ◌≤◌, Bool, true, false, List, [], ◌∷◌, ◌++◌, Option, Some, None, inl, inr, refl, sym, ap, subst, ◌∙◌, arith}
+use Rattle.std.proofs.Common.{◌≡◌, ℕ, Bool, true, false, List, [], ◌∷◌, ◌++◌, Option, Some, None, inl, inr, refl, sym, ap, subst, ◌∙◌, arith}
 use Rattle.std.specs.Prelude.{◌⊎◌, IfSome}
-use Rattle.std.specs.List.{list_any}
 use Rattle.tran_ids.proofs.ListedLemmas.{item_is}
 use Rattle.agreement.specs.Events as exits
-use Rattle.agreement.specs.Events.{Forest, Event, Exit, Dropped, Quiet, Learn, Knows, first, only_at, exit, learned, site_of}
-use Rattle.agreement.proofs.AgreementLaws.{undecided_from_rollback, doomed_undecided}
-use Rattle.agreement.proofs.EventLemmas.{only_at_is, only_at_same}
+use Rattle.agreement.specs.Events.{Forest, Exit, Learn, Knows, first, only_at, exit, learned, site_of}
+use Rattle.agreement.proofs.AgreementLaws.{undecided_from_rollback}
+use Rattle.agreement.proofs.EventLemmas.{only_at_same}
 use Rattle.agreement.proofs.WholeTree.{site_root}
 use Rattle.node_rules.specs.Data.{Answer, BranchId, Decision, Live, Place, RedoRecord, KeptRow, Decided as DecidedRecord}
 use Rattle.node_rules.specs.Data.answers
@@ -16,50 +15,39 @@ use Rattle.node_rules.specs.Data.records
 use Rattle.node_rules.specs.NodeState.{NodeState, TurnOutput, live_id, live_at, kept_row_id, kept_row_at}
 use Rattle.node_rules.specs.Commit.{knows_commit}
 use Rattle.node_rules.specs.Sessions.{session_at, commit_complete, tran_refusal}
-use Rattle.node_rules.specs.Turn.{turn_of, heard}
-use Rattle.node_rules.proofs.HeardLemmas.{sessions_heard}
-use Rattle.run_rules.specs.Births.{Born, births_of, born_id, born_at}
+use Rattle.node_rules.specs.Turn.{turn_of}
+use Rattle.run_rules.specs.Births.{Born, births_of, born_at}
 use Rattle.run_base_laws.specs.BirthLaws.{Began, LiveIs, KeptIs}
 use Rattle.run_rules.specs.Book.{At}
-use Rattle.run_rules.specs.Branches.{is_among}
 use Rattle.run_rules.specs.Data.{Turn, Happening}
 use Rattle.run_rules.specs.Data.entries
 use Rattle.run_rules.specs.Data.happenings
 use Rattle.run_base_laws.specs.EventLaws.{TellsAsEvents, EachEventFrom}
 use Rattle.run_base_laws.specs.EventRows.{MayStand, RowIs, IsKnown}
-use Rattle.run_rules.specs.Facts.{Facts, first_facts, place_at, node_at, kept_after, facts_after}
+use Rattle.run_rules.specs.Facts.{Facts, first_facts, place_at, node_at, facts_after}
 use Rattle.run_base_laws.specs.InTurnLaws.{said_in}
 use Rattle.run_rules.specs.Lawful.{IsOwed, MayTurn, History, IsLawfulRun, facts_at}
-use Rattle.run_base_laws.specs.RunEvents.{wrote_event, with_event, with_record, with_exits, lives_at, events_after, events_of}
-use Rattle.run_rules.specs.Trail.{is_quiet}
-use Rattle.run_rules.proofs.AtNodeLemmas.{turn_here}
-use Rattle.run_base_laws.proofs.BirthRunLemmas.{nodes_name_the_born, born_are_live_or_left}
-use Rattle.run_base_laws.proofs.EventsStandLemmas.{run_stands, nodes_are_as_events, ids_name_their_node, turns_tell_as_events}
-use Rattle.run_base_laws.proofs.LaterLemmas.{Later, Was_said, Was_quiet, Was_dropped, exit_made, exit_later, learned_later, turn_added}
+use Rattle.run_base_laws.specs.RunEvents.{wrote_event, with_event, with_record, events_after, events_of}
+use Rattle.run_base_laws.proofs.BirthRunLemmas.{nodes_name_the_born}
+use Rattle.run_base_laws.proofs.EventsStandLemmas.{nodes_are_as_events, turns_tell_as_events}
+use Rattle.run_base_laws.proofs.LaterLemmas.{exit_later, learned_later, turn_added}
 use Rattle.run_base_laws.proofs.LawfulLemmas.{turn_of_node}
 use Rattle.run_base_laws.proofs.OwnLemmas.{all_found}
 use Rattle.run_base_laws.proofs.RowEventLemmas.{learned_now}
-use Rattle.run_base_laws.proofs.RootLemmas.{SessionsFit}
-use Rattle.tree_laws.specs.Forests.{forest_of, root_in, is_member, asked_by}
-use Rattle.tree_laws.proofs.ForestLemmas as trees
-use Rattle.tree_laws.proofs.ForestRunLemmas.{run_known}
-use Rattle.tree_laws.proofs.PrefixLemmas.{so_far, f_at, e_at, one_on, more_on}
-use Rattle.tree_laws.proofs.FateLemmas.{among_found}
-use Rattle.tree_laws.proofs.LeaveLemmas.{messages_exit, all_quiet}
+use Rattle.tree_laws.specs.Forests.{forest_of, is_member}
+use Rattle.tree_laws.proofs.PrefixLemmas.{so_far, f_at, e_at, more_on}
 use Rattle.tree_laws.proofs.TimeLemmas.{Part, part_on, part_of, part_lawful, may_of, each_at, exit_end, born_end}
-use Rattle.commit_point_laws.specs.EndLaws.{EntryIs}
-use Rattle.commit_point_laws.proofs.BookEndLemmas.{entries_are_exits}
 use Rattle.tree_laws.proofs.MoreLemmas.{forest, events_lawful, added_end, inv_end, inv_at}
 use Rattle.commit_answer_laws.specs.CommitEndLaws.{row_knows, LeavesUnrecorded}
 use Rattle.commit_answer_laws.specs.UndecidedLaws.{EndedWith, IsDecided, IsUndecided, RefusedAreUndecided, KnownAreDecided, CompleteAreDecided}
 use Rattle.commit_point_laws.proofs.BookLemmas.{decided_stands}
-use Rattle.commit_answer_laws.proofs.BornLemmas.{High, born_high, session_low}
-use Rattle.commit_answer_laws.proofs.EndRunLemmas.{ends_for, fits}
+use Rattle.commit_answer_laws.proofs.DroppedLemmas as drops
+use Rattle.commit_answer_laws.proofs.DroppedLemmas.{RootTurn}
+use Rattle.commit_answer_laws.proofs.EndRunLemmas.{ends_for}
 use Rattle.commit_answer_laws.proofs.EndStepLemmas.{StepEnd, Has_decided, Has_no_site, Has_forgotten, Hears_abort, Is_given_up, Ends_back, Meets_back, Is_known, Is_in_doubt, Is_forced}
 use Rattle.tree_trail_laws.specs.NoSite.{HadNoSite}
 use Rattle.tree_trail_laws.proofs.NoSiteLemmas.{had_no_site}
 use Rattle.tree_laws.proofs.AtPart.{at_part}
-use Rattle.tree_trail_laws.proofs.OwnAfterLemmas.{all_at as slice_all}
 
 -- ---- answers
 
@@ -169,103 +157,19 @@ module _ (t : History) (whole : IsLawfulRun t) (g : BranchId) (a : Answer) (it :
 
   -- ---- its root
 
-  low : g.session ≤ 64
-  low =
-      let fit : SessionsFit (heard k u.input) = fits t whole hs u it.later it.is k up in
-      session_low (heard k u.input).sessions fit.roots.many g.session g (ap (λ ss. (session_at ss g.session).root) (sessions_heard k u.input) ∙ it.root)
-
-  top_by : (x : Born) (q : Option BranchId) → x.parent ≡ q → High x → x.me ≡ g → x.parent ≡ None
-  top_by x None is high me = is
-  top_by x (Some b) is high me = let above : 65 ≤ x.me.session = high (λ none. absurd (cc (is, none))) in absurd (omega (arith, above, low, ap (λ (c : BranchId). c.session) me))
+  abbrev at : RootTurn t g
+  at = record { before = hs; turn = u; later = it.later; is = it.is; uncut = it.uncut; kept = k; up = it.up; root = it.root }
 
   -- as it began
-  module _ (x : Born) (there : born_at (births_of t) g ≡ Some x) where
-    me : x.me ≡ g
-    me = item_is born_id (births_of t) g x there
+  root_is : (x : Born) → born_at (births_of t) g ≡ Some x → p.root g ≡ g
+  root_is x there = drops.root_is t whole g at x there
 
-    began : Began (births_of t) x
-    began = subst (λ i. born_at (births_of t) i ≡ Some x) (sym me) there
+  member_is : (x : Born) → born_at (births_of t) g ≡ Some x → p.member g ≡ true
+  member_is x there = drops.member_is t whole g at x there
 
-    top : x.parent ≡ None
-    top = top_by x x.parent refl (all_found High born_id (births_of t) g x (born_high t) there) me
-
-    root_is : p.root g ≡ g
-    root_is = ap (root_in g) there ∙ ((trees.stands_so (births_of t) (said_in (facts_at t)) (run_known t whole) x None began top).0 ∙ me)
-
-    member_is : p.member g ≡ true
-    member_is = ap (is_member (said_in (facts_at t)) g) there ∙ ap (asked_by (said_in (facts_at t)) g) top
-
-  -- ---- a root that is dropped
-
-  module _ (leaves : LeavesUnrecorded k o.after o.wrote o.sent g) where
-    abbrev l : Live
-    l = leaves.live
-
-    l_me : l.me ≡ g
-    l_me = item_is live_id k.lives g l leaves.there
-
-    none : exit e g ≡ None
-    none = subst (λ i. exit e i ≡ None) l_me (all_found (λ (x : Live). exit e x.me ≡ None) live_id k.lives g l (nodes_are_as_events s0 lawful u.node k up).0 leaves.there)
-
-    placed : LiveIs (Began (births_of s0)) l
-    placed = all_found (LiveIs (Began (births_of s0))) live_id k.lives g l (nodes_name_the_born s0 lawful u.node k up).0 leaves.there
-
-    there_z : born_at (births_of s1) g ≡ Some placed.born
-    there_z =
-        let began : Began (births_of s1) placed.born = born_end s1 lawful_z hs (record { rest = happenings.Turn u ∷ []; is = refl }) placed.born placed.began in
-        subst (λ i. born_at (births_of s1) i ≡ Some placed.born) (placed.is_me ∙ l_me) began
-
-    there_t : born_at (births_of t) g ≡ Some placed.born
-    there_t = subst (λ i. born_at (births_of t) i ≡ Some placed.born) (placed.is_me ∙ l_me) (born_end t whole hs part placed.born placed.began)
-
-    own : g.node ≡ u.node
-    own = subst (λ (i : BranchId). i.node ≡ u.node) l_me (all_found (λ (x : Live). x.me.node ≡ u.node) live_id k.lives g l (ids_name_their_node s0 lawful u.node k up).lives leaves.there)
-
-    up_z : node_at f1 u.node ≡ Some o.after
-    up_z = (turn_here t.places t.commands f (run_stands s0 lawful).0.even u k up).0 ∙ ap (λ c. kept_after c (Some o)) it.uncut
-
-    not_live : is_among g (lives_at (node_at (f_at t after) g.node)) ≡ true → ⊥
-    not_live among =
-        let at : node_at (f_at t after) g.node ≡ Some o.after = ap (λ z. node_at z g.node) (one_on t hs (happenings.Turn u)) ∙ (ap (node_at f1) own ∙ up_z) in
-        let here = among_found o.after.lives g (subst (λ z. is_among g (lives_at z) ≡ true) at among) in
-        let found = here.1 in
-        let gone = leaves.gone in
-        absurd (cc (found, gone))
-
-    left : exit (e_at t after) g ≢ None
-    left = elim (born_are_live_or_left s1 lawful_z g (λ nobody. (let some = there_z in absurd (cc (some, nobody))))) [ inl gone ↦ gone | inr among ↦ absurd (not_live among) ]
-
-    recorded : with_record u e ≡ e
-    recorded = ap (λ w. with_event (wrote_event u.node w) e) (owed.0 ∙ leaves.unwritten)
-
-    dropped_by : (z : Option Exit) → exit (e_at t after) g ≡ z → exit (e_at t after) g ≡ Some Dropped
-    dropped_by None is = absurd (left is)
-    dropped_by (Some z) is = elim (exit_made g z (turn_added f f1 u e) now) [
-      | inl old ↦ (let older : exit e g ≡ Some z = subst (λ x. exit x g ≡ Some z) recorded old in let no_exit = none in absurd (cc (older, no_exit)))
-      | inr new ↦ by_later new.0 new.1 new.2
-    ]
-      where
-        now : exit (events_after t.places t.commands f (happenings.Turn u) e) g ≡ Some z
-        now = subst (λ x. exit x g ≡ Some z) (more_on t hs (happenings.Turn u)) is
-
-        not_quiet : z ≡ Quiet → ⊥
-        not_quiet quiet =
-            let gone : exit (with_exits f f1 u e) g ≡ Some Quiet = sym (messages_exit u.sent (with_exits f f1 u e) g) ∙ (now ∙ ap Some quiet) in
-            elim (all_quiet (lives_at (node_at f1 u.node)) u.sent (lives_at (node_at f u.node)) g (with_record u e) gone) [
-              | inl old ↦ (let older : exit e g ≡ Some Quiet = subst (λ x. exit x g ≡ Some Quiet) recorded old in let no_exit = none in absurd (cc (older, no_exit)))
-              | inr said ↦ (let silent : list_any (is_quiet g) u.sent ≡ false = ap (list_any (is_quiet g)) owed.1 ∙ leaves.silent in absurd (cc (said, silent)))
-            ]
-
-        by_later : (x : Event) → Later (lives_at (node_at f u.node)) (lives_at (node_at f1 u.node)) x → exits.exit_by x g ≡ Some z → exit (e_at t after) g ≡ Some Dropped
-        by_later x (Was_said y nobody) made = (let no_one = (nobody g).0 in absurd (cc (made, no_one)))
-        by_later x (Was_quiet c was gone) made = absurd (not_quiet (sym (only_at_is c g Quiet z made).1))
-        by_later x (Was_dropped c was gone) made = is ∙ ap Some (sym (only_at_is c g Dropped z made).1)
-
-    dropped : exit (events_of t) g ≡ Some Dropped
-    dropped = exit_end t whole after part_z g Dropped (dropped_by (exit (e_at t after) g) refl)
-
-    drop_undecided : (b : BranchId) (n : ℕ) → exit (events_of t) b ≡ Some (exits.Decided n) → p.root b ≡ g → ⊥
-    drop_undecided b n decided of = (doomed_undecided p (forest t whole) (events_of t) (events_lawful t whole) g b n (member_is placed.born there_t) dropped (of ∙ sym (root_is placed.born there_t))).0 decided
+  -- one that is dropped
+  drop_undecided : LeavesUnrecorded k o.after o.wrote o.sent g → (b : BranchId) (n : ℕ) → exit (events_of t) b ≡ Some (exits.Decided n) → p.root b ≡ g → ⊥
+  drop_undecided leaves b n decided of = drops.drop_undecided t whole g at leaves b n decided of
 
   -- ---- a root that learned the rollback
 
@@ -301,7 +205,7 @@ module _ (t : History) (whole : IsLawfulRun t) (g : BranchId) (a : Answer) (it :
 
   undecided : a ≡ tran_refusal 2050 g → StepEnd k u.input o.after o.wrote o.sent g a → (b : BranchId) (n : ℕ) → exit (events_of t) b ≡ Some (exits.Decided n) → p.root b ≡ g → ⊥
   undecided asked (Has_decided r l live wrote its alone is) = absurd (not_complete g (sym asked ∙ is))
-  undecided asked (Has_no_site leaves top_is ends is) = absurd (not_complete g (sym asked ∙ is))
+  undecided asked (Has_no_site leaves top_is ends writes is) = absurd (not_complete g (sym asked ∙ is))
   undecided asked (Has_forgotten s row wrote is) = absurd (not_complete g (sym asked ∙ is))
   undecided asked (Hears_abort from sb came leaves answers is) = drop_undecided leaves
   undecided asked (Is_given_up given leaves is) = drop_undecided leaves
@@ -311,11 +215,8 @@ module _ (t : History) (whole : IsLawfulRun t) (g : BranchId) (a : Answer) (it :
   undecided asked (Is_in_doubt given call gone doubt is) = absurd (not_in_doubt g (sym asked ∙ is))
   undecided asked (Is_forced d given wrote is) = absurd (not_in_doubt g (sym asked ∙ is))
 
-  -- where no branch that decided is of g, none of its decisions is in the book
   undecided_book : ((b : BranchId) (n : ℕ) → exit (events_of t) b ≡ Some (exits.Decided n) → p.root b ≡ g → ⊥) → IsUndecided t g
-  undecided_book never i b cs n at =
-      let is : EntryIs p (events_of t) (entries.Decided b g cs n) = slice_all (EntryIs p (events_of t)) (facts_at t).book i (entries.Decided b g cs n) (entries_are_exits t whole) at in
-      never b n is.0 is.1
+  undecided_book never = drops.undecided_book t whole g at never
 
   pub none_decided : a ≡ tran_refusal 2050 g → IsUndecided t g
   none_decided asked = undecided_book (undecided asked end)
@@ -383,7 +284,7 @@ module _ (t : History) (whole : IsLawfulRun t) (g : BranchId) (a : Answer) (it :
 
   known_ends : a ≡ tran_refusal 2053 g → StepEnd k u.input o.after o.wrote o.sent g a → IsDecided t g
   known_ends asked (Has_decided r y live wrote its alone is) = decided_in_book r y live wrote its
-  known_ends asked (Has_no_site leaves top_is ends is) = absurd (not_complete_known g (sym asked ∙ is))
+  known_ends asked (Has_no_site leaves top_is ends writes is) = absurd (not_complete_known g (sym asked ∙ is))
   known_ends asked (Has_forgotten s row wrote is) = forgot_in_book s row wrote
   known_ends asked (Hears_abort from sb came leaves answers is) = absurd (not_known g (sym is ∙ asked))
   known_ends asked (Is_given_up given leaves is) = absurd (not_known g (sym is ∙ asked))
@@ -398,7 +299,7 @@ module _ (t : History) (whole : IsLawfulRun t) (g : BranchId) (a : Answer) (it :
 
   complete_ends : a ≡ commit_complete → StepEnd k u.input o.after o.wrote o.sent g a → IsDecided t g ⊎ (LeavesUnrecorded k o.after o.wrote o.sent g × HadNoSite t g × IsUndecided t g)
   complete_ends asked (Has_decided r y live wrote its alone is) = inl (decided_in_book r y live wrote its)
-  complete_ends asked (Has_no_site leaves top_is ends is) = inr (leaves, had_no_site t whole hs u it.later it.is k up g leaves.live (l_me leaves) leaves.there top_is ends, undecided_book (drop_undecided leaves))
+  complete_ends asked (Has_no_site leaves top_is ends writes is) = inr (leaves, had_no_site t whole hs u it.later it.is k up g leaves.live (drops.l_me t whole g at leaves) leaves.there top_is ends writes, undecided_book (drop_undecided leaves))
   complete_ends asked (Has_forgotten s row wrote is) = inl (forgot_in_book s row wrote)
   complete_ends asked (Hears_abort from sb came leaves answers is) = absurd (not_complete g (sym is ∙ asked))
   complete_ends asked (Is_given_up given leaves is) = absurd (not_complete g (sym is ∙ asked))

@@ -16,7 +16,7 @@ use Rattle.node_rules.specs.Sessions.{commit_complete, tran_refusal}
 use Rattle.node_rules.specs.Words.{same, one}
 use Rattle.run_rules.specs.Book.{in_doubt, is_sealed_of, is_decided_of, stands}
 use Rattle.run_rules.specs.BranchRecords.{decided_in}
-use Rattle.run_rules.specs.Branches.{Trail, is_among, plan_at, seen_at}
+use Rattle.run_rules.specs.Branches.{Trail, is_among, plan_at, read_at_at, seen_at}
 use Rattle.run_rules.specs.Data.{Entry, Turn}
 use Rattle.run_rules.specs.Data.entries
 use Rattle.run_rules.specs.Data.happenings
@@ -85,6 +85,7 @@ pub data CommitCause (f : Facts) (tr after : Trail) (u : Turn) (g : BranchId) (a
 pub data AnswerCause (f : Facts) (tr after : Trail) (u : Turn) (transaction : Option BranchId) (a : Answer) : Type 0 where
   Has_none : transaction ≡ None → a ≡ commit_complete → AnswerCause f tr after u transaction a
   Needs_rollback : (g : BranchId) (code : ℕ) → transaction ≡ Some g → a ≡ answers.Refused (ora 2067 (one (decimal code))) → AnswerCause f tr after u transaction a  -- nothing ends
+  Is_read_only : (g : BranchId) (scn : ℕ) → transaction ≡ Some g → read_at_at tr g ≡ Some scn → a ≡ commit_complete → AnswerCause f tr after u transaction a  -- it is READ ONLY
   Ends_for : (g : BranchId) → transaction ≡ Some g → CommitCause f tr after u g a → AnswerCause f tr after u transaction a
 
 -- A COMMIT that came at a moment to a node was answered in a turn of that node, then or later, for a cause.

@@ -1,9 +1,10 @@
 -- What the report answers to COMMIT is true. A line that says that a transaction was rolled back is right for ever: no branch
 -- of it is decided in the book, up to the end of the run. A line that says that it is committed has its decision in the book;
--- or the session had no transaction, or none of its session tree had changes. And each of these lines has its cause: what stood in
--- the book, and what came, in the turn that answered it (CommitCauses). A client is told that its node is down just where it is,
--- or stopped while the call was pending (DownLines). (SQL Language Reference: COMMIT; Error Messages:
--- ORA-02050, ORA-02053, ORA-02054, ORA-02067; Database Administrator's Guide, "Distributed Transactions Concepts".)
+-- or the session had no transaction, or none of its session tree had changes, or the transaction was READ ONLY. And each of
+-- these lines has its cause: what stood in the book, and what came, in the turn that answered it (CommitCauses). A client is
+-- told that its node is down just where it is, or stopped while the call was pending (DownLines). (SQL Language Reference:
+-- COMMIT; Error Messages: ORA-02050, ORA-02053, ORA-02054, ORA-02067; Database Administrator's Guide, "Distributed Transactions
+-- Concepts".)
 use Rattle.std.specs.Prelude.{◌≡◌, ◌⊎◌, ℕ, true, List, slice_get, option_map, Option, Some, None}
 use Rattle.node_rules.specs.Data.{Answer, BranchId, Stmt}
 use Rattle.node_rules.specs.Data.answers
@@ -12,7 +13,7 @@ use Rattle.node_rules.specs.Ids.{decimal}
 use Rattle.node_rules.specs.Refusals.{ora}
 use Rattle.node_rules.specs.Sessions.{commit_complete, tran_refusal}
 use Rattle.node_rules.specs.Words.{one}
-use Rattle.run_rules.specs.Branches.{Seen, root_at}
+use Rattle.run_rules.specs.Branches.{Seen, read_at_at, root_at}
 use Rattle.run_rules.specs.Commands.{commits_first}
 use Rattle.run_rules.specs.Data.commands
 use Rattle.run_rules.specs.Each.{trail_upto}
@@ -31,6 +32,7 @@ pub data IsTrueOf (t : History) (transaction : Option BranchId) (a : Answer) : T
   Had_none : transaction ≡ None → a ≡ commit_complete → IsTrueOf t transaction a
   Is_decided : (g : BranchId) → transaction ≡ Some g → a ≡ commit_complete → IsDecided t g → IsTrueOf t transaction a
   Had_no_changes : (g : BranchId) → transaction ≡ Some g → a ≡ commit_complete → HadNoSite t g → IsUndecided t g → IsTrueOf t transaction a
+  Was_read_only : (g : BranchId) (moment scn : ℕ) → transaction ≡ Some g → a ≡ commit_complete → read_at_at (trail_upto t moment) g ≡ Some scn → IsUndecided t g → IsTrueOf t transaction a
   Is_rolled_back : (g : BranchId) → transaction ≡ Some g → a ≡ tran_refusal 2050 g → IsUndecided t g → IsTrueOf t transaction a
   Is_committed : (g : BranchId) → transaction ≡ Some g → a ≡ tran_refusal 2053 g → IsDecided t g → IsTrueOf t transaction a
   Is_in_doubt : (g : BranchId) → transaction ≡ Some g → a ≡ tran_refusal 2054 g → IsTrueOf t transaction a

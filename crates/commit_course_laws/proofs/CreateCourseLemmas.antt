@@ -62,7 +62,7 @@ one_alone (y ∷ z ∷ zs) ys x is some = absurd cc
 
 -- a turn that comes is whole
 whole_next : (node session : ℕ) (q : Past) (h : Happening) → ComesNext node session q h → IsWholeTurn h
-whole_next node session q h (Goes_on _ alone comes) = by h comes
+whole_next node session q h (Goes_on _ _ comes) = by h comes
   where
     by : (g : Happening) → Comes node session q g → IsWholeTurn g
     by _ (Delivery k u at few other whole took) = whole

@@ -161,6 +161,7 @@ module _ (few many : List BranchId) (within : (x : BranchId) → is_among x few 
   calm_turn (inputs.Call session s) none = refl
   calm_turn (inputs.GiveUp session) none = refl
   calm_turn inputs.Reco none = refl
+  calm_turn inputs.Checkpoint none = refl
 
   pub calm_fewer : (hs : List Happening) → AllByRecursion (NoneComesIn many) hs → AllByRecursion (NoneComesIn few) hs
   calm_fewer [] calm = tt

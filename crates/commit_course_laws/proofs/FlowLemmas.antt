@@ -41,6 +41,7 @@ no_create (inputs.Call n s) is = absurd cc
 no_create (inputs.Message m) is = refl
 no_create (inputs.GiveUp n) is = refl
 no_create inputs.Reco is = refl
+no_create inputs.Checkpoint is = refl
 
 -- ---- the one call
 

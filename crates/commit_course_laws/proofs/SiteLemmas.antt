@@ -12,7 +12,7 @@ use Rattle.node_rules.specs.Data.inputs
 use Rattle.node_rules.specs.Data.kinds
 use Rattle.node_rules.specs.Data.records
 use Rattle.node_rules.specs.Data.stmts
-use Rattle.node_rules.specs.Inputs.{Came}
+use Rattle.node_rules.specs.Inputs.{Came, IsCall}
 use Rattle.node_rules.specs.NodeState.{live_id, live_at}
 use Rattle.node_rules.specs.Turn.{turn_of, heard}
 use Rattle.node_rules.specs.Words.{same}
@@ -37,7 +37,7 @@ use Rattle.tree_laws.specs.AskLaws.{way_of}
 use Rattle.tree_laws.proofs.AskRunLemmas.{live_told}
 use Rattle.tree_laws.proofs.AtTurn.{at_turn}
 use Rattle.tree_laws.proofs.DecideLemmas.{cancel}
-use Rattle.tree_laws.proofs.TopStepLemmas.{Finishes, Why, By_record, By_quiet, By_finish, By_abort, By_rollback, By_parent, By_ask, By_call, By_give_up, why_on}
+use Rattle.tree_laws.proofs.TopStepLemmas.{Finishes, At_once, On_answer, Why, By_record, By_quiet, By_finish, By_abort, By_rollback, By_parent, By_ask, By_call, By_reading, By_give_up, why_on}
 use Rattle.run_claims.specs.Undisturbed.{Commit, Undisturbed, SiteHasDecided, is_create}
 use Rattle.commit_laws.specs.StillLaws.{DroppedNone, AbortsNone}
 use Rattle.commit_laws.specs.WaitLaws.{AllCame}
@@ -51,7 +51,7 @@ use Rattle.commit_leave_laws.proofs.PendLemmas.{calm_so}
 use Rattle.commit_leave_laws.proofs.RootActLemmas.{upsets}
 use Rattle.tree_trail_laws.specs.NoSite.{HadNoSite}
 use Rattle.commit_point_laws.proofs.BookLemmas.{decided_stands}
-use Rattle.tree_trail_laws.proofs.NoSiteLemmas.{had_no_site}
+use Rattle.tree_trail_laws.proofs.NoSiteLemmas.{Writes, had_no_site}
 
 -- ---- lists
 
@@ -166,12 +166,14 @@ module _ (t : History) (whole : IsLawfulRun t) (c : Commit t.places t.commands t
     heard_live (inputs.Call n o) b = refl
     heard_live (inputs.GiveUp n) b = refl
     heard_live inputs.Reco b = refl
+    heard_live inputs.Checkpoint b = refl
 
     heard_fits : (input : Input) → SessionsFit (heard k input)
     heard_fits (inputs.Message y) = record { roots = fit.roots; above = fit.above }
     heard_fits (inputs.Call n o) = fit
     heard_fits (inputs.GiveUp n) = fit
     heard_fits inputs.Reco = fit
+    heard_fits inputs.Checkpoint = fit
 
     before : Before w.input k
     before = before_so t.places t.commands t.of_a_script.each f (events_of s) (births_of s) (run_births s lawful) (run_roots s lawful) w k may.1
@@ -193,10 +195,21 @@ module _ (t : History) (whole : IsLawfulRun t) (c : Commit t.places t.commands t
     finishes (By_parent from came above) = upset from kinds.RolledBack came refl
     finishes (By_ask from came above) = upset from kinds.Ask came refl
     finishes (By_call n call at root) = absurd (other_input (inputs.Call n (Some stmts.Rollback)) call (λ m comment no. absurd cc) (λ m no. absurd cc) refl)
+    finishes (By_reading n comment scn call reads at root) =
+        absurd (drop.reads_not t whole c u all it w fine.is fine.uncut fine refl comment scn (subst (λ m. IsCall w.input m (stmts.Commit comment)) (sym at) call) reads)
     finishes (By_give_up n gives root pends) = absurd (other_input (inputs.GiveUp n) gives (λ m comment no. absurd cc) (λ m no. absurd cc) refl)
 
+    -- a root whose client commits is not READ ONLY
+    writer : (o : Option ℕ) → l.read_at ≡ o → (given : Option (List ℕ)) → IsCall w.input r.session (stmts.Commit given) → l.read_at ≡ None
+    writer None writes given call = writes
+    writer (Some scn) reads given call = absurd (drop.reads_not t whole c u all it w fine.is fine.uncut fine refl given scn call reads)
+
+    writes : Finishes w.input r l k.sessions → Writes w.input l
+    writes (At_once n given call has code none nowhere) m comment commits = writer l.read_at refl given (subst (λ i. IsCall w.input i (stmts.Commit given)) (sym (fit.roots.each n r has)) call)
+    writes (On_answer from v sb answers other answered nowhere) m comment commits = (let message = answers.came.is in absurd (cc (message, commits)))
+
     siteless : HadNoSite t r
-    siteless = had_no_site t whole hs w it.later is k may.1.up r l me was top (finishes why)
+    siteless = (let ends = finishes why in had_no_site t whole hs w it.later is k may.1.up r l me was top ends (writes ends))
 
   -- ---- the walk has ended
 

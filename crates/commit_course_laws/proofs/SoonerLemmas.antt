@@ -88,7 +88,7 @@ module _ (complete : UndisturbedCommitsAreComplete) (t : History) (lawful : IsLa
     sooner = c.before ++ happenings.Turn c.call ∷ done
 
     abbrev c' : Commit t.places t.commands sooner
-    c' = record { before = c.before; call = c.call; during = done; is = refl; session = c.session; comment = c.comment; asks = c.asks; kept = c.kept; up = c.up; root = c.root; of = c.of; live = c.live; there = c.there }
+    c' = record { before = c.before; call = c.call; during = done; is = refl; session = c.session; comment = c.comment; asks = c.asks; kept = c.kept; up = c.up; root = c.root; of = c.of; live = c.live; there = c.there; writer = c.writer }
 
     all_is : sooner ++ rest ≡ front
     all_is = append_assoc c.before (happenings.Turn c.call ∷ done) rest ∙ (ap (λ hs. c.before ++ happenings.Turn c.call ∷ hs) is ∙ c.is)

@@ -1,6 +1,6 @@
 -- The COMMITs of the tried scripts are quiet. What is asked of one is tested, each test once and by computation, and lemmas say
 -- what the tests tell.
-use Rattle.std.proofs.Common.{◌≡◌, ℕ, ◌==◌, ◌&&◌, not, Bool, true, false, List, [], ◌∷◌, ◌++◌, option_map, Option, Some, None, is_some, is_none, refl, sym, ap, subst, ◌∙◌, append-nil}
+use Rattle.std.proofs.Common.{◌≡◌, ℕ, ◌==◌, ◌&&◌, not, Bool, true, false, List, [], ◌∷◌, ◌++◌, option_map, Option, Some, None, is_none, refl, sym, ap, subst, ◌∙◌, append-nil}
 use Rattle.std.specs.Prelude.{replicate}
 use Rattle.std.specs.Option.{option_to_list}
 use Rattle.std.specs.List.{AllByRecursion, list_all}
@@ -78,10 +78,15 @@ this_so : (b : BranchId) (o : Option BranchId) → is_this b o ≡ true → o �
 this_so b None is = absurd cc
 this_so b (Some x) is = ap Some (equal_from_same x b is)
 
+-- whether a branch is live, and not of a READ ONLY transaction
+abbrev is_writer : Option Live → Bool
+is_writer None = false
+is_writer (Some l) = is_none l.read_at
+
 -- whether a branch is the root of session 1, and goes on
 abbrev has_root : BranchId → Option NodeState → Bool
 has_root b None = false
-has_root b (Some k) = is_this b (session_at k.sessions 1).root && (is_some (live_at k b) && is_none (session_at k.sessions 1).code)
+has_root b (Some k) = is_this b (session_at k.sessions 1).root && (is_writer (live_at k b) && is_none (session_at k.sessions 1).code)
 
 -- What a node keeps of it.
 record HasRoot (b : BranchId) (o : Option NodeState) : Type 0 where
@@ -90,23 +95,24 @@ record HasRoot (b : BranchId) (o : Option NodeState) : Type 0 where
   of : (session_at kept.sessions 1).root ≡ Some b
   live : Live
   there : live_at kept b ≡ Some live
+  writer : live.read_at ≡ None
   goes_on : (session_at kept.sessions 1).code ≡ None
-
-some_of : {A : Type 0} (o : Option A) → is_some o ≡ true → (x : A) × (o ≡ Some x)
-some_of (Some x) is = (x, refl)
-some_of None is = absurd cc
 
 none_of : {A : Type 0} (o : Option A) → is_none o ≡ true → o ≡ None
 none_of (Some x) is = absurd cc
 none_of None is = refl
 
+writer_of : (o : Option Live) → is_writer o ≡ true → (l : Live) × (o ≡ Some l) × (l.read_at ≡ None)
+writer_of (Some l) is = (l, refl, none_of l.read_at is)
+writer_of None is = absurd cc
+
 root_so : (b : BranchId) (o : Option NodeState) → has_root b o ≡ true → HasRoot b o
 root_so b None is = absurd cc
 root_so b (Some k) is =
-    let parts = and_parts (is_this b (session_at k.sessions 1).root) (is_some (live_at k b) && is_none (session_at k.sessions 1).code) is in
-    let others = and_parts (is_some (live_at k b)) (is_none (session_at k.sessions 1).code) parts.1 in
-    let live = some_of (live_at k b) others.0 in
-    record { kept = k; up = refl; of = this_so b (session_at k.sessions 1).root parts.0; live = live.0; there = live.1; goes_on = none_of (session_at k.sessions 1).code others.1 }
+    let parts = and_parts (is_this b (session_at k.sessions 1).root) (is_writer (live_at k b) && is_none (session_at k.sessions 1).code) is in
+    let others = and_parts (is_writer (live_at k b)) (is_none (session_at k.sessions 1).code) parts.1 in
+    let live = writer_of (live_at k b) others.0 in
+    record { kept = k; up = refl; of = this_so b (session_at k.sessions 1).root parts.0; live = live.0; there = live.1; writer = live.2; goes_on = none_of (session_at k.sessions 1).code others.1 }
 
 -- whether what comes next is a turn that is whole
 abbrev is_whole : Option Happening → Bool
@@ -252,6 +258,7 @@ module _ (asked : List Command) (of : AreOfAScript tried.places asked) (follows 
     of = rooted.of;
     live = rooted.live;
     there = rooted.there;
+    writer = rooted.writer;
   }
 
   own : (s : Stmt) → command_at asked 6 ≡ commands.At 1 1 (Some s) → command_at asked (facts_by tried.places asked commit.before).command ≡ commands.At commit.call.node 1 (Some s)

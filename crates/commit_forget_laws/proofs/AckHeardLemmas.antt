@@ -18,7 +18,6 @@ use Rattle.node_rules.specs.Words.{item_at, put_item}
 use Rattle.node_rules.specs.NodeState.{NodeState, Branch, TurnDraft, kept_row_id, live_id, branch_at, kept_row_at, with_kept_row, nothing}
 use Rattle.node_rules.specs.Commit.{next_turn, counts_ack, on_ack}
 use Rattle.node_rules.specs.Turn.{live_or, status_of, turn_of, heard, draft_of, kind_turn, ack_turn}
-use Rattle.run_rules.specs.Data.{Turn}
 use Rattle.run_rules.specs.Data.happenings
 use Rattle.run_base_laws.specs.EventRows.{RowIs, MayStand}
 use Rattle.run_rules.specs.Facts.{place_at, node_at, kept_after}
@@ -177,6 +176,7 @@ module _ (t : History) (whole : IsLawfulRun t) (m : Msg) (came : CameInTurn t.tr
         heard_same j (inputs.Call n c) = refl
         heard_same j (inputs.GiveUp n) = refl
         heard_same j inputs.Reco = refl
+        heard_same j inputs.Checkpoint = refl
 
     pub ack_noted : IsNoted (facts_at t) m.from m.to
     ack_noted = here_end t whole b Q keeps after came.later (append_assoc hs (h ∷ []) came.later ∙ came.is) (here.left_after t whole m came some) (by_cut u.cut refl)

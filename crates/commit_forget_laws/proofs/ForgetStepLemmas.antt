@@ -39,8 +39,10 @@ acked_says ks s from says stands (Some _) is = tt
 
 module _ (p : Place) (input : Input) where
   pub forgot_says : {k : NodeState} {d : TurnDraft} → Step p input k d → IfSome d.wrote (SaysForgot k.stored.durable.kept d.says)
-  forgot_says (steps.Begins n s call rows range none step) = forgot_says step
-  forgot_says (steps.Pends n l given call has live code step) = forgot_says step
+  forgot_says (steps.Begins n s read_at call begins range none step) = forgot_says step
+  forgot_says (steps.Counts_call n s call counts step) = forgot_says step
+  forgot_says (steps.Goes_back x step goes next) = forgot_says next
+  forgot_says (steps.Pends n l given call has live code writer step) = forgot_says step
   forgot_says (steps.Lets_reads_go l comment below live begins step) = forgot_says step
   forgot_says (steps.Counts_ack {k = k} {d = d} s from kept came counts step) = acked_says k.stored.durable.kept s from d.says kept d.wrote (forgot_says step)
   forgot_says (steps.Acts l below acts.Rest why) = tt

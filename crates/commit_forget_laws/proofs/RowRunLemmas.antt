@@ -66,6 +66,7 @@ ack_or_none {P = P} (inputs.Message m) never acks = by (is_ack m.kind) refl
 ack_or_none (inputs.Call n c) never acks = never (λ from to came. (let no = came.is in absurd (cc no)))
 ack_or_none (inputs.GiveUp n) never acks = never (λ from to came. (let no = came.is in absurd (cc no)))
 ack_or_none inputs.Reco never acks = never (λ from to came. (let no = came.is in absurd (cc no)))
+ack_or_none inputs.Checkpoint never acks = never (λ from to came. (let no = came.is in absurd (cc no)))
 
 -- with more events alone
 pub tells_later : (said : List Post) (t r : List Event) (bound : ℕ) (s : KeptRow) → Stays t r s.me → Tells said t bound s → Tells said r bound s

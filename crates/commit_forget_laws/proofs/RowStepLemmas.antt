@@ -9,7 +9,7 @@ use Rattle.redo_record.specs.Durable.{durable_after}
 use Rattle.redo_record.specs.Kept.{stands_at, ended_commit, forced_state, in_state, met_as, hidden_as, kept_after}
 use Rattle.redo_record.specs.Rows.{sealed_as, decided_as, has_neighbors}
 use Rattle.agreement.specs.Events.{Event, Seal, Decide, Force, Learn, Forget, Make, exit, Has}
-use Rattle.node_rules.specs.Data.{BranchId, Decision, Input, Place, Post, RedoRecord, KeptRow, State, Sealed as SealedRecord, Decided as DecidedRecord}
+use Rattle.node_rules.specs.Data.{BranchId, Decision, Input, Place, Post, RedoRecord, KeptRow, State, Sealed as SealedRecord, Decided as DecidedRecord, Image}
 use Rattle.node_rules.specs.Data.acts
 use Rattle.node_rules.specs.Data.decisions
 use Rattle.node_rules.specs.Data.kinds
@@ -32,6 +32,7 @@ use Rattle.run_base_laws.proofs.TurnEventLemmas.{all_both}
 use Rattle.commit_forget_laws.specs.RowLaws.{is_forced, IsSealed}
 use Rattle.commit_forget_laws.proofs.TellLemmas.{Tells, TellsBut, rows_changed, rows_left, stays_with, stays_same, tells_stays}
 use Rattle.commit_forget_laws.proofs.RowLemmas.{sealed_tells, decided_tells, ended_tells, met_tells, met_rollback_tells, forced_tells, hidden_tells, forgot_tells}
+use Rattle.node_rules.specs.Images.{image_at}
 
 -- the neighbours beyond a branch that becomes sealed, or decides, are sealed
 abbrev pub RecordVoted : List Event → RedoRecord → Type 0
@@ -172,12 +173,23 @@ module _ (said : List Post) (t : List Event) (bound node : ℕ) (known : (b : Br
   unfolding applied durable_after
   param_rows st says on all = more says st.durable.kept all
 
+  strength_rows : (st : Stored) (says : List Post) (strength : ℕ) → AllTell st.durable.kept → AllByRecursion (Tells (said ++ says) t bound) (applied st (records.Param (params.Strength strength))).durable.kept
+  unfolding applied durable_after
+  strength_rows st says strength all = more says st.durable.kept all
+
+  -- an image leaves the rows as they are
+  image_rows : (st : Stored) (says : List Post) (i : Image) → AllTell st.durable.kept → AllByRecursion (Tells (said ++ says) t bound) (applied st (records.Image i)).durable.kept
+  unfolding applied durable_after kept_after
+  image_rows st says i all = more says st.durable.kept all
+
   -- ---- steps
 
   module _ (p : Place) (input : Input) (no : (from to : BranchId) → Came input from to kinds.Ack → ⊥) where
     pub rows_on : {k : NodeState} {d : TurnDraft} → Step p input k d → IfSome d.wrote (MayStand t) → IfSome d.wrote (RecordVoted t) → Found k.stored.durable.kept → AllTell k.stored.durable.kept → After d
-    rows_on (steps.Begins n s call rows range none step) may voted found all = rows_on step may voted found all
-    rows_on (steps.Pends n l given call has live code step) may voted found all = rows_on step may voted found all
+    rows_on (steps.Begins n s read_at call begins range none step) may voted found all = rows_on step may voted found all
+    rows_on (steps.Counts_call n s call counts step) may voted found all = rows_on step may voted found all
+    rows_on (steps.Goes_back x step goes next) may voted found all = rows_on next may voted found all
+    rows_on (steps.Pends n l given call has live code writer step) may voted found all = rows_on step may voted found all
     rows_on (steps.Lets_reads_go l comment below live begins step) may voted found all = rows_on step may voted found all
     rows_on (steps.Counts_ack s from kept came counts step) may voted found all = absurd (no from s.me came)
     rows_on (steps.Acts {k = k} l below acts.Seal why) may voted found all = seal_rows k.stored _ (sealed_of k.clock l (own_changes k l.me) None) may voted all
@@ -190,9 +202,11 @@ module _ (said : List Post) (t : List Event) (bound node : ℕ) (known : (b : Br
     rows_on (steps.Makes_record {k = k} n s r d call (steps.Makes_link x free)) may voted found all = link_rows k.stored _ x all
     rows_on (steps.Makes_record {k = k} n s r d call (steps.Makes_synonym x free)) may voted found all = synonym_rows k.stored _ x all
     rows_on (steps.Makes_record {k = k} n s r d call (steps.Sets_recovery on)) may voted found all = param_rows k.stored _ on all
+    rows_on (steps.Makes_record {k = k} n s r d call (steps.Sets_strength strength)) may voted found all = strength_rows k.stored _ strength all
     rows_on (steps.Forces_given {k = k} n id m b call named) may voted found all = forced_rows k.stored [] b (decisions.Commit m) true all
     rows_on (steps.Forces_commit {k = k} n id b call named) may voted found all = forced_rows k.stored [] b (decisions.Commit (k.clock + 1)) false all
     rows_on (steps.Forces_rollback {k = k} n id b call named) may voted found all = forced_rows k.stored [] b decisions.Rollback false all
     rows_on (steps.Hides {k = k} n mixed id s call is) may voted found all = hidden_rows k.stored [] s.me all
+    rows_on (steps.Images {k = k} is) may voted found all = image_rows k.stored [] (image_at k.stored k.clock) all
     rows_on (steps.Gives_up_commit n b None gives has calls live) may voted found all = more _ _ all
     rows_on _ may voted found all = more _ _ all

@@ -7,10 +7,11 @@ use Rattle.node_rules.specs.declared.session.PendingCall.TheVariants as pending
 use Rattle.node_rules.specs.Inputs.{IsCall}
 use Rattle.node_rules.specs.NodeState.{NodeState, live_at}
 use Rattle.node_rules.specs.Sessions.{session_at, with_call}
-use Rattle.node_rules.specs.Client.{begun_by}
-use Rattle.node_rules.proofs.Steps.{HasRoot, IsOfRows}
+use Rattle.node_rules.specs.Client.{begun_by, counted}
+use Rattle.node_rules.proofs.Steps.{HasRoot, BeginsBy, IsCounted}
 use Rattle.node_rules.proofs.StandLemmas.{call_set}
 use Rattle.run_base_laws.proofs.LiveStepLemmas.{LastsInTurn}
+use Rattle.run_base_laws.proofs.BeginLemmas.{MayBegin, may_begin}
 
 module _ (Q : Live → Type 0) (p : Place) (input : Input) where
   -- it is so of the live root of the session to which a COMMIT comes
@@ -21,8 +22,12 @@ module _ (Q : Live → Type 0) (p : Place) (input : Input) where
   one_call n m s t first second = let it : inputs.Call n (Some s) ≡ inputs.Call m (Some t) = sym first ∙ second in (cc, cc)
 
   -- a transaction begins: then no COMMIT comes
-  pub begun_commit : (k : NodeState) (n : ℕ) (s : Stmt) → IsCall input n s → IsOfRows s → OfCommit (begun_by p k n None)
-  begun_commit k n s call rows m given l commit has live = let it : s ≡ stmts.Commit given = (one_call n m s (stmts.Commit given) call commit).1 in absurd (subst IsOfRows it rows)
+  pub begun_commit : (k : NodeState) (n : ℕ) (s : Stmt) (read_at : Option ℕ) → IsCall input n s → BeginsBy k.clock s read_at → OfCommit (begun_by p k n read_at None)
+  begun_commit k n s read_at call begins m given l commit has live = let it : s ≡ stmts.Commit given = (one_call n m s (stmts.Commit given) call commit).1 in absurd (subst MayBegin it (may_begin begins))
+
+  -- a call is counted: then it is no COMMIT
+  pub counted_commit : (k : NodeState) (n : ℕ) (s : Stmt) → IsCall input n s → IsCounted s → OfCommit (counted k n)
+  counted_commit k n s call counts m given l commit has live = let it : s ≡ stmts.Commit given = (one_call n m s (stmts.Commit given) call commit).1 in absurd (subst IsCounted it counts)
 
   -- the COMMIT is pending
   pub pends_commit : (k : NodeState) (n : ℕ) (l : Live) (given : Option (List ℕ)) → IsCall input n (stmts.Commit given) → HasRoot k n l.me → OfCommit k → OfCommit (record k { sessions = with_call k.sessions n pending.Commit })
@@ -34,4 +39,11 @@ module _ (Q : Live → Type 0) (p : Place) (input : Input) where
 
   -- so it is known through a turn
   pub commit_lasts : LastsInTurn p input OfCommit
-  commit_lasts = record { begun = λ k n s call rows free so. begun_commit k n s call rows; pends = λ k n l given call has so. pends_commit k n l given call has so; lets = λ k b so. so; acked = λ k s from kept came so. so }
+  commit_lasts = record {
+    begun = λ k n s read_at call begins free so. begun_commit k n s read_at call begins;
+    counts = λ k n s call counts so. counted_commit k n s call counts;
+    backs = λ k x step goes so. so;
+    pends = λ k n l given call has so. pends_commit k n l given call has so;
+    lets = λ k b so. so;
+    acked = λ k s from kept came so. so;
+  }

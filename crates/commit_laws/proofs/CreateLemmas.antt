@@ -37,6 +37,7 @@ module _ (p : Place) (k : NodeState) where
   create_leaves (inputs.Message m) is = absurd cc
   create_leaves (inputs.GiveUp n) is = absurd cc
   create_leaves inputs.Reco is = absurd cc
+  create_leaves inputs.Checkpoint is = absurd cc
 
   -- and it is answered in its own turn
   pub create_answers : (n : _) (s : Stmt) → commits_first s ≡ true → (a : Answer) × ((draft_of p k (inputs.Call n (Some s))).ended ≡ (record { session = n; answer = a }) ∷ [])
@@ -52,6 +53,7 @@ create_takes_none f k node (inputs.Call n s) (Some i) is comes = absurd comes
 create_takes_none f k node (inputs.Message m) took is comes = absurd cc
 create_takes_none f k node (inputs.GiveUp n) took is comes = absurd cc
 create_takes_none f k node inputs.Reco took is comes = absurd cc
+create_takes_none f k node inputs.Checkpoint took is comes = absurd cc
 
 -- it is a client's call, of a statement that commits first
 pub create_call : (input : Input) → is_create input ≡ true → (n : _) × (s : Stmt) × IsCall input n s × (commits_first s ≡ true)
@@ -60,3 +62,4 @@ create_call (inputs.Call n None) is = absurd cc
 create_call (inputs.Message m) is = absurd cc
 create_call (inputs.GiveUp n) is = absurd cc
 create_call inputs.Reco is = absurd cc
+create_call inputs.Checkpoint is = absurd cc

@@ -4,7 +4,6 @@ use Rattle.std.specs.List.{AllByRecursion}
 use Rattle.std.proofs.lemmas.Bool.{cond_both}
 use Rattle.session_tree.specs.Live.{new_edge}
 use Rattle.node_rules.specs.Data.{Live, BranchId, Edge, Kind, Vote, Place, Input}
-use Rattle.node_rules.specs.Data.acts
 use Rattle.node_rules.specs.Data.phases
 use Rattle.node_rules.specs.Data.votes
 use Rattle.node_rules.specs.Words.{numbered, set_numbered}
@@ -71,7 +70,7 @@ module _ (b : BranchId) (c : Option BranchId) (p : Place) (input : Input) where
   CallsOther k = OfCommit (λ l. l.me ≢ b) p input k
 
   begins_not : (k : NodeState) (l : Live) {comment : List ℕ} {below : Bool} → CallsOther k → live_at k l.me ≡ Some l → Collects k input l comment below → IfMe l → l.me ≢ b
-  begins_not k l other live (steps.By_commit n given call has code is) so = other n given l call has live
+  begins_not k l other live (steps.By_commit n given call has code writer is) so = other n given l call has live
   begins_not k l other live (steps.By_prepare from _ came working) so = λ is. (so is).busy working
 
   voted_so : (l : Live) (from : BranchId) (v : Vote) {below : Bool} → steps.Answers input l from v below → IfMe l → IfMe (voted l from v)
@@ -83,10 +82,11 @@ module _ (b : BranchId) (c : Option BranchId) (p : Place) (input : Input) where
   each : LiveCases p input Known (λ d. Unit {0}) IfMe
   each = record {
     lasts = both_last (news_lasts (λ y. y.me ≢ b) p input) (commit_lasts (λ l. l.me ≢ b) p input);
-    root = λ k n s call rows free known is. absurd (known.0.root n s call rows free is);
-    child = λ k to parent edge root depth came new known is. absurd (known.0.child to parent edge root depth came new is);
+    root = λ k n s read_at call begins free known is. absurd (known.0.root n s read_at call begins free is);
+    child = λ k to parent edge root depth read_at came new known is. absurd (known.0.child to parent edge root depth read_at came new is);
     advised = λ l advice so is. (let old : Served c l = so is in record { busy = old.busy; has = old.has });
     runs = λ k x s t so is. (let old : Served c x.live = so is in record { busy = old.busy; has = old.has });
+    backs = λ l changed so is. (let old : Served c l = so is in record { busy = old.busy; has = old.has });
     opens = λ k x from strength g link opened known so is.
         (let old : Served c x.live = so is in record { busy = old.busy; has = all_append (Has c) x.live.edges (new_edge from link strength ∷ []) old.has (fresh_edge c from link strength, tt) });
     replies = λ k x weight count a i e answered so is.

@@ -129,4 +129,6 @@ took_it f k node (inputs.Call n s) None comes j x is at = absurd cc
 took_it f k node (inputs.GiveUp n) (Some i) comes j x is at = absurd comes
 took_it f k node (inputs.GiveUp n) None comes j x is at = absurd cc
 took_it f k node inputs.Reco (Some i) comes j x is at = absurd comes
+took_it f k node inputs.Checkpoint (Some i) comes j x is at = absurd comes
 took_it f k node inputs.Reco None comes j x is at = absurd cc
+took_it f k node inputs.Checkpoint None comes j x is at = absurd cc

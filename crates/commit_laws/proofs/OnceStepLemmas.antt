@@ -1,5 +1,5 @@
 -- Which steps of a node say Prepare: those in which the collect of a working branch with children begins.
-use Rattle.std.proofs.Common.{◌≡◌, ℕ, ◌+◌, ◌-◌, Bool, List, map, length, Option, Some, inl, inr, refl, subst}
+use Rattle.std.proofs.Common.{◌≡◌, ℕ, ◌+◌, Bool, List, map, length, Option, Some, inl, inr, refl, subst}
 use Rattle.std.specs.Prelude.{◌⊎◌}
 use Rattle.commit_forget.specs.declared.next.Next.TheVariants as nexts
 use Rattle.session_tree.specs.Live.{children_of, peer_of, new_edge}
@@ -9,8 +9,8 @@ use Rattle.node_rules.specs.Data.acts
 use Rattle.node_rules.specs.Data.kinds
 use Rattle.node_rules.specs.Data.phases
 use Rattle.node_rules.specs.NodeState.{NodeState, TurnDraft, live_at, to_one, to_each}
-use Rattle.node_rules.specs.Calls.{with_edge, hears_reply}
-use Rattle.node_rules.specs.Statement.{ran, after_run}
+use Rattle.node_rules.specs.Calls.{with_edge, hears_reply, branch_ran, less_room}
+use Rattle.node_rules.specs.Statement.{ran}
 use Rattle.node_rules.specs.Prepare.{path_of, with_prepare_sent, collecting, with_comment, prepares, site_neighbors, act_turn}
 use Rattle.node_rules.specs.Recovery.{kept_told}
 use Rattle.node_rules.proofs.Steps as steps
@@ -20,8 +20,11 @@ use Rattle.run_base_laws.proofs.KindSayLemmas.{AllSay, one_says, each_says, told
 use Rattle.run_rules.proofs.ListLemmas.{all_append}
 use Rattle.run_branch_laws.proofs.QuietLemmas.{NoRows, acting_apart}
 use Rattle.tree_laws.proofs.WhyLemmas.{Near}
-use Rattle.commit_laws.proofs.CommitCallLemmas.{OfCommit, begun_commit, pends_commit}
+use Rattle.commit_laws.proofs.CommitCallLemmas.{OfCommit, begun_commit, pends_commit, counted_commit}
 use Rattle.tree_laws.proofs.AskStepLemmas.{answer_plain, exec_plain}
+use Rattle.run_base_laws.proofs.BeginLemmas.{may_begin}
+use Rattle.node_rules.specs.Names.{passed_on}
+use Rattle.node_rules.specs.declared.work.Errand.TheVariants as errands
 
 -- ---- messages that are no Prepare
 
@@ -60,7 +63,7 @@ module _ (k0 : NodeState) (p : Place) (input : Input) where
     near_live l live = subst (λ ls. live_at (record k0 { lives = ls }) l.me ≡ Some l) near.lives live
 
     was_working : (l : Live) {comment : List ℕ} {below : Bool} → live_at k l.me ≡ Some l → Collects k input l comment below → l.phase ≡ phases.Working
-    was_working l live (steps.By_commit n given call has code is) = work n given l call has live
+    was_working l live (steps.By_commit n given call has code writer is) = work n given l call has live
     was_working l live (steps.By_prepare from below came working) = working
 
     asking : {l : Live} {below : Bool} {a : Act} → Acting k input l below a → a ≡ acts.AskDown → AsksDown k0 (act_turn k l below acts.AskDown).says
@@ -84,19 +87,24 @@ module _ (k0 : NodeState) (p : Place) (input : Input) where
     acts_ask {l = l} acts.Abandon why = inl (all_append (λ x. IsPlain x.kind) (to_one l.me kinds.Abort l.parent) _ (one_says IsPlain l.me kinds.Abort l.parent refl) (rolled_plain l))
 
   pub asks_on : {k : NodeState} {d : TurnDraft} → Step p input k d → (NoRows input → Near k0 k) → FindsWork k → Asks d.says
-  asks_on (steps.Begins {k = k} n s call rows range none step) near work = asks_on step (λ apart. absurd (apart n s call rows)) (begun_commit (λ l. l.phase ≡ phases.Working) p input k n s call rows)
-  asks_on (steps.Pends {k = k} n l given call has live code step) near work = asks_on step (λ apart. (let is = near apart in record { lives = is.lives; clock = is.clock })) (pends_commit (λ l. l.phase ≡ phases.Working) p input k n l given call has work)
+  asks_on (steps.Begins {k = k} n s read_at call begins range none step) near work = asks_on step (λ apart. absurd (apart n s call (may_begin begins))) (begun_commit (λ l. l.phase ≡ phases.Working) p input k n s read_at call begins)
+  asks_on (steps.Counts_call {k = k} n s call counts step) near work =
+      asks_on step (λ apart. (let is = near apart in record { lives = is.lives; clock = is.clock })) (counted_commit (λ l. l.phase ≡ phases.Working) p input k n s call counts)
+  asks_on (steps.Goes_back {k = k} x step goes next) near work = asks_on next (λ apart. (let is = near apart in record { lives = is.lives; clock = is.clock })) work
+  asks_on (steps.Pends {k = k} n l given call has live code writer step) near work = asks_on step (λ apart. (let is = near apart in record { lives = is.lives; clock = is.clock })) (pends_commit (λ l. l.phase ≡ phases.Working) p input k n l given call has work)
   asks_on (steps.Lets_reads_go {k = k} l comment b live begins step) near work = asks_on step (λ apart. (let is = near apart in record { lives = is.lives; clock = is.clock })) work
   asks_on (steps.Counts_ack {k = k} s from kept came counts step) near work = asks_on step (λ apart. (let is = near apart in record { lives = is.lives; clock = is.clock })) work
   asks_on (steps.Sends says why) near work = inl (says_plain why)
-  asks_on (steps.Runs {k = k} x s given t asked way) near work = inl (answer_plain (record x { live = after_run x.live (ran p k x.live.me s t) }) _ x.live.parent)
+  asks_on (steps.Runs {k = k} x s given t asked way) near work = inl (answer_plain (branch_ran k.sessions x t (ran p k x.live.me s t)) _ x.live.parent)
   asks_on (steps.Goes_nowhere x s given r asked way) near work = inl (answer_plain x _ x.live.parent)
-  asks_on (steps.Calls {k = k} x s given i table asked way) near work = inl (exec_plain k.sessions x i _ given (peer_of x.live i))
+  asks_on (steps.Calls {k = k} x s given i table asked way) near work = inl (exec_plain k.sessions x i (errands.Statement (passed_on s table) given) (peer_of x.live i))
   asks_on (steps.Opens x s given node link table asked way) near work = inl (refl, tt)
   asks_on (steps.Goes_on {k = k} x from strength g link opened) near work =
-      inl (exec_plain k.sessions (with_edge x (new_edge from link strength)) (length x.live.edges + 1) g.statement (g.room - 1) (peer_of (with_edge x (new_edge from link strength)).live (length x.live.edges + 1)))
+      inl (exec_plain k.sessions (with_edge x (new_edge from link strength)) (length x.live.edges + 1) (less_room g.errand) (peer_of (with_edge x (new_edge from link strength)).live (length x.live.edges + 1)))
   asks_on (steps.Hears_reply x weight count a i e answered) near work = inl (answer_plain (hears_reply x i weight count e) _ x.live.parent)
-  asks_on (steps.Opens_branch to parent edge root depth came new) near work = inl (refl, tt)
+  asks_on (steps.Backs {k = k} x step from i calls next) near work = inl (exec_plain k.sessions x i (errands.GoBack step) (peer_of x.live i))
+  asks_on (steps.Is_back x step from calls none) near work = inl (answer_plain x _ x.live.parent)
+  asks_on (steps.Opens_branch to parent edge root depth read_at came new) near work = inl (refl, tt)
   asks_on (steps.Acts {k = k} l b a why) near work = acts_ask k (near (acting_apart why)) work a why
   asks_on (steps.Drops_told l live drops) near work = inl (rolled_plain l)
   asks_on (steps.Drops_asked l from live came parent) near work = inl (refl, rolled_plain l)
@@ -106,6 +114,6 @@ module _ (k0 : NodeState) (p : Place) (input : Input) where
   asks_on (steps.Does s from nexts.Forget kept why) near work = inl (each_says IsPlain s.me kinds.Forgotten _ refl)
   asks_on (steps.Does s from nexts.SayForgotten kept why) near work = inl (refl, tt)
   asks_on (steps.Does s from nexts.SayAck kept why) near work = inl (refl, tt)
-  asks_on (steps.Rolls_back n x call has live) near work = inl (rolled_plain x.live)
+  asks_on (steps.Leaves n s d x call ends has live) near work = inl (rolled_plain x.live)
   asks_on (steps.Gives_up_commit n b (Some l) gives has calls live) near work = inl (rolled_plain l)
   asks_on _ near work = inl tt

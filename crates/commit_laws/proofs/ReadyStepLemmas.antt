@@ -3,7 +3,6 @@ use Rattle.std.proofs.Common.{◌≡◌, ◌&&◌, ◌||◌, Bool, true, false, 
 use Rattle.std.specs.List.{AllByRecursion}
 use Rattle.tran_ids.proofs.BranchLemmas.{same_from_equal}
 use Rattle.node_rules.specs.Data.{Live, BranchId, Kind, Place, Post, Input}
-use Rattle.node_rules.specs.Data.acts
 use Rattle.node_rules.specs.Data.kinds
 use Rattle.node_rules.specs.Data.phases
 use Rattle.node_rules.specs.Words.{same}
@@ -43,10 +42,11 @@ module _ (all : List Post) where
     each : LiveCases p input (λ k. Unit {0}) (λ d. Adds d.says) Answered
     each = record {
       lasts = nothing_lasts p input;
-      root = λ k n s call rows free c is. absurd cc;
-      child = λ k to parent edge root depth came new c is. absurd cc;
+      root = λ k n s read_at call begins free c is. absurd cc;
+      child = λ k to parent edge root depth read_at came new c is. absurd cc;
       advised = λ l advice so. so;
       runs = λ k x s t so. so;
+      backs = λ l changed so. so;
       opens = λ k x from strength g link opened c so. so;
       replies = λ k x weight count a i e answered so. so;
       acts = λ k l below a why c adds all.

@@ -17,7 +17,7 @@ use Rattle.agreement.specs.Events.{Exit, Sealed, Decided}
 use Rattle.node_rules.specs.Data.records
 use Rattle.run_rules.specs.Trail.{recorded_exit}
 use Rattle.run_base_laws.proofs.RootLemmas.{SessionsFit, root_alone}
-use Rattle.tree_laws.proofs.TopStepLemmas.{Why, By_record, By_quiet, By_finish, By_abort, By_rollback, By_parent, By_ask, By_call, By_give_up, why_on}
+use Rattle.tree_laws.proofs.TopStepLemmas.{Why, By_record, By_quiet, By_finish, By_abort, By_rollback, By_parent, By_ask, By_call, By_reading, By_give_up, why_on}
 
 -- ---- ReadOnly
 
@@ -69,6 +69,7 @@ module _ (p : Place) (input : Input) (b : BranchId) (z : Live) (below : z.parent
     reason wrote says sent quiet (By_parent from came above) = Is_rolled_back from came (is_parent from z.parent above)
     reason wrote says sent quiet (By_ask from came above) = Is_asked from came (is_parent from z.parent above)
     reason wrote says sent quiet (By_call n call at root) = absurd (below root)
+    reason wrote says sent quiet (By_reading n comment scn call reads at root) = absurd (below root)
     reason wrote says sent quiet (By_give_up n gives has calls) = absurd (below (root_alone k fit n b has z live))
 
   pub leaves_on : {k : NodeState} {d : TurnDraft} → Step p input k d → SessionsFit k → live_at k b ≡ Some z → live_at d.after b ≡ None

@@ -35,6 +35,7 @@ heard_fits k fit (inputs.Message m) = record { roots = fit.roots; above = fit.ab
 heard_fits k fit (inputs.Call n s) = fit
 heard_fits k fit (inputs.GiveUp n) = fit
 heard_fits k fit inputs.Reco = fit
+heard_fits k fit inputs.Checkpoint = fit
 
 module _ (t : History) (whole : IsLawfulRun t) (hs : List Happening) (rest : List Happening) where
   turn_leaves : (u : Turn) → hs ++ happenings.Turn u ∷ rest ≡ t.trace → (k : NodeState) → node_at (f_at t hs) u.node ≡ Some k → LeavesForReason u.input k (turn_of (place_at t.places u.node) k u.input)

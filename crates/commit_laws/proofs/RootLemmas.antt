@@ -8,7 +8,7 @@ use Rattle.node_rules.specs.Data.inputs
 use Rattle.node_rules.specs.Data.phases
 use Rattle.node_rules.specs.Data.stmts
 use Rattle.node_rules.specs.declared.session.PendingCall.TheVariants as pending
-use Rattle.node_rules.specs.Client.{root_by, root_at, commit_by}
+use Rattle.node_rules.specs.Client.{root_by, root_at, commit_at, commit_by}
 use Rattle.node_rules.specs.NodeState.{NodeState, Branch, TurnDraft, live_id, live_at, work_at, with_work}
 use Rattle.node_rules.specs.Prepare.{collecting, with_comment, without_read_keys, first_act}
 use Rattle.node_rules.specs.Sessions.{with_call}
@@ -31,7 +31,7 @@ use Rattle.tree_laws.proofs.TimeLemmas.{Part, part_on, part_of, part_lawful, bor
 use Rattle.commit_laws.specs.StillLaws.{DroppedNone, UndisturbedRootsLeave}
 use Rattle.run_claims.specs.Undisturbed.{Commit, Undisturbed}
 use Rattle.commit_laws.proofs.KeepLemmas.{Served}
-use Rattle.commit_laws.proofs.ServedLemmas.{ServedAt, HasBorn, served_end}
+use Rattle.commit_laws.proofs.ServedLemmas.{ServedAt, HasBorn, served_until, served_end}
 use Rattle.commit_laws.proofs.StillLemmas.{undisturbed_collects_end}
 use Rattle.commit_laws.proofs.TurnLemmas.{acted, none_named}
 use Rattle.tree_laws.proofs.AtPart.{at_part}
@@ -42,10 +42,10 @@ module _ (k : NodeState) (n : ℕ) (comment : List ℕ) (l : Live) (y : Live) wh
   abbrev x : Branch
   x = record { live = l; work = work_at k l.me }
 
-  commit_served : live_at (commit_by k n comment None (Some x)).after l.me ≡ Some y → Served None y
-  commit_served live =
+  commit_served : l.read_at ≡ None → live_at (commit_by k n comment None (Some x)).after l.me ≡ Some y → Served None y
+  commit_served writer live =
       acted None (without_read_keys (record k { sessions = with_call k.sessions n pending.Commit }) l.me) (collecting (with_comment l comment) true) true (record { busy = λ working. absurd cc; has = none_named _ })
-      (first_act (collecting (with_comment l comment) true) true) y live
+      (first_act (collecting (with_comment l comment) true) true) y (subst (λ o. live_at (commit_at k n comment x o).after l.me ≡ Some y) writer live)
 
 -- ---- every run
 
@@ -102,7 +102,7 @@ module _ (t : History) (whole : IsLawfulRun t) (c : Commit t.places t.commands t
       = subst (λ o. live_at (commit_by k c.session (unwrap_or c.comment []) o (root_at k c.session)).after b ≡ Some y) u.goes_on live in
       let two : live_at (commit_by k c.session (unwrap_or c.comment []) None (Some (record { live = c.live; work = work_at k c.live.me }))).after b ≡ Some y
       = subst (λ o. live_at (commit_by k c.session (unwrap_or c.comment []) None o).after b ≡ Some y) root_is one in
-      commit_served k c.session (unwrap_or c.comment []) c.live y
+      commit_served k c.session (unwrap_or c.comment []) c.live y c.writer
       (subst (λ i. live_at (commit_by k c.session (unwrap_or c.comment []) None (Some (record { live = c.live; work = work_at k c.live.me }))).after i ≡ Some y) (sym me) two)
 
   left : node_at (f_at t after) b.node ≡ Some d.after
@@ -119,6 +119,10 @@ module _ (t : History) (whole : IsLawfulRun t) (c : Commit t.places t.commands t
       let both : Some d.after ≡ Some j = sym left ∙ there in
       let it : d.after ≡ j = cc in
       served_turn y (subst (λ (i : NodeState). live_at i b ≡ Some y) (sym it) live)
+
+  -- so it is from the turn of its COMMIT on
+  pub served_later : (since rest : List Happening) → (after ++ since) ++ rest ≡ t.trace → ServedAt t whole b None (f_at t (after ++ since))
+  served_later since rest is = served_until t whole b None after since rest is (born_after, served_after)
 
   served : ServedAt t whole b None (facts_at t)
   served = served_end t whole b None after c.during (append_assoc hs (h ∷ []) c.during ∙ c.is) (born_after, served_after)

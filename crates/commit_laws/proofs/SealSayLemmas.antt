@@ -25,8 +25,10 @@ SaysSeal says _ = Unit {0}
 
 module _ (p : Place) (input : Input) where
   pub seal_says : {k : NodeState} {d : TurnDraft} → Step p input k d → IfSome d.wrote (SaysSeal d.says)
-  seal_says (steps.Begins n s call rows range free step) = seal_says step
-  seal_says (steps.Pends n l given call has live code step) = seal_says step
+  seal_says (steps.Begins n s read_at call begins range free step) = seal_says step
+  seal_says (steps.Counts_call n s call counts step) = seal_says step
+  seal_says (steps.Goes_back x step goes next) = seal_says next
+  seal_says (steps.Pends n l given call has live code writer step) = seal_says step
   seal_says (steps.Lets_reads_go l comment below live begins step) = seal_says step
   seal_says (steps.Counts_ack s from kept came counts step) = seal_says step
   seal_says (steps.Acts l below acts.Seal why) = λ toward. refl

@@ -153,8 +153,10 @@ module _ (t : History) (whole : IsLawfulRun t) (b : BranchId) (c : Option Branch
     pub stays_one : StaysServed after
     stays_one = (born_next, served_next h refl)
 
-  -- from some part of the run to its end
+  -- from some part of the run to a later one
+  pub served_until : (hs later rest : List Happening) → (hs ++ later) ++ rest ≡ t.trace → StaysServed hs → ServedAt (f_at t (hs ++ later))
+  served_until hs later rest is now = (keep_on t whole StaysServed stays_one hs later (record { rest = rest; is = is }) now).1
+
+  -- and to its end
   pub served_end : (hs later : List Happening) → hs ++ later ≡ t.trace → StaysServed hs → ServedAt (facts_at t)
-  served_end hs later is now =
-      let all : StaysServed (hs ++ later) = keep_on t whole StaysServed stays_one hs later (record { rest = []; is = append-nil (hs ++ later) ∙ is }) now in
-      subst (λ xs. ServedAt (f_at t xs)) is all.1
+  served_end hs later is now = subst (λ xs. ServedAt (f_at t xs)) is (served_until hs later [] (append-nil (hs ++ later) ∙ is) now)

@@ -21,7 +21,7 @@ call = tried.calls 1 (stmts.Commit None) (facts_by tried.places [] before)
 pub the_tried_commit : TheTriedCommit
 unfolding trying lost births_from
 the_tried_commit = record {
-  commit = record { before = before; call = call; during = drop 10 tried.trace; is = refl; session = 1; comment = None; asks = refl; kept = _; up = refl; root = tried.a; of = refl; live = _; there = refl };
+  commit = record { before = before; call = call; during = drop 10 tried.trace; is = refl; session = 1; comment = None; asks = refl; kept = _; up = refl; root = tried.a; of = refl; live = _; there = refl; writer = refl };
   undisturbed = record {
     goes_on = refl;
     still = refl;
@@ -33,7 +33,7 @@ the_tried_commit = record {
     calm = (refl, (refl, (refl, (refl, (refl, (refl, (refl, (refl, (refl, (refl, (refl, (refl, (refl, (refl, (refl, tt)))))))))))))));
   };
   complete = record { answered = refl; decided = inl refl; ended = (tt, (tt, ((λ of. (1, 4, refl)), (tt, (tt, tt))))); gone = (refl, (refl, tt)) };
-  lost = record { before = before; call = call; during = drop 10 lost_trace; is = refl; session = 1; comment = None; asks = refl; kept = _; up = refl; root = tried.a; of = refl; live = _; there = refl };
+  lost = record { before = before; call = call; during = drop 10 lost_trace; is = refl; session = 1; comment = None; asks = refl; kept = _; up = refl; root = tried.a; of = refl; live = _; there = refl; writer = refl };
   lost_goes_on = refl;
   lost_still = refl;
   lost_over = refl;

@@ -8,7 +8,7 @@ use Rattle.node_rules.specs.Data.phases
 use Rattle.node_rules.specs.Data.stmts
 use Rattle.node_rules.specs.declared.session.PendingCall.TheVariants as pending
 use Rattle.node_rules.specs.declared.session.Session.{Session}
-use Rattle.node_rules.specs.Client.{root_by, root_at, commit_by}
+use Rattle.node_rules.specs.Client.{root_by, root_at, commit_by, commit_at}
 use Rattle.node_rules.specs.NodeState.{NodeState, TurnDraft, live_id, live_at, work_at, with_work}
 use Rattle.node_rules.specs.Prepare.{act_turn, collecting, first_act, with_comment, without_read_keys}
 use Rattle.node_rules.specs.Sessions.{session_at, with_call}
@@ -160,7 +160,7 @@ module _ (t : History) (whole : IsLawfulRun t) (c : Commit t.places t.commands t
   pub draft_is : (session_at k.sessions m).code ≡ None → d0 ≡ done
   draft_is goes_on =
       ap (draft_of (place_at t.places c.call.node) k) c.asks
-      ∙ (ap (λ o. commit_by k m comment o (root_at k m)) goes_on ∙ ap (λ o. commit_by k m comment None o) root_found)
+      ∙ (ap (λ o. commit_by k m comment o (root_at k m)) goes_on ∙ (ap (λ o. commit_by k m comment None o) root_found ∙ ap (commit_at k m comment (record { live = c.live; work = work_at k c.live.me })) c.writer))
 
   -- what the root's node keeps after it
   pub call_up : c.call.cut ≡ false → node_at (f_at t after) r.node ≡ Some d0.after

@@ -90,7 +90,7 @@ module _ (t : History) (whole : IsLawfulRun t) (c : Commit t.places t.commands t
     commits = λ root. call_pends;
     roots = λ y live none. roots_so y live none;
     rests = λ x live none mine. rests_so x live none mine;
-    below = λ from to call given advice s came. (let it : inputs.Call m (Some (stmts.Commit c.comment)) ≡ inputs.Message _ = came.is in absurd cc);
+    below = λ from to call task came. (let it : inputs.Call m (Some (stmts.Commit c.comment)) ≡ inputs.Message _ = came.is in absurd cc);
     top = λ y live. top_so y live;
     calm = λ from kind came. (let it : inputs.Call m (Some (stmts.Commit c.comment)) ≡ inputs.Message _ = came.is in absurd cc);
   }

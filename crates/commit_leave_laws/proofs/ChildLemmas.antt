@@ -66,7 +66,7 @@ module _ (t : History) (whole : IsLawfulRun t) (c : Commit t.places t.commands t
   pub opened : (x : Born) → Began bs x → (p : BranchId) → x.parent ≡ Some p → 1 ≤ count_opens (said_in (facts_at t)) p x.edge
   opened x began p above =
       let open_x : IsOpenTo (said_in (facts_at t)) p x.edge x.me.node = all_found (WasOpened (said_in (facts_at t))) born_id bs x.me x (opened_at t whole t.trace end) began p above in
-      counts (said_in (facts_at t)) open_x.number open_x.sent p x.edge open_x.root open_x.depth open_x.at open_x.from open_x.kind
+      counts (said_in (facts_at t)) open_x.number open_x.sent p x.edge open_x.root open_x.depth open_x.read_at open_x.at open_x.from open_x.kind
 
   -- edges are numbered from 1
   pub edge_above : (x : Born) → Began bs x → (p : BranchId) → x.parent ≡ Some p → 1 ≤ x.edge

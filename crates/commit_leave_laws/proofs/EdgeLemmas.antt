@@ -39,8 +39,8 @@ module _ (t : History) (whole : IsLawfulRun t) where
       let all = opened_at t whole t.trace (record { rest = []; is = append-nil t.trace }) in
       let open_x : IsOpenTo (said_in (facts_at t)) p x.edge x.me.node = all_found (WasOpened (said_in (facts_at t))) born_id (births_of t) x.me x all began_x p above_x in
       let open_y : IsOpenTo (said_in (facts_at t)) p y.edge y.me.node = all_found (WasOpened (said_in (facts_at t))) born_id (births_of t) y.me y all began_y p above_y in
-      let kind_y = open_y.kind ∙ ap (λ i. kinds.Open i open_y.root open_y.depth) (sym edge) in
-      let one = one_open (said_in (facts_at t)) open_x.number open_y.number open_x.sent open_y.sent p x.edge open_x.root open_y.root open_x.depth open_y.depth (opens_once t whole p x.edge).0 open_x.at open_x.from open_x.kind open_y.at open_y.from kind_y in
+      let kind_y = open_y.kind ∙ ap (λ i. kinds.Open i open_y.root open_y.depth open_y.read_at) (sym edge) in
+      let one = one_open (said_in (facts_at t)) open_x.number open_y.number open_x.sent open_y.sent p x.edge open_x.root open_y.root open_x.depth open_y.depth open_x.read_at open_y.read_at (opens_once t whole p x.edge).0 open_x.at open_x.from open_x.kind open_y.at open_y.from kind_y in
       let node : y.me.node ≡ x.me.node = sym open_y.to ∙ (ap (λ (m : Post). m.to.node) (sym one) ∙ open_x.to) in
       let here = boot_now x stays_x in
       let there = boot_now y stays_y in

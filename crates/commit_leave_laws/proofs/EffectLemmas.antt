@@ -21,9 +21,11 @@ use Rattle.node_rules.proofs.Steps as steps
 use Rattle.node_rules.proofs.Steps.{Doing, Drops, IsKept, Step}
 use Rattle.run_rules.proofs.ListLemmas.{any_more}
 use Rattle.run_base_laws.proofs.RestStepLemmas.{going_of}
-use Rattle.commit_leave_laws.proofs.RootActLemmas.{Known, Effect, IsNoCall, same_or, still, not_mine, completes, asked_live, asked_below, waits_elsewhere, lasts_put, lasts_drop, lasts_write, acts_so}
+use Rattle.commit_leave_laws.proofs.RootActLemmas.{Known, Effect, IsNoCall, same_or, still, not_mine, completes, asked_live, asked_below, waits_elsewhere, lasts_put, lasts_drop, lasts_write, acts_so, calling_elsewhere}
 use Rattle.commit_leave_laws.proofs.LastLemmas.{Lasts, acked_row}
 use Rattle.commit_leave_laws.proofs.SessionLemmas.{commit_keeps, decision_keeps, answered_keeps, going_keeps, heard_same}
+use Rattle.node_rules.proofs.StepLemmas.{calling_back_live}
+use Rattle.node_rules.specs.Images.{image_at, images}
 
 module _ (m : ℕ) (r : BranchId) (own : r.session ≡ m) (input : Input) where
   abbrev K : NodeState → Type 0
@@ -79,8 +81,11 @@ module _ (m : ℕ) (r : BranchId) (own : r.session ≡ m) (input : Input) where
   acked_lasts k s from kept (inr row) = inr (acked_row r k (acked_by s from) s kept refl refl row)
 
   pub effect_on : (p : Place) → IsNoCall input → {k : NodeState} {d : TurnDraft} → Step p input k d → K k → Effect m r own input k d
-  effect_on p quiet (steps.Begins n s call rows range none step) now = absurd (quiet.calls n (Some s) call)
-  effect_on p quiet (steps.Pends n l given call has live code step) now = absurd (quiet.calls n _ call)
+  effect_on p quiet (steps.Begins n s read_at call begins range none step) now = absurd (quiet.calls n (Some s) call)
+  effect_on p quiet (steps.Counts_call n s call counts step) now = absurd (quiet.calls n _ call)
+  effect_on p quiet (steps.Goes_back {k = k} x step goes next) now =
+      effect_on p quiet next (record { only = now.only; commits = now.commits; roots = now.roots; rests = now.rests; below = now.below; top = now.top; calm = now.calm })
+  effect_on p quiet (steps.Pends n l given call has live code writer step) now = absurd (quiet.calls n _ call)
   effect_on p quiet (steps.Lets_reads_go {k = k} l comment site_below live begins step) now =
       effect_on p quiet step (record { only = now.only; commits = now.commits; roots = now.roots; rests = now.rests; below = now.below; top = now.top; calm = now.calm })
   effect_on p quiet (steps.Counts_ack {k = k} s from kept came counts step) now =
@@ -108,8 +113,12 @@ module _ (m : ℕ) (r : BranchId) (own : r.session ≡ m) (input : Input) where
       let zs : List Session = heard_sessions k.sessions y.live a in
       let keeps = answered_keeps m zs y.live (heard_answer y.live e.link a) x.live.parent elsewhere in
       inl (record { quiet = keeps.quiet; same = keeps.same ∙ heard_same m k.sessions y.live a elsewhere }, (λ root. lasts_put m r own input k now y.live x.live (live_so k x.live.me x answered.live)))
-  effect_on p quiet (steps.Opens_branch {k = k} to parent edge root depth came new) now =
-      still m r own input k now (open_by p k parent edge root depth None) refl refl (λ lasts. elim lasts [ inl living ↦ inl (any_more live_id k.lives r _ living) | inr row ↦ inr row ])
+  effect_on p quiet (steps.Backs {k = k} x step from i calls next) now =
+      let y = calling_back_live calls in inl (going_keeps m k.sessions x.live (calling_elsewhere m r own input k now quiet calls), (λ root. lasts_put m r own input k now x.live y.0 y.1))
+  effect_on p quiet (steps.Is_back {k = k} x step from calls none) now =
+      let y = calling_back_live calls in inl (answered_keeps m k.sessions x.live _ x.live.parent (calling_elsewhere m r own input k now quiet calls), (λ root. lasts_put m r own input k now x.live y.0 y.1))
+  effect_on p quiet (steps.Opens_branch {k = k} to parent edge root depth read_at came new) now =
+      still m r own input k now (open_by p k parent edge root depth read_at None) refl refl (λ lasts. elim lasts [ inl living ↦ inl (any_more live_id k.lives r _ living) | inr row ↦ inr row ])
   effect_on p quiet (steps.Acts {k = k} l site_below a why) now = acts_so m r own input k now quiet l site_below a why
   effect_on p quiet (steps.Drops_told {k = k} l live told) now = still m r own input k now (drops k l []) refl refl (lasts_drop m r own input k now l.me (dropped k now l told))
   effect_on p quiet (steps.Drops_asked {k = k} l from live came parent) now =
@@ -123,6 +132,9 @@ module _ (m : ℕ) (r : BranchId) (own : r.session ≡ m) (input : Input) where
   effect_on p quiet (steps.Forces_rollback n id b call named) now = absurd (quiet.calls n _ call)
   effect_on p quiet (steps.Hides n mixed id s call found) now = absurd (quiet.calls n _ call)
   effect_on p quiet (steps.Advises n a call) now = absurd (quiet.calls n _ call)
-  effect_on p quiet (steps.Rolls_back n x call has live) now = absurd (quiet.calls n _ call)
+  effect_on p quiet (steps.Leaves n s d x call ends has live) now = absurd (quiet.calls n _ call)
+  effect_on p quiet (steps.Sets_read_only n call) now = absurd (quiet.calls n _ call)
+  effect_on p quiet (steps.Sets_savepoint n x name call has code live) now = absurd (quiet.calls n _ call)
+  effect_on p quiet (steps.Images {k = k} is) now = still m r own input k now (images k) refl refl (lasts_write m r own input k now (records.Image (image_at k.stored k.clock)) tt)
   effect_on p quiet (steps.Gives_up n x gives has calls live) now = absurd (quiet.gives_up n gives)
   effect_on p quiet (steps.Gives_up_commit n b o gives has calls live) now = absurd (quiet.gives_up n gives)

@@ -1,9 +1,9 @@
 -- In every lawful run a branch sent the Open of an edge once at most, and a branch that has left sends none.
-use Rattle.std.proofs.Common.{◌≡◌, ◌≢◌, ℕ, ◌+◌, ◌<◌, ◌≤◌, ◌⊎◌, Bool, true, false, List, [], ◌∷◌, ◌++◌, map, length, Option, Some, None, inl, inr, refl, sym, ap, subst, ◌∙◌, arith, append-nil}
+use Rattle.std.proofs.Common.{◌≡◌, ◌≢◌, ℕ, ◌+◌, ◌<◌, ◌≤◌, ◌⊎◌, Bool, true, false, List, [], ◌∷◌, ◌++◌, map, length, Some, None, inl, inr, refl, sym, ap, subst, ◌∙◌, arith, append-nil}
 use Rattle.std.specs.List.{AllByRecursion}
 use Rattle.agreement.specs.Events.{exit}
 use Rattle.tran_ids.proofs.ListedLemmas.{item_is}
-use Rattle.node_rules.specs.Data.{Advice, BranchId, Kind, Live, Post, Stmt, Input}
+use Rattle.node_rules.specs.Data.{BranchId, Kind, Live, Post, Stmt, Input, Task}
 use Rattle.node_rules.specs.Data.admits
 use Rattle.node_rules.specs.Data.inputs
 use Rattle.node_rules.specs.Data.kinds
@@ -50,15 +50,17 @@ use Rattle.commit_leave_laws.proofs.OpenLemmas.{IsNoOpen, count_more, plain_none
 use Rattle.commit_leave_laws.proofs.OpenStepLemmas.{FindsNext, BeginsNext, OpensNext, OpensOne, opens_on}
 use Rattle.tree_laws.proofs.AtTurn.{at_turn}
 use Rattle.tree_laws.proofs.AtPart.{at_part}
+use Rattle.run_base_laws.proofs.BeginLemmas.{MayBegin, may_begin}
+use Rattle.node_rules.specs.Data.tasks
 
 -- a call that is run is above the last
 runs_above : (w : _) (call : ℕ) → admit w call ≡ admits.Run → w.last_call < call
 unfolding admit
 runs_above w call is = grind (arith, is)
 
--- a client's statement with a table came
-abbrev pub IsRowsCall : Input → Type 0
-IsRowsCall input = (n : ℕ) × (st : Stmt) × IsCall input n st × IsOfRows st
+-- a client's statement came that may begin a transaction
+abbrev pub IsBeginCall : Input → Type 0
+IsBeginCall input = (n : ℕ) × (st : Stmt) × IsCall input n st × MayBegin st
 
 module _ (t : History) (whole : IsLawfulRun t) where
   module _ (hs : List Happening) (part : Part t whole hs) where
@@ -84,7 +86,7 @@ module _ (t : History) (whole : IsLawfulRun t) where
 
     -- a client's statement came, or the branch is a child
     abbrev pub Why : BranchId → Type 0
-    Why b = IsRowsCall u.input ⊎ ((q : BranchId) × IsChild (Began bs) b q)
+    Why b = IsBeginCall u.input ⊎ ((q : BranchId) × IsChild (Began bs) b q)
 
     abbrev Q : BranchId → ℕ → Type 0
     Q b i = (count_opens said b i ≡ 0) × (1 ≤ i) × Why b
@@ -94,12 +96,13 @@ module _ (t : History) (whole : IsLawfulRun t) where
     branch_heard (inputs.Call n st) b = refl
     branch_heard (inputs.GiveUp n) b = refl
     branch_heard inputs.Reco b = refl
+    branch_heard inputs.Checkpoint b = refl
 
     -- an Exec that is run finds its branch at rest
-    exec_rests : (x : Branch) → branch_at k x.live.me ≡ Some x → (from : BranchId) (call given : ℕ) (advice : Option Advice) (st : Stmt) → Came u.input from x.live.me (kinds.Exec call given advice st) → admit x.work.came call ≡ admits.Run
+    exec_rests : (x : Branch) → branch_at k x.live.me ≡ Some x → (from : BranchId) (call : ℕ) (task : Task) → Came u.input from x.live.me (kinds.Exec call task) → admit x.work.came call ≡ admits.Run
         → (x.live.parent ≢ None) × (x.work.going ≡ None) × IsChild (Began bs) x.live.me from
-    exec_rests x found from call given advice st came runs =
-        let kind : Kind = kinds.Exec call given advice st in
+    exec_rests x found from call task came runs =
+        let kind : Kind = kinds.Exec call task in
         let child : IsChild (Began bs) x.live.me from = came_so (GoesSo (Began bs)) f0 (messages_are_of_neighbors s0 lawful0) k u.node u.input u.took may.comes from x.live.me kind came in
         let below : x.live.parent ≢ None = asked_parent bs k (nodes_name_the_born s0 lawful0 u.node k may.up) from x.live.me child x.live (live_so k x.live.me x found) in
         let newest : call ≤ newest_exec said from x.live.me = came_so (λ a b c. exec_number c ≤ newest_exec said a b) f0 (execs_are_low f0) k u.node u.input u.took may.comes from x.live.me kind came in
@@ -120,16 +123,17 @@ module _ (t : History) (whole : IsLawfulRun t) where
     rest_at = fact_at t.places t.commands (ComesAtRest t.places) (first_facts t.places) hs (happenings.Turn u) rest (subst (EachFactFrom (ComesAtRest t.places) t.places t.commands (first_facts t.places)) (sym is) (calls_come_at_rest t whole))
 
     finds : FindsNext Q p u.input (heard k u.input)
-    finds x st given (steps.By_call n y sy call rows has code live) =
+    finds x st given (steps.By_call n y sy call rows has code live allowed) =
         let same : heard k u.input ≡ k = ap (heard k) call in
         let root : HasRoot k n y.live.me = subst (λ (j : NodeState). HasRoot j n y.live.me) same has in
         let found : branch_at k y.live.me ≡ Some y = subst (λ (j : NodeState). branch_at j y.live.me ≡ Some y) same live in
         let none : (session_at k.sessions n).code ≡ None = subst (λ (j : NodeState). (session_at j.sessions n).code ≡ None) same code in
         let own : y.live.me.session ≡ n = (roots_are_of_sessions s0 lawful0 u.node k may.up n y.live.me root).0 in
-        next_of y found (λ top. ap (λ i. (session_at k.sessions i).code) own ∙ none) (rest_at k may.up n (Some sy) call y root found).1 (inl (n, sy, call, rows))
+        let begins : steps.BeginsBy k.clock sy None = steps.By_rows sy rows in
+        next_of y found (λ top. ap (λ i. (session_at k.sessions i).code) own ∙ none) (rest_at k may.up n (Some sy) call y root found).1 (inl (n, sy, call, may_begin begins))
     finds x st given (steps.By_exec y from call room advice sy came live runs) =
         let found : branch_at k y.live.me ≡ Some y = sym (branch_heard u.input y.live.me) ∙ live in
-        let rests = exec_rests y found from call room advice sy came runs in
+        let rests = exec_rests y found from call (tasks.Run room advice sy) came runs in
         next_of y found (λ top. absurd (rests.0 top)) rests.1 (inr (from, rests.2))
 
     -- a branch that has not begun sent no Open
@@ -137,7 +141,7 @@ module _ (t : History) (whole : IsLawfulRun t) where
     unopened b none = all_map (λ (x : Post). x.from ≡ b → IsNoOpen x.kind) packet_post f0.net.packets (all_weaker _ _ (λ x goes from. by x.msg.from x.msg.to x.msg.kind goes from) f0.net.packets (messages_are_of_neighbors s0 lawful0))
       where
         by : (from to : BranchId) (kind : Kind) → GoesSo (Began bs) from to kind → from ≡ b → IsNoOpen kind
-        by sender to (kinds.Open edge root depth) goes from =
+        by sender to (kinds.Open edge root depth read_at) goes from =
             absurd (let at : born_at bs b ≡ Some goes.0 = subst (λ c. born_at bs c ≡ Some goes.0) (goes.2 ∙ from) goes.1 in cc (at, none))
         by sender to _ goes from = tt
 
@@ -151,7 +155,8 @@ module _ (t : History) (whole : IsLawfulRun t) where
         (owned_so t.places t.commands t.of_a_script.each f0 (e_at t hs) stand.0) may (number_is t.places t.commands t.of_a_script.each f0 u.node k stand.0.1.many may.up) stand.1)
 
     begins : BeginsNext Q p u.input (heard k u.input)
-    begins n st call rows none i = (silent_none said (new_root p (heard k u.input) n) (i + 1) (unopened (new_root p (heard k u.input) n) (news.root n st call rows none)), omega arith, inl (n, st, call, rows))
+    begins n st read_at call by none i =
+        (silent_none said (new_root p (heard k u.input) n) (i + 1) (unopened (new_root p (heard k u.input) n) (news.root n st read_at call by none)), omega arith, inl (n, st, call, may_begin by))
 
     opens : OpensNext Q p u.input d
     opens = opens_on Q p u.input (serves t.places f0 u k may).step finds begins
@@ -173,11 +178,11 @@ module _ (t : History) (whole : IsLawfulRun t) where
         by true cut owed = inl (ap (λ xs. count_opens xs b i) (posts_cut owed))
         by false cut owed = elim opens [
           | inl plain ↦ inl (ap (λ xs. count_opens xs b i) (posts_are owed) ∙ plain_none d.says b i plain)
-          | inr one ↦ elim (one_other one.me one.to one.number one.root one.depth b i) [
+          | inr one ↦ elim (one_other one.me one.to one.number one.root one.depth one.read_at b i) [
             | inl other ↦ inl (ap (λ xs. count_opens xs b i) (posts_are owed ∙ one.is) ∙ other)
             | inr it ↦ inr (
               subst (λ c. Q c i) it.0 (subst (Q one.me) it.1 one.so),
-              subst (λ xs. count_opens xs b i ≤ 1) (sym (posts_are owed ∙ one.is)) (one_counts (record { from = one.me; to = one.to; kind = kinds.Open one.number one.root one.depth }) b i),
+              subst (λ xs. count_opens xs b i ≤ 1) (sym (posts_are owed ∙ one.is)) (one_counts (record { from = one.me; to = one.to; kind = kinds.Open one.number one.root one.depth one.read_at }) b i),
               subst (λ c. exit (e_at t (hs ++ happenings.Turn u ∷ [])) c ≡ None) it.0 (lives one cut),
             )
           ]

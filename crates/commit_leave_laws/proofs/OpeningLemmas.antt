@@ -1,6 +1,6 @@
 -- In every lawful run a branch that began below another is the answer of its node to the Open of its edge, as long as the node is not
 -- stopped.
-use Rattle.std.proofs.Common.{◌≡◌, ◌≢◌, ℕ, ◌+◌, ◌≤◌, ◌==◌, ◌&&◌, ◌⊎◌, Bool, true, false, if◌then◌else◌, List, [], ◌∷◌, ◌++◌, find, length, option_to_list, Some, None, inl, inr, refl, sym, ap, subst, ◌∙◌, arith, append-nil}
+use Rattle.std.proofs.Common.{◌≡◌, ◌≢◌, ℕ, ◌+◌, ◌≤◌, ◌==◌, ◌&&◌, ◌⊎◌, Bool, true, false, if◌then◌else◌, List, [], ◌∷◌, ◌++◌, find, length, option_to_list, Some, None, inl, inr, refl, sym, ap, subst, ◌∙◌, arith, append-nil, Option}
 use Rattle.std.specs.Prelude.{IfSome}
 use Rattle.std.specs.List.{AllByRecursion}
 use Rattle.std.proofs.lemmas.Bool.{eq-eqb}
@@ -46,11 +46,13 @@ abbrev Grows : NodeState → TurnDraft → Type 0
 Grows k d = (b : BranchId) (i : ℕ) (o : Opening) → opening_of k.opens b i ≡ Some o → opening_of d.after.opens b i ≡ Some o
 
 opens_grow : (p : Place) (input : Input) {k : NodeState} {d : TurnDraft} → Step p input k d → Grows k d
-opens_grow p input (steps.Begins n s call rows range none step) = opens_grow p input step
-opens_grow p input (steps.Pends n l given call has live code step) = opens_grow p input step
+opens_grow p input (steps.Begins n s read_at call begins range none step) = opens_grow p input step
+opens_grow p input (steps.Counts_call n s call counts step) = opens_grow p input step
+opens_grow p input (steps.Goes_back x step goes next) = opens_grow p input next
+opens_grow p input (steps.Pends n l given call has live code writer step) = opens_grow p input step
 opens_grow p input (steps.Lets_reads_go l comment site_below live begins step) = opens_grow p input step
 opens_grow p input (steps.Counts_ack s from kept came counts step) = opens_grow p input step
-opens_grow p input (steps.Opens_branch {k = k} to parent edge root depth came new) = λ b i o is. find_kept (is_opening b i) k.opens (new_opening p k parent edge ∷ []) o is
+opens_grow p input (steps.Opens_branch {k = k} to parent edge root depth read_at came new) = λ b i o is. find_kept (is_opening b i) k.opens (new_opening p k parent edge ∷ []) o is
 opens_grow p input (steps.Acts l b acts.Rest why) = λ c i o is. is
 opens_grow p input (steps.Does s from nexts.Rest kept why) = λ c i o is. is
 opens_grow p input (steps.Gives_up_commit n b None gives has calls live) = λ c i o is. is
@@ -61,6 +63,7 @@ heard_opens k (inputs.Message m) = refl
 heard_opens k (inputs.Call n s) = refl
 heard_opens k (inputs.GiveUp n) = refl
 heard_opens k inputs.Reco = refl
+heard_opens k inputs.Checkpoint = refl
 
 -- ---- every run
 
@@ -127,35 +130,35 @@ module _ (t : History) (whole : IsLawfulRun t) where
         (was.0, opens_grow p u.input (serves t.places f1 u k may.1).step b x.edge was.0 (ap (λ os. opening_of os b x.edge) (heard_opens k u.input) ∙ was.1), was.2)
 
     -- so is one that begins
-    child_so : (to parent : BranchId) (edge : ℕ) (root : BranchId) (depth : ℕ) → Came u.input parent to (kinds.Open edge root depth) → find (is_opening parent edge) k.opens ≡ None
+    child_so : (to parent : BranchId) (edge : ℕ) (root : BranchId) (depth : ℕ) (read_at : Option ℕ) → Came u.input parent to (kinds.Open edge root depth read_at) → find (is_opening parent edge) k.opens ≡ None
         → (o : Opening) × (opening_of d.after.opens parent edge ≡ Some o) × (o.child ≡ next_child p k)
-    child_so to parent edge root depth came none = subst (λ i. (o : Opening) × (opening_of (draft_of p k i).after.opens parent edge ≡ Some o) × (o.child ≡ next_child p k)) (sym came.is) (made, opened, refl)
+    child_so to parent edge root depth read_at came none = subst (λ i. (o : Opening) × (opening_of (draft_of p k i).after.opens parent edge ≡ Some o) × (o.child ≡ next_child p k)) (sym came.is) (made, opened, refl)
       where
         j : NodeState
-        j = heard k (inputs.Message (record { from = parent; to = to; scn = came.scn; kind = kinds.Open edge root depth }))
+        j = heard k (inputs.Message (record { from = parent; to = to; scn = came.scn; kind = kinds.Open edge root depth read_at }))
 
         made : Opening
         made = new_opening p k parent edge
 
-        opened : opening_of (draft_of p k (inputs.Message (record { from = parent; to = to; scn = came.scn; kind = kinds.Open edge root depth }))).after.opens parent edge ≡ Some made
+        opened : opening_of (draft_of p k (inputs.Message (record { from = parent; to = to; scn = came.scn; kind = kinds.Open edge root depth read_at }))).after.opens parent edge ≡ Some made
         opened =
-            ap (λ o. opening_of (open_by p j parent edge root depth o).after.opens parent edge) none
+            ap (λ o. opening_of (open_by p j parent edge root depth read_at o).after.opens parent edge) none
             ∙ find_last (is_opening parent edge) k.opens made none (ap (λ q. q && (edge == edge)) (same_from_equal parent parent refl) ∙ eq-eqb edge edge refl)
 
     new_stay : {xs : List Born} → Begins p k u.input xs → AllByRecursion (IsAnswerTo u.node (boots (records_at g1 u.node)) d.after) xs
     new_stay None_begins = tt
-    new_stay (Root_begins m st call rows none) = ((λ b above at boot. absurd cc), tt)
-    new_stay (Child_begins to parent edge root depth came none) = (
+    new_stay (Root_begins m st read_at call begins none) = ((λ b above at boot. absurd cc), tt)
+    new_stay (Child_begins to parent edge root depth read_at came none) = (
       (λ b above at boot. (let one : Some parent ≡ Some b = above in let it : parent ≡ b = cc in
-          subst (λ c. (o : Opening) × (opening_of d.after.opens c edge ≡ Some o) × (o.child ≡ next_child p k)) it (child_so to parent edge root depth came none))),
+          subst (λ c. (o : Opening) × (opening_of d.after.opens c edge ≡ Some o) × (o.child ≡ next_child p k)) it (child_so to parent edge root depth read_at came none))),
       tt,
     )
 
     -- a branch that begins is one of the node
     new_here : {xs : List Born} → Begins p k u.input xs → AllByRecursion (λ x. x.me.node ≡ u.node) xs
     new_here None_begins = tt
-    new_here (Root_begins m st call rows none) = (number, tt)
-    new_here (Child_begins to parent edge root depth came none) = (number, tt)
+    new_here (Root_begins m st read_at call begins none) = (number, tt)
+    new_here (Child_begins to parent edge root depth read_at came none) = (number, tt)
 
     births_now : (cut : Bool) → u.cut ≡ cut → births_of (so_far t (hs ++ happenings.Turn u ∷ [])) ≡ (if cut then bs1 else bs1 ++ births_by p k u.input)
     births_now cut is_cut =

@@ -6,7 +6,7 @@ use Rattle.std.proofs.lemmas.Bool.{and_parts}
 use Rattle.std.proofs.lemmas.List.{append_assoc}
 use Rattle.tran_ids.proofs.BranchLemmas.{equal_from_same}
 use Rattle.tran_ids.proofs.ListedLemmas.{item_is}
-use Rattle.node_rules.specs.Data.{Advice, Answer, BranchId, Input, Kind, Live, Msg, Stmt}
+use Rattle.node_rules.specs.Data.{Answer, BranchId, Input, Kind, Live, Msg, Task}
 use Rattle.node_rules.specs.Data.inputs
 use Rattle.node_rules.specs.Data.kinds
 use Rattle.node_rules.specs.declared.session.PendingCall.TheVariants as pending
@@ -75,6 +75,7 @@ delivered f k node (inputs.Message x) took comes = (x, refl)
 delivered f k node (inputs.Call n s) took comes = absurd comes
 delivered f k node (inputs.GiveUp n) took comes = absurd comes
 delivered f k node inputs.Reco took comes = absurd comes
+delivered f k node inputs.Checkpoint took comes = absurd comes
 
 module _ (t : History) (whole : IsLawfulRun t) (c : Commit t.places t.commands t.trace) (u : Undisturbed t.places t.commands t.trace c) (quiet : AbortsNone t c.root) where
   open c use {session as m, root as r}
@@ -141,8 +142,8 @@ module _ (t : History) (whole : IsLawfulRun t) (c : Commit t.places t.commands t
     calm_so from kinds.Ask came = undisturbed from kinds.Ask came
     calm_so from _ came = refl
 
-    below_so : (from to : BranchId) (call given : ℕ) (advice : Option Advice) (s : Stmt) → Came h.input from to (kinds.Exec call given advice s) → (l : Live) → live_at k to ≡ Some l → l.parent ≢ None
-    below_so from to call given advice s came l live = asked_parent (births_of z) k (nodes_name_the_born z lawful_z h.node k may.up) from to (goes from to (kinds.Exec call given advice s) came) l live
+    below_so : (from to : BranchId) (call : ℕ) (task : Task) → Came h.input from to (kinds.Exec call task) → (l : Live) → live_at k to ≡ Some l → l.parent ≢ None
+    below_so from to call task came l live = asked_parent (births_of z) k (nodes_name_the_born z lawful_z h.node k may.up) from to (goes from to (kinds.Exec call task) came) l live
 
     module _ (told : List Answer) (state : State k told) where
       only : (b : BranchId) → (session_at k.sessions m).root ≡ Some b → b ≡ r

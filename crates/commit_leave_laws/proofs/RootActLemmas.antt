@@ -3,10 +3,12 @@
 use Rattle.std.proofs.Common.{◌≡◌, ◌≢◌, ℕ, ◌+◌, ◌⊎◌, Bool, true, false, if◌then◌else◌, [], ◌∷◌, Option, Some, None, inl, inr, refl, sym, ap, subst, ◌∙◌}
 use Rattle.tran_ids.proofs.BranchLemmas.{equal_from_same, same_from_equal}
 use Rattle.tran_ids.proofs.ListedLemmas.{item_is}
-use Rattle.node_rules.specs.Data.{Act, Advice, BranchId, Input, Kind, Live, RedoRecord, Stmt}
+use Rattle.node_rules.specs.Data.{Act, BranchId, Input, Kind, Live, RedoRecord, Stmt, Task}
 use Rattle.node_rules.specs.Data.acts
 use Rattle.node_rules.specs.Data.inputs
 use Rattle.node_rules.specs.Data.kinds
+use Rattle.node_rules.specs.Data.tasks
+use Rattle.node_rules.specs.Marks.{node_back}
 use Rattle.node_rules.specs.Data.records
 use Rattle.node_rules.specs.declared.session.PendingCall.TheVariants as pending
 use Rattle.node_rules.specs.declared.work.Going.{Going}
@@ -19,10 +21,11 @@ use Rattle.node_rules.specs.Words.{same, put_item, drop_item}
 use Rattle.tree_laws.specs.AskLaws.{way_of}
 use Rattle.node_rules.proofs.StandLemmas.{live_so}
 use Rattle.node_rules.proofs.Steps as steps
-use Rattle.node_rules.proofs.Steps.{Acting, Asked, Collects, Collected, Pointed}
+use Rattle.node_rules.proofs.Steps.{Acting, Asked, Collects, Collected, Pointed, Calls_back, Goes_to}
 use Rattle.commit_leave_laws.proofs.AloneLemmas.{alone_or_kept}
 use Rattle.commit_leave_laws.proofs.LastLemmas.{Lasts, Spares, has_row, is_living, row_applied, sealed_row, decided_row, lives_put, lives_drop}
 use Rattle.commit_leave_laws.proofs.SessionLemmas.{Keeps, answers_of, same_keeps, commit_keeps, alone_keeps, abandon_keeps, own_ends, own_free}
+use Rattle.session_tree.specs.Tree.{weight}
 
 -- whether a message may end the COMMIT of a root that waits, or begins no collect of one
 abbrev pub upsets : Kind → Bool
@@ -75,7 +78,7 @@ module _ (m : ℕ) (r : BranchId) (own : r.session ≡ m) (input : Input) where
     pub commits : (session_at k.sessions m).root ≡ Some r → (session_at k.sessions m).call ≡ pending.Commit
     pub roots : (l : Live) → live_at k l.me ≡ Some l → l.parent ≡ None → (session_at k.sessions l.me.session).root ≡ Some l.me
     pub rests : (x : Branch) → branch_at k x.live.me ≡ Some x → x.live.parent ≡ None → x.live.me.session ≡ m → x.work.going ≡ None
-    pub below : (from to : BranchId) (call given : ℕ) (advice : Option Advice) (s : Stmt) → Came input from to (kinds.Exec call given advice s) → (l : Live) → live_at k to ≡ Some l → l.parent ≢ None
+    pub below : (from to : BranchId) (call : ℕ) (task : Task) → Came input from to (kinds.Exec call task) → (l : Live) → live_at k to ≡ Some l → l.parent ≢ None
     pub top : (l : Live) → live_at k r ≡ Some l → (l.parent ≡ None) × (way_of l.phase ≢ Some false)
     pub calm : (from : BranchId) (kind : Kind) → Came input from r kind → upsets kind ≡ false
 
@@ -83,6 +86,11 @@ module _ (m : ℕ) (r : BranchId) (own : r.session ≡ m) (input : Input) where
   abbrev pub Effect : NodeState → TurnDraft → Type 0
   Effect k d = (Keeps m k.sessions d.after.sessions d.ended × ((session_at k.sessions m).root ≡ Some r → Lasts r k → Lasts r d.after))
       ⊎ (((session_at k.sessions m).root ≡ Some r) × (answers_of m d.ended ≡ commit_complete ∷ []) × ((session_at d.after.sessions m).root ≡ None))
+
+  -- a branch that goes back without a call is no root
+  goes_below : (k : NodeState) → Known k → IsNoCall input → {x : Branch} {step : ℕ} → Goes_to k input x step → x.live.parent ≡ None → ⊥
+  goes_below k now quiet (steps.By_rollback_to n x name step call has code live set) root = quiet.calls n _ call
+  goes_below k now quiet (steps.By_back x from call keep came live runs) root = now.below from x.live.me call (tasks.GoBack keep) came x.live (live_so k x.live.me x live) root
 
   module _ (k : NodeState) (now : Known k) where
     -- nothing of the sessions changes
@@ -111,15 +119,21 @@ module _ (m : ℕ) (r : BranchId) (own : r.session ≡ m) (input : Input) where
     -- ---- statements
 
     pub asked_live : {x : Branch} {s : Stmt} {given : ℕ} → Asked k input x s given → (y : Live) × (live_at k x.live.me ≡ Some y)
-    asked_live (steps.By_call n x s call rows has code live) = (x.live, live_so k x.live.me x live)
+    asked_live (steps.By_call n x s call rows has code live may) = (x.live, live_so k x.live.me x live)
     asked_live (steps.By_exec x from call given advice s came live runs) = (x.live, live_so k x.live.me x live)
 
     pub asked_below : IsNoCall input → {x : Branch} {s : Stmt} {given : ℕ} → Asked k input x s given → x.live.parent ≡ None → ⊥
-    asked_below quiet (steps.By_call n x s call rows has code live) root = quiet.calls n (Some s) call
-    asked_below quiet (steps.By_exec x from call given advice s came live runs) root = now.below from x.live.me call given advice s came x.live (live_so k x.live.me x live) root
+    asked_below quiet (steps.By_call n x s call rows has code live may) root = quiet.calls n (Some s) call
+    asked_below quiet (steps.By_exec x from call given advice s came live runs) root = now.below from x.live.me call (tasks.Run given advice s) came x.live (live_so k x.live.me x live) root
 
     pub waits_elsewhere : (x : Branch) (g : Going) → branch_at k x.live.me ≡ Some x → x.work.going ≡ Some g → x.live.parent ≡ None → x.live.me.session ≢ m
     waits_elsewhere x g live going root here = (let none : x.work.going ≡ None = now.rests x live root here in cc (none, going))
+
+    -- a root whose children are to go back is of another session
+    pub calling_elsewhere : IsNoCall input → {x : Branch} {step from : ℕ} → Calls_back k input x step from → x.live.parent ≡ None → x.live.me.session ≢ m
+    calling_elsewhere quiet (steps.Has_gone j x step goes is) root = (let was : Known (node_back j x step) = subst Known is now in
+        absurd (goes_below j (record { only = was.only; commits = was.commits; roots = was.roots; rests = was.rests; below = was.below; top = was.top; calm = was.calm }) quiet goes root))
+    calling_elsewhere quiet (steps.Has_heard x weight count a i e g step answered going errand plain) root = waits_elsewhere x g answered.live going root
 
     -- ---- what lasts
 
@@ -155,7 +169,7 @@ module _ (m : ℕ) (r : BranchId) (own : r.session ≡ m) (input : Input) where
     unread quiet (steps.Has_no_children l comment site_below a live begins none collected) is me = by begins (collected_below collected is)
       where
         by : {q : Bool} → Collects k input l comment q → q ≡ false → ⊥
-        by (steps.By_commit n given call has code same_comment) at = quiet.calls n _ call
+        by (steps.By_commit n given call has code writer same_comment) at = quiet.calls n _ call
         by (steps.By_prepare from q came working) at = (let calm = now.calm from (kinds.Prepare q comment) (subst (λ b. Came input from b (kinds.Prepare q comment)) me came) in absurd (cc calm))
     unread quiet (steps.Hears_abort l from site_below live answers) is me = absurd cc
     unread quiet (steps.Waits_on l from v site_below live answers other some) is me = absurd cc

@@ -14,7 +14,7 @@ use Rattle.node_rules.specs.Prepare.{act_turn, first_act_by, with_prepare_sent}
 use Rattle.node_rules.specs.Sessions.{session_at}
 use Rattle.node_rules.specs.Words.{numbered}
 use Rattle.session_tree.specs.Live.{children_of}
-use Rattle.node_rules.proofs.Steps.{IsOfRows}
+use Rattle.run_base_laws.proofs.BeginLemmas.{MayBegin}
 use Rattle.run_rules.specs.Births.{Born, births_of, born_id}
 use Rattle.run_base_laws.specs.BirthLaws.{Began, LiveIs, StandsBelow}
 use Rattle.run_rules.specs.Commands.{commits_first}
@@ -40,7 +40,7 @@ use Rattle.commit_laws.proofs.HeardLemmas.{prepares_are_heard}
 use Rattle.commit_laws.proofs.RootLemmas.{undisturbed_roots_leave}
 use Rattle.commit_laws.proofs.StillLemmas.{messages_come, undisturbed_collects_end}
 use Rattle.commit_leave_laws.specs.StrayLaws.{count_opens, UndisturbedBranchesAreAsked, UndisturbedBranchesLeave}
-use Rattle.commit_leave_laws.proofs.OpenRunLemmas.{IsRowsCall, opened_low, adds, count_on}
+use Rattle.commit_leave_laws.proofs.OpenRunLemmas.{IsBeginCall, opened_low, adds, count_on}
 use Rattle.commit_leave_laws.proofs.AskLemmas.{asked_so, kid_asked}
 use Rattle.commit_leave_laws.proofs.CallLemmas as call
 use Rattle.commit_leave_laws.proofs.ChildLemmas.{at_most, edge_above, parent_of_tree, opened, is_child}
@@ -55,12 +55,12 @@ asks_down : (l : Live) (es : List Edge) → 1 ≤ length es → first_act_by l t
 asks_down l [] some = absurd (omega (arith, some))
 asks_down l (e ∷ es) some = refl
 
--- a CREATE is no statement of rows
-create_no_rows : (s : Stmt) → commits_first s ≡ true → IsOfRows s → ⊥
-create_no_rows (stmts.CreateTable table) is rows = absurd rows
-create_no_rows (stmts.CreateLink l) is rows = absurd rows
-create_no_rows (stmts.CreateSynonym y) is rows = absurd rows
-create_no_rows _ is rows = absurd cc
+-- a CREATE begins no transaction
+create_begins_none : (s : Stmt) → commits_first s ≡ true → MayBegin s → ⊥
+create_begins_none (stmts.CreateTable table) is rows = absurd rows
+create_begins_none (stmts.CreateLink l) is rows = absurd rows
+create_begins_none (stmts.CreateSynonym y) is rows = absurd rows
+create_begins_none _ is rows = absurd cc
 
 module _ (t : History) (whole : IsLawfulRun t) (c : Commit t.places t.commands t.trace) (u : Undisturbed t.places t.commands t.trace c) (below : DroppedNone t c.root) where
   abbrev r : BranchId
@@ -77,7 +77,7 @@ module _ (t : History) (whole : IsLawfulRun t) (c : Commit t.places t.commands t
   abbrev opens_at : List Happening → ℕ → ℕ
   opens_at zs i = count_opens (said_in (f_at t zs)) r i
 
-  no_open : (zs : List Happening) (h : Turn) (rest : List Happening) (is : zs ++ happenings.Turn h ∷ rest ≡ t.trace) → Part (so_far t zs) (part_lawful t whole zs (part_of t whole zs (happenings.Turn h) rest is)) c.before → (IsRowsCall h.input → ⊥)
+  no_open : (zs : List Happening) (h : Turn) (rest : List Happening) (is : zs ++ happenings.Turn h ∷ rest ≡ t.trace) → Part (so_far t zs) (part_lawful t whole zs (part_of t whole zs (happenings.Turn h) rest is)) c.before → (IsBeginCall h.input → ⊥)
       → (i : ℕ) → opens_at (zs ++ happenings.Turn h ∷ []) i ≡ opens_at zs i
   no_open zs h rest is since quiet i =
       let may : MayHappen t.places t.commands (f_at t zs) (happenings.Turn h) = may_of t whole zs (happenings.Turn h) rest is in
@@ -90,11 +90,11 @@ module _ (t : History) (whole : IsLawfulRun t) (c : Commit t.places t.commands t
   call_opens : (i : ℕ) → opens_at after i ≡ opens_at c.before i
   call_opens i = no_open c.before c.call c.during c.is (record { rest = []; is = append-nil c.before }) commits i
     where
-      commits : IsRowsCall c.call.input → ⊥
+      commits : IsBeginCall c.call.input → ⊥
       commits rows =
           let it : inputs.Call c.session (Some (stmts.Commit c.comment)) ≡ inputs.Call rows.0 (Some rows.1) = sym c.asks ∙ rows.2 in
           let same_call : stmts.Commit c.comment ≡ rows.1 = cc in
-          subst IsOfRows (sym same_call) rows.3
+          subst MayBegin (sym same_call) rows.3
 
   walk : (mid rest : List Happening) → mid ++ rest ≡ c.during → AllByRecursion IsInCourse rest → ((i : ℕ) → opens_at (after ++ mid) i ≡ opens_at c.before i) → (i : ℕ) → opens_at (after ++ c.during) i ≡ opens_at c.before i
   walk mid [] is all now i = subst (λ xs. opens_at (after ++ xs) i ≡ opens_at c.before i) (sym (append-nil mid) ∙ is) (now i)
@@ -102,7 +102,7 @@ module _ (t : History) (whole : IsLawfulRun t) (c : Commit t.places t.commands t
       let all_is : (after ++ mid) ++ happenings.Turn h ∷ rest ≡ t.trace
       = append_assoc after mid (happenings.Turn h ∷ rest) ∙ (ap (λ xs. after ++ xs) is ∙ (append_assoc c.before (first ∷ []) c.during ∙ c.is)) in
       let may : MayHappen t.places t.commands (f_at t (after ++ mid)) (happenings.Turn h) = may_of t whole (after ++ mid) (happenings.Turn h) rest all_is in
-      let calm : IsRowsCall h.input → ⊥ = elim all.0 [
+      let calm : IsBeginCall h.input → ⊥ = elim all.0 [
         | inl delivery ↦ (λ rows. (let took : Comes (f_at t (after ++ mid)) may.0 h.node h.input (Some (record { number = delivery.1; again = false })) = subst (λ o. Comes (f_at t (after ++ mid)) may.0 h.node h.input o) delivery.2 may.1.comes in
             let message = delivered (f_at t (after ++ mid)) may.0 h.node h.input _ took in
             let it : inputs.Message message.0 ≡ inputs.Call rows.0 (Some rows.1) = sym message.1 ∙ rows.2 in
@@ -110,7 +110,7 @@ module _ (t : History) (whole : IsLawfulRun t) (c : Commit t.places t.commands t
         | inr create ↦ (λ rows. (let call = create_call h.input create.1 in
             let it : inputs.Call call.0 (Some call.1) ≡ inputs.Call rows.0 (Some rows.1) = sym call.2 ∙ rows.2 in
             let same_call : call.1 ≡ rows.1 = cc in
-            create_no_rows rows.1 (subst (λ s. commits_first s ≡ true) same_call call.3) rows.3))
+            create_begins_none rows.1 (subst (λ s. commits_first s ≡ true) same_call call.3) rows.3))
       ] in
       let since : Part (so_far t (after ++ mid)) (part_lawful t whole (after ++ mid) (part_of t whole (after ++ mid) (happenings.Turn h) rest all_is)) c.before = record { rest = first ∷ mid; is = sym (append_assoc c.before (first ∷ []) mid) } in
       walk (mid ++ happenings.Turn h ∷ []) rest (append_assoc mid (happenings.Turn h ∷ []) rest ∙ is) all.1

@@ -18,7 +18,7 @@ use Rattle.run_claims.specs.Undisturbed.{Commit, Undisturbed, HasNotStopped}
 
 -- whether a message is the Open of an edge
 abbrev pub is_open_of : ℕ → Kind → Bool
-is_open_of i (kinds.Open edge root depth) = edge == i
+is_open_of i (kinds.Open edge root depth read_at) = edge == i
 is_open_of i _ = false
 
 -- how many Opens of an edge a branch sent

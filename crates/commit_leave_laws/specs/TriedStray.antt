@@ -72,5 +72,5 @@ pub record TheTriedStray : Type 0 where
   pub kept : has_forgot (node_at (facts_by 12) 1) tried.a ≡ Some false
   pub ends : call_at (facts_by 15) 1 ≡ Some pending.NoCall
   pub gone : has_forgot (node_at (facts_by 15) 1) tried.a ≡ None
-  pub two : births_from tried.places [] (first_facts tried.places) stray_trace [] ≡ root_born tried.a ∷ child_born tried.b tried.a 1 tried.a 2 ∷ child_born second tried.a 1 tried.a 2 ∷ []
+  pub two : births_from tried.places [] (first_facts tried.places) stray_trace [] ≡ root_born tried.a 1 None ∷ child_born tried.b tried.a 1 tried.a 2 1 None ∷ child_born second tried.a 1 tried.a 2 1 None ∷ []
   pub one_open : count_opens (said_in (facts_of tried.places [] (first_facts tried.places) stray_trace)) tried.a 1 ≡ 1

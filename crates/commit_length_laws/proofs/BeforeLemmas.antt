@@ -15,7 +15,7 @@ use Rattle.net_bag.specs.Net.{flies}
 use Rattle.run_rules.specs.Births.{Born}
 use Rattle.run_base_laws.specs.BirthLaws.{Began, LiveIs, KeptIs}
 use Rattle.run_base_laws.specs.CallLaws.{ComesAtRest}
-use Rattle.run_rules.specs.Data.{Packet, Turn}
+use Rattle.run_rules.specs.Data.{Packet}
 use Rattle.run_rules.specs.Data.happenings
 use Rattle.run_base_laws.specs.EventRows.{RowIs, IsKnown}
 use Rattle.run_rules.specs.Facts.{first_facts, flat, node_at}

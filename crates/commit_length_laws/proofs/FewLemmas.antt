@@ -11,11 +11,11 @@ use Rattle.node_rules.specs.Data.stmts
 use Rattle.node_rules.specs.NodeState.{NodeState, Branch, TurnDraft, live_id, live_at, branch_at, work_at, with_work}
 use Rattle.node_rules.specs.Prepare.{collecting, with_comment, without_read_keys, first_act, act_turn, collects, with_prepare_sent}
 use Rattle.node_rules.specs.Sessions.{session_at, with_call}
-use Rattle.node_rules.specs.Client.{commit_by, root_by, root_at}
+use Rattle.node_rules.specs.Client.{commit_by, root_by, root_at, commit_at}
 use Rattle.node_rules.specs.Turn.{draft_of, stamped, turn_of}
 use Rattle.run_rules.specs.Births.{Born, births_of}
 use Rattle.run_base_laws.specs.BirthLaws.{Began, LiveIs}
-use Rattle.run_rules.specs.Data.{Took, Turn}
+use Rattle.run_rules.specs.Data.{Took}
 use Rattle.run_rules.specs.Data.happenings
 use Rattle.run_rules.specs.Facts.{Facts, place_at, taken, facts_after}
 use Rattle.run_base_laws.specs.InTurnLaws.{NeedsNoRollback}
@@ -108,7 +108,7 @@ module _ (t : History) (whole : IsLawfulRun t) (c : Commit t.places t.commands t
       }
 
   commit_low : (comment : List ℕ) (o : Option ℕ) → (session_at k.sessions c.session).code ≡ o → Called (commit_by k c.session comment o (Some x))
-  commit_low comment None is = collects_low comment is
+  commit_low comment None is = subst (λ o. Called (commit_at k c.session comment x o)) (sym c.writer) (collects_low comment is)
   commit_low comment (Some n) is = record { low = omega arith; said_so = tt; works = λ b y at works. at }
 
   rooted : root_at k c.session ≡ Some x

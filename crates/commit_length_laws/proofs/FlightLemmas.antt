@@ -93,9 +93,9 @@ module _ (g : BranchId) (far : BranchId → ℕ) where
   worth_low ask less low to kinds.Forgotten = omega arith
   worth_low ask less low to kinds.Rollback = omega arith
   worth_low ask less low to kinds.RolledBack = omega arith
-  worth_low ask less low to (kinds.Open i r d) = omega arith
+  worth_low ask less low to (kinds.Open i r d a) = omega arith
   worth_low ask less low to (kinds.Opened i r) = omega arith
-  worth_low ask less low to (kinds.Exec i r d s) = omega arith
+  worth_low ask less low to (kinds.Exec i task) = omega arith
   worth_low ask less low to (kinds.Reply i r d s) = omega arith
   worth_low ask less low to kinds.InDoubt = omega arith
   worth_low ask less low to kinds.Ask = omega arith

@@ -6,7 +6,6 @@ use Rattle.tran_ids.proofs.ListedLemmas.{item_is}
 use Rattle.node_rules.specs.Data.{BranchId, Input, Kind, Live, Msg, KeptRow}
 use Rattle.node_rules.specs.Data.inputs
 use Rattle.node_rules.specs.Data.kinds
-use Rattle.node_rules.specs.Words.{same}
 use Rattle.node_rules.specs.NodeState.{NodeState, live_id, live_at, kept_row_id, kept_row_at}
 use Rattle.net_bag.specs.Net.{packet_at}
 use Rattle.run_rules.specs.Births.{Born, births_of}
@@ -69,7 +68,9 @@ take_it f k node number (inputs.Call n s) None comes is = absurd cc
 take_it f k node number (inputs.GiveUp n) (Some i) comes is = absurd comes
 take_it f k node number (inputs.GiveUp n) None comes is = absurd cc
 take_it f k node number inputs.Reco (Some i) comes is = absurd comes
+take_it f k node number inputs.Checkpoint (Some i) comes is = absurd comes
 take_it f k node number inputs.Reco None comes is = absurd cc
+take_it f k node number inputs.Checkpoint None comes is = absurd cc
 
 module _ (t : History) (whole : IsLawfulRun t) (c : Commit t.places t.commands t.trace) where
   abbrev bs : List Born
@@ -127,9 +128,9 @@ module _ (t : History) (whole : IsLawfulRun t) (c : Commit t.places t.commands t
     to_in from to kinds.Forgotten so goes mine = next_in from to (wide_next from to goes) mine
     to_in from to kinds.Rollback so goes mine = down_in to from (wide to from goes) mine
     to_in from to kinds.RolledBack so goes mine = next_in from to (wide_next from to goes) mine
-    to_in from to (kinds.Open i r d) so goes mine = absurd cc
+    to_in from to (kinds.Open i r d a) so goes mine = absurd cc
     to_in from to (kinds.Opened i r) so goes mine = absurd cc
-    to_in from to (kinds.Exec i r d x) so goes mine = absurd cc
+    to_in from to (kinds.Exec i task) so goes mine = absurd cc
     to_in from to (kinds.Reply i r d x) so goes mine = absurd cc
     to_in from to kinds.InDoubt so goes mine = absurd cc
     to_in from to kinds.Ask so goes mine = absurd cc

@@ -21,7 +21,7 @@ call = tried.calls 1 (stmts.Commit None) (facts_by tried.places [] before)
 pub the_tried_flow : TheTriedFlow
 unfolding trying lost births_from
 the_tried_flow = record {
-  begun = record { before = before; call = call; during = drop 10 front; is = refl; session = 1; comment = None; asks = refl; kept = _; up = refl; root = tried.a; of = refl; live = _; there = refl };
+  begun = record { before = before; call = call; during = drop 10 front; is = refl; session = 1; comment = None; asks = refl; kept = _; up = refl; root = tried.a; of = refl; live = _; there = refl; writer = refl };
   begun_flows = record {
     still = refl;
     whole = refl;
@@ -30,7 +30,7 @@ the_tried_flow = record {
   };
   begun_flying = refl;
   begun_few = refl;
-  over = record { before = before; call = call; during = drop 10 tried.trace; is = refl; session = 1; comment = None; asks = refl; kept = _; up = refl; root = tried.a; of = refl; live = _; there = refl };
+  over = record { before = before; call = call; during = drop 10 tried.trace; is = refl; session = 1; comment = None; asks = refl; kept = _; up = refl; root = tried.a; of = refl; live = _; there = refl; writer = refl };
   over_flows = record {
     still = refl;
     whole = refl;

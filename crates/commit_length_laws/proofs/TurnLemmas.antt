@@ -135,9 +135,9 @@ module _ (g : BranchId) (ask far : BranchId → ℕ) (low : (b : BranchId) → f
       live_fits kinds.Forgotten works so calm = idle 1 (omega arith)
       live_fits kinds.Rollback works so calm = absurd cc
       live_fits kinds.RolledBack works so calm = absurd cc
-      live_fits (kinds.Open i r d) works so calm = absurd cc
+      live_fits (kinds.Open i r d a) works so calm = absurd cc
       live_fits (kinds.Opened i r) works so calm = absurd cc
-      live_fits (kinds.Exec i r d s) works so calm = absurd cc
+      live_fits (kinds.Exec i task) works so calm = absurd cc
       live_fits (kinds.Reply i r d s) works so calm = absurd cc
       live_fits kinds.InDoubt works so calm = absurd cc
       live_fits kinds.Ask works so calm = absurd cc
@@ -192,9 +192,9 @@ module _ (g : BranchId) (ask far : BranchId → ℕ) (low : (b : BranchId) → f
       }
       kept_fits kinds.Rollback so calm = absurd cc
       kept_fits kinds.RolledBack so calm = absurd cc
-      kept_fits (kinds.Open i r d) so calm = absurd cc
+      kept_fits (kinds.Open i r d a) so calm = absurd cc
       kept_fits (kinds.Opened i r) so calm = absurd cc
-      kept_fits (kinds.Exec i r d s') so calm = absurd cc
+      kept_fits (kinds.Exec i task) so calm = absurd cc
       kept_fits (kinds.Reply i r d s') so calm = absurd cc
       kept_fits kinds.InDoubt so calm = absurd cc
       kept_fits kinds.Ask so calm = absurd cc
@@ -211,9 +211,9 @@ module _ (g : BranchId) (ask far : BranchId → ℕ) (low : (b : BranchId) → f
     gone_fits asks kinds.Forgotten so calm = idle 1 (omega arith)
     gone_fits asks kinds.Rollback so calm = absurd cc
     gone_fits asks kinds.RolledBack so calm = absurd cc
-    gone_fits asks (kinds.Open i r d) so calm = absurd cc
+    gone_fits asks (kinds.Open i r d a) so calm = absurd cc
     gone_fits asks (kinds.Opened i r) so calm = absurd cc
-    gone_fits asks (kinds.Exec i r d s) so calm = absurd cc
+    gone_fits asks (kinds.Exec i task) so calm = absurd cc
     gone_fits asks (kinds.Reply i r d s) so calm = absurd cc
     gone_fits asks kinds.InDoubt so calm = absurd cc
     gone_fits asks kinds.Ask so calm = absurd cc

@@ -311,3 +311,4 @@ module _ (b : BranchId) (n : ℕ) (t : List Event) (untaught : exit t b ≡ None
   on_record (records.Link l) may = rests ks (with_record_facts b n x (records.Link l)) refl (facts_same x)
   on_record (records.Synonym y) may = rests ks (with_record_facts b n x (records.Synonym y)) refl (facts_same x)
   on_record (records.Param setting) may = rests ks (with_record_facts b n x (records.Param setting)) refl (facts_same x)
+  on_record (records.Image i) may = rests ks (with_record_facts b n x (records.Image i)) refl (facts_same x)

@@ -75,7 +75,9 @@ took_message f k n (inputs.Call session s) None x is comes = absurd cc
 took_message f k n (inputs.GiveUp session) (Some y) x is comes = absurd comes
 took_message f k n (inputs.GiveUp session) None x is comes = absurd cc
 took_message f k n inputs.Reco (Some y) x is comes = absurd comes
+took_message f k n inputs.Checkpoint (Some y) x is comes = absurd comes
 took_message f k n inputs.Reco None x is comes = absurd cc
+took_message f k n inputs.Checkpoint None x is comes = absurd cc
 
 module _ (t : History) (whole : IsLawfulRun t) (c : Commit t.places t.commands t.trace) (u : Undisturbed t.places t.commands t.trace c) where
   abbrev bs : List Born

@@ -1,6 +1,6 @@
 -- The root of an undisturbed COMMIT that was dropped has found no changes: no rollback came, no child said Abort, and its
 -- session neither rolled back nor gave up.
-use Rattle.std.proofs.Common.{◌≡◌, ◌≢◌, ℕ, ◌||◌, Bool, true, false, if◌then◌else◌, List, [], ◌∷◌, ◌++◌, map, Option, Some, None, inl, inr, refl, sym, ap, subst, ◌∙◌}
+use Rattle.std.proofs.Common.{◌≡◌, ◌≢◌, ℕ, ◌||◌, Bool, true, false, if◌then◌else◌, List, [], ◌∷◌, ◌++◌, map, Option, Some, None, inl, inr, refl, sym, ap, subst, ◌∙◌, append-nil, append_assoc}
 use Rattle.tran_ids.proofs.ListedLemmas.{item_is}
 use Rattle.agreement.specs.Events as exits
 use Rattle.agreement.specs.Events.{Event, Exit, Dropped, Quiet, first, only_at, exit}
@@ -11,7 +11,7 @@ use Rattle.node_rules.specs.Data.kinds
 use Rattle.node_rules.specs.Data.records
 use Rattle.node_rules.specs.Data.stmts
 use Rattle.node_rules.specs.Inputs.{Came, IsCall}
-use Rattle.node_rules.specs.NodeState.{NodeState, live_id, live_at}
+use Rattle.node_rules.specs.NodeState.{NodeState, live_id, live_at, Branch, branch_at, with_work, work_at}
 use Rattle.node_rules.specs.Turn.{turn_of}
 use Rattle.node_rules.specs.Words.{same, item_at}
 use Rattle.run_rules.specs.Births.{Born, births_of}
@@ -28,7 +28,7 @@ use Rattle.run_branch_laws.specs.WalkLaws.{is_below, was_sent}
 use Rattle.run_rules.proofs.AtNodeLemmas.{turn_here}
 use Rattle.run_base_laws.proofs.BirthRunLemmas.{messages_are_of_neighbors, nodes_name_the_born}
 use Rattle.run_base_laws.proofs.BirthsStandLemmas.{came_so}
-use Rattle.run_base_laws.proofs.EventsStandLemmas.{run_stands, nodes_are_as_events}
+use Rattle.run_base_laws.proofs.EventsStandLemmas.{run_stands, nodes_are_as_events, ids_name_their_node}
 use Rattle.run_base_laws.proofs.LaterLemmas.{exit_made, exit_later, later_exit, turn_added}
 use Rattle.run_base_laws.proofs.OwnLemmas.{all_found}
 use Rattle.run_base_laws.proofs.RootLemmas.{roots_are_of_sessions}
@@ -38,16 +38,30 @@ use Rattle.tree_laws.proofs.ForestLemmas as trees
 use Rattle.tree_laws.proofs.ForestRunLemmas.{run_known}
 use Rattle.tree_laws.proofs.PrefixLemmas.{so_far, f_at, e_at, one_on, more_on}
 use Rattle.tree_laws.proofs.FateLemmas.{among_found}
-use Rattle.tree_laws.proofs.TimeLemmas.{Part, part_on, part_of, part_lawful, may_of, each_at, exit_end, sent_end, born_end}
+use Rattle.tree_laws.proofs.TimeLemmas.{Part, part_on, part_of, part_lawful, may_of, each_at, exit_end, sent_end, born_end, fact_at}
 use Rattle.run_claims.specs.Undisturbed.{Commit, Undisturbed, is_create}
 use Rattle.commit_laws.specs.WaitLaws.{AllCame}
-use Rattle.commit_point_laws.specs.RootLaws.{FoundNothing, is_rollback, RootReason, Seals, Decides, Finishes, Hears_abort, Gets_rollback, Rolls_back, Gives_up, TurnsLeaveRoots}
+use Rattle.commit_point_laws.specs.RootLaws.{FoundNothing, is_rollback, RootReason, Seals, Decides, Finishes, Hears_abort, Gets_rollback, Rolls_back, Ends_reading, Gives_up, TurnsLeaveRoots}
 use Rattle.commit_point_laws.proofs.CalmLemmas.{IsPlain, plain, took_message, never_disturbed, none_rolled}
 use Rattle.commit_point_laws.proofs.LeaveLemmas.{told_before_leaving, asked_before_leaving}
 use Rattle.commit_point_laws.proofs.MomentLemmas.{LeftThen, left_then}
 use Rattle.commit_point_laws.proofs.RootLemmas.{roots_have_reasons}
+use Rattle.run_base_laws.specs.CallLaws.{ComesAtRest}
+use Rattle.run_base_laws.specs.NodeLaws.{EachFactFrom}
+use Rattle.std.specs.Prelude.{IfSome}
+use Rattle.run_base_laws.proofs.RestRunLemmas.{NodeRests, calls_come_at_rest, run_roots}
+use Rattle.commit_laws.proofs.ServedLemmas.{ServedAt}
+use Rattle.tree_laws.proofs.DecideLemmas.{cancel}
+use Rattle.run_base_laws.proofs.RestLemmas.{live_root}
+use Rattle.commit_laws.proofs.RootLemmas.{served_later}
+use Rattle.node_rules.specs.Sessions.{session_at}
 
 -- ---- exits
+
+-- what is not there is nothing
+not_both : (o : Option ℕ) (n : ℕ) → o ≡ None → o ≡ Some n → ⊥
+not_both None n none some = absurd cc
+not_both (Some m) n none some = absurd cc
 
 -- no record drops a branch
 none_drops : (t : List Event) (b : BranchId) → first (exit t b) None ≡ Some Dropped → exit t b ≡ Some Dropped
@@ -199,7 +213,7 @@ module _ (t : History) (whole : IsLawfulRun t) (c : Commit t.places t.commands t
     pub top : l.parent ≡ None
     top = sym its.is_parent ∙ (ap (λ (x : Born). x.parent) l_born ∙ root_top)
 
-    reason : RootReason (said_in f) e w.input b (turn_of p k w.input).wrote (map post_of (turn_of p k w.input).sent)
+    reason : RootReason (said_in f) e w.input b l.read_at (turn_of p k w.input).wrote (map post_of (turn_of p k w.input).sent)
     reason =
         each_at t.places t.commands (TurnsLeaveRoots t.places) (first_facts t.places) hs h it.later []
         (subst (EachEventFrom (TurnsLeaveRoots t.places) t.places t.commands (first_facts t.places) []) (sym is) (roots_have_reasons t whole)) k may.1.up b l was.1 top gone
@@ -265,13 +279,66 @@ module _ (t : History) (whole : IsLawfulRun t) (c : Commit t.places t.commands t
       | inr (inr create) ↦ (let yes : is_create input ≡ true = ap is_create (sym is_it) ∙ subst (λ (y : Turn). is_create y.input ≡ true) comes_is create in absurd (cc (yes, no_create)))
     ]
 
-    by_reason : RootReason (said_in f) e w.input b (turn_of p k w.input).wrote (map post_of (turn_of p k w.input).sent) → FoundNothing (said_in (facts_at t)) (events_of t) b
+    -- ---- its transaction is not READ ONLY
+
+    -- the rest of the run, from the turn of the COMMIT on
+    rest_is : it.since ++ h ∷ it.later ≡ happenings.Turn c.call ∷ c.during
+    rest_is = cancel c.before (it.since ++ h ∷ it.later) (happenings.Turn c.call ∷ c.during) (sym (append_assoc c.before it.since (h ∷ it.later)) ∙ (is ∙ sym c.is))
+
+    mine : live_at k l.me ≡ Some l
+    mine = subst (λ i. live_at k i ≡ Some l) (sym l_me) was.1
+
+    -- in that turn it is as it was
+    reads_first : it.since ≡ [] → (scn : ℕ) → l.read_at ≡ Some scn → ⊥
+    reads_first none scn reads =
+        let both : h ∷ it.later ≡ happenings.Turn c.call ∷ c.during = ap (λ xs. xs ++ h ∷ it.later) (sym none) ∙ rest_is in
+        let same : w ≡ c.call = cc in
+        let at : hs ≡ c.before = ap (λ xs. c.before ++ xs) none ∙ append-nil c.before in
+        let up : node_at (f_at t c.before) c.call.node ≡ Some k = subst (λ xs. node_at (f_at t xs) c.call.node ≡ Some k) at (subst (λ (z : Turn). node_at f z.node ≡ Some k) same may.1.up) in
+        let one : Some k ≡ Some c.kept = sym up ∙ c.up in
+        let kept : k ≡ c.kept = cc in
+        let there : live_at c.kept b ≡ Some l = subst (λ (j : NodeState). live_at j b ≡ Some l) kept was.1 in
+        let two : Some l ≡ Some c.live = sym there ∙ c.there in
+        let live : l ≡ c.live = cc in
+        let none_read : l.read_at ≡ None = ap (λ (x : Live). x.read_at) live ∙ c.writer in
+        not_both l.read_at scn none_read reads
+
+    -- later it is not working, and so no COMMIT comes to it
+    calls_later : (y : Happening) (ys : List Happening) → it.since ≡ y ∷ ys → (comment : Option (List ℕ)) → IsCall w.input b.session (stmts.Commit comment) → ⊥
+    calls_later y ys more comment call =
+        let both : y ∷ (ys ++ h ∷ it.later) ≡ happenings.Turn c.call ∷ c.during = ap (λ xs. xs ++ h ∷ it.later) (sym more) ∙ rest_is in
+        let first : y ≡ happenings.Turn c.call = cc in
+        let at : (c.before ++ happenings.Turn c.call ∷ []) ++ ys ≡ hs
+        = append_assoc c.before (happenings.Turn c.call ∷ []) ys ∙ (ap (λ z. c.before ++ z ∷ ys) (sym first) ∙ ap (λ xs. c.before ++ xs) (sym more)) in
+        let served : ServedAt t whole b None f
+        = subst (λ xs. ServedAt t whole b None (f_at t xs)) at (served_later t whole c u ys (h ∷ it.later) (ap (λ xs. xs ++ h ∷ it.later) at ∙ is)) in
+        let node : l.me.node ≡ w.node = all_found (λ (x : Live). x.me.node ≡ w.node) live_id k.lives l.me l (ids_name_their_node (so_far t hs) lawful w.node k may.1.up).lives mine in
+        let up : node_at f b.node ≡ Some k = subst (λ i. node_at f i ≡ Some k) (sym node ∙ ap (λ (i : BranchId). i.node) l_me) may.1.up in
+        let rests : ComesAtRest t.places f h
+        = fact_at t.places t.commands (ComesAtRest t.places) (first_facts t.places) hs h it.later
+        (subst (EachFactFrom (ComesAtRest t.places) t.places t.commands (first_facts t.places)) (sym is) (calls_come_at_rest t whole)) in
+        let roots : NodeRests k = subst (λ o. IfSome o NodeRests) may.1.up (run_roots (so_far t hs) lawful w.node) in
+        let x : Branch = record { live = l; work = work_at k l.me } in
+        let found : branch_at k l.me ≡ Some x = ap (with_work k) mine in
+        let root : (session_at k.sessions l.me.session).root ≡ Some l.me = (live_root k roots.1 b l was.1 top).root in
+        let its_call : IsCall w.input l.me.session (stmts.Commit comment) = subst (λ (i : BranchId). IsCall w.input i.session (stmts.Commit comment)) (sym l_me) call in
+        (served k l up was.1).busy (rests k may.1.up l.me.session (Some (stmts.Commit comment)) its_call x root found).0
+
+    pub reads_not : (comment : Option (List ℕ)) (scn : ℕ) → IsCall w.input b.session (stmts.Commit comment) → l.read_at ≡ Some scn → ⊥
+    reads_not comment scn call reads = by it.since refl
+      where
+        by : (since : List Happening) → it.since ≡ since → ⊥
+        by [] none = reads_first none scn reads
+        by (y ∷ ys) more = calls_later y ys more comment call
+
+    by_reason : RootReason (said_in f) e w.input b l.read_at (turn_of p k w.input).wrote (map post_of (turn_of p k w.input).sent) → FoundNothing (said_in (facts_at t)) (events_of t) b
     by_reason (Seals r wrote is_b) = absurd (seal_not r (owed.0 ∙ wrote) is_b)
     by_reason (Decides r wrote is_b) = absurd (decision_not r (owed.0 ∙ wrote) is_b)
     by_reason (Finishes now) = found_end now
     by_reason (Hears_abort from came told) = absurd (abort_not from came told)
     by_reason (Gets_rollback from came) = absurd (rollback_not from came)
     by_reason (Rolls_back n call) = absurd (input_is (inputs.Call n (Some stmts.Rollback)) call (λ m comment no. absurd cc) (λ m no. absurd cc) refl)
+    by_reason (Ends_reading comment scn call reads) = absurd (reads_not comment scn call reads)
     by_reason (Gives_up n gives) = absurd (input_is (inputs.GiveUp n) gives (λ m comment no. absurd cc) (λ m no. absurd cc) refl)
 
     found_so : FoundNothing (said_in (facts_at t)) (events_of t) b

@@ -1,16 +1,17 @@
 -- Who says CommitPoint: a branch that becomes sealed in the turn, to the child to which its step leads.
-use Rattle.std.proofs.Common.{◌≡◌, ℕ, ◌+◌, ◌-◌, Bool, false, List, length, Option, Some, None, refl}
+use Rattle.std.proofs.Common.{◌≡◌, ℕ, ◌+◌, Bool, false, List, length, Option, Some, None, refl}
 use Rattle.commit_forget.specs.declared.next.Next.TheVariants as nexts
 use Rattle.session_tree.specs.Live.{children_of, peer_of, new_edge}
 use Rattle.session_tree.specs.Tree.{step as step_from}
-use Rattle.node_rules.specs.Data.{Answer, Stmt, BranchId, Kind, Live, Act, Post, RedoRecord, Place, Input}
+use Rattle.node_rules.specs.Data.{Answer, BranchId, Kind, Live, Act, Post, RedoRecord, Place, Input}
+use Rattle.node_rules.specs.declared.work.Errand.{Errand}
 use Rattle.node_rules.specs.Data.acts
 use Rattle.node_rules.specs.Data.kinds
 use Rattle.node_rules.specs.Data.records
 use Rattle.node_rules.specs.declared.session.Session.{Session}
 use Rattle.node_rules.specs.NodeState.{NodeState, Branch, TurnDraft, to_one, to_each}
-use Rattle.node_rules.specs.Statement.{ran, after_run}
-use Rattle.node_rules.specs.Calls.{answer_says, exec_to, with_edge, hears_reply}
+use Rattle.node_rules.specs.Statement.{ran}
+use Rattle.node_rules.specs.Calls.{answer_says, exec_to, with_edge, hears_reply, branch_ran, less_room}
 use Rattle.node_rules.specs.Prepare.{path_of, site_neighbors, act_turn}
 use Rattle.node_rules.specs.Recovery.{kept_told}
 use Rattle.node_rules.proofs.Steps as steps
@@ -20,6 +21,9 @@ use Rattle.run_rules.proofs.ListLemmas.{all_append}
 use Rattle.run_branch_laws.proofs.QuietLemmas.{NoRows, acting_apart}
 use Rattle.tree_laws.proofs.WhyLemmas.{Near, ActsIn, seal_act}
 use Rattle.commit_point_laws.specs.PointLaws.{is_point}
+use Rattle.run_base_laws.proofs.BeginLemmas.{may_begin}
+use Rattle.node_rules.specs.Names.{passed_on}
+use Rattle.node_rules.specs.declared.work.Errand.TheVariants as errands
 
 -- ---- messages that are no CommitPoint
 
@@ -33,9 +37,9 @@ answer_other : (x : Branch) (a : Answer) (o : Option BranchId) → AllSay IsOthe
 answer_other x a None = tt
 answer_other x a (Some parent) = (refl, tt)
 
-exec_other : (ss : List Session) (x : Branch) (i : ℕ) (s : Stmt) (given : ℕ) (o : Option BranchId) → AllSay IsOther (exec_to ss x i s given o)
-exec_other ss x i s given None = tt
-exec_other ss x i s given (Some c) = (refl, tt)
+exec_other : (ss : List Session) (x : Branch) (i : ℕ) (errand : Errand) (o : Option BranchId) → AllSay IsOther (exec_to ss x i errand o)
+exec_other ss x i errand None = tt
+exec_other ss x i errand (Some c) = (refl, tt)
 
 says_other : {k : NodeState} {input : Input} {says : List Post} → Says k input says → AllSay IsOther says
 says_other (steps.Tells s from came kept) = (told_says IsOther other_decisions (kept_told s from), tt)
@@ -80,21 +84,25 @@ module _ (k0 : NodeState) (input : Input) where
     acts_why {l = l} acts.Abandon why = all_append (λ x. IsOther x.kind) (to_one l.me kinds.Abort l.parent) _ (one_says IsOther l.me kinds.Abort l.parent refl) (rolled l)
 
   module _ (p : Place) where
-    -- the node is as it was, unless a statement with a table came
+    -- the node is as it was, unless a statement came that begins a transaction
     pub point_why : {k : NodeState} {d : TurnDraft} → Step p input k d → (NoRows input → Near k0 k) → PointWhy d.says d.wrote
-    point_why (steps.Begins n s call rows range none step) near = point_why step (λ no. absurd (no n s call rows))
-    point_why (steps.Pends {k = k} n l given call has live code step) near = point_why step (λ no. (let is = near no in record { lives = is.lives; clock = is.clock }))
+    point_why (steps.Begins n s read_at call begins range none step) near = point_why step (λ no. absurd (no n s call (may_begin begins)))
+    point_why (steps.Counts_call {k = k} n s call counts step) near = point_why step (λ no. (let is = near no in record { lives = is.lives; clock = is.clock }))
+    point_why (steps.Goes_back {k = k} x step goes next) near = point_why next (λ no. (let is = near no in record { lives = is.lives; clock = is.clock }))
+    point_why (steps.Pends {k = k} n l given call has live code writer step) near = point_why step (λ no. (let is = near no in record { lives = is.lives; clock = is.clock }))
     point_why (steps.Lets_reads_go {k = k} l comment b live begins step) near = point_why step (λ no. (let is = near no in record { lives = is.lives; clock = is.clock }))
     point_why (steps.Counts_ack {k = k} s from kept came counts step) near = point_why step (λ no. (let is = near no in record { lives = is.lives; clock = is.clock }))
     point_why (steps.Sends says why) near = says_other why
-    point_why (steps.Runs {k = k} x s given t asked way) near = answer_other (record x { live = after_run x.live (ran p k x.live.me s t) }) _ x.live.parent
+    point_why (steps.Runs {k = k} x s given t asked way) near = answer_other (branch_ran k.sessions x t (ran p k x.live.me s t)) _ x.live.parent
     point_why (steps.Goes_nowhere x s given r asked way) near = answer_other x _ x.live.parent
-    point_why (steps.Calls {k = k} x s given i table asked way) near = exec_other k.sessions x i _ given (peer_of x.live i)
+    point_why (steps.Calls {k = k} x s given i table asked way) near = exec_other k.sessions x i (errands.Statement (passed_on s table) given) (peer_of x.live i)
     point_why (steps.Opens x s given node link table asked way) near = (refl, tt)
     point_why (steps.Goes_on {k = k} x from strength g link opened) near =
-        exec_other k.sessions (with_edge x (new_edge from link strength)) (length x.live.edges + 1) g.statement (g.room - 1) (peer_of (with_edge x (new_edge from link strength)).live (length x.live.edges + 1))
+        exec_other k.sessions (with_edge x (new_edge from link strength)) (length x.live.edges + 1) (less_room g.errand) (peer_of (with_edge x (new_edge from link strength)).live (length x.live.edges + 1))
     point_why (steps.Hears_reply x weight count a i e answered) near = answer_other (hears_reply x i weight count e) _ x.live.parent
-    point_why (steps.Opens_branch to parent edge root depth came new) near = (refl, tt)
+    point_why (steps.Backs {k = k} x step from i calls next) near = exec_other k.sessions x i (errands.GoBack step) (peer_of x.live i)
+    point_why (steps.Is_back x step from calls none) near = answer_other x _ x.live.parent
+    point_why (steps.Opens_branch to parent edge root depth read_at came new) near = (refl, tt)
     point_why (steps.Acts {k = k} l b a why) near = acts_why k (near (acting_apart why)) a why
     point_why (steps.Drops_told l live drops) near = rolled l
     point_why (steps.Drops_asked l from live came parent) near = (refl, rolled l)
@@ -105,6 +113,6 @@ module _ (k0 : NodeState) (input : Input) where
     point_why (steps.Does s from nexts.SayForgotten kept why) near = (refl, tt)
     point_why (steps.Does s from nexts.SayAck kept why) near = (refl, tt)
     point_why (steps.Makes_record n s r d call (steps.Sets_recovery on)) near = tt
-    point_why (steps.Rolls_back n x call has live) near = rolled x.live
+    point_why (steps.Leaves n s d x call ends has live) near = rolled x.live
     point_why (steps.Gives_up_commit n b (Some l) gives has calls live) near = rolled l
     point_why _ near = tt

@@ -13,7 +13,7 @@ use Rattle.node_rules.specs.Data.kinds
 use Rattle.node_rules.specs.Data.phases
 use Rattle.node_rules.specs.Data.votes
 use Rattle.node_rules.specs.Words.{same, item_at, numbered}
-use Rattle.node_rules.specs.Inputs.{Came}
+use Rattle.node_rules.specs.Inputs.{Came, IsCall}
 use Rattle.node_rules.specs.NodeState.{NodeState, Branch, TurnDraft, live_id, live_at, branch_at, work_at, with_work, to_each}
 use Rattle.node_rules.specs.Prepare.{answers_first, is_awaited, voted}
 use Rattle.node_rules.specs.Turn.{turn_of, heard, draft_of}
@@ -50,13 +50,16 @@ use Rattle.tree_laws.proofs.WeightLemmas.{weightless, asked_way}
 use Rattle.tree_laws.proofs.WhyLemmas.{Near}
 use Rattle.tree_laws.proofs.FrozenLemmas.{edge_to, path_down}
 use Rattle.commit_laws.proofs.NetLemmas.{numbered_all}
-use Rattle.commit_point_laws.specs.RootLaws.{FoundNothing, is_rollback, RootReason, Seals, Decides, Finishes, Hears_abort, Gets_rollback, Rolls_back, Gives_up, RootLeaves, TurnsLeaveRoots, RootsHaveReasons}
+use Rattle.commit_point_laws.specs.RootLaws.{FoundNothing, is_rollback, RootReason, Seals, Decides, Finishes, Hears_abort, Gets_rollback, Rolls_back, Gives_up, RootLeaves, TurnsLeaveRoots, RootsHaveReasons, Ends_reading}
 use Rattle.commit_point_laws.proofs.OverLemmas as over
 use Rattle.commit_point_laws.proofs.OverLemmas.{EdgeOver, edges_over}
 use Rattle.commit_point_laws.proofs.PassLemmas.{none_at}
-use Rattle.commit_point_laws.proofs.RootStepLemmas.{StepReason, Wrote_seal, Wrote_decision, Found_none, Said_none, Abandons, Told_rollback, Rolls, Gives, root_leaves}
+use Rattle.commit_point_laws.proofs.RootStepLemmas.{StepReason, Wrote_seal, Wrote_decision, Found_none, Said_none, Abandons, Told_rollback, Rolls, Reads, Gives, root_leaves, CallsOwn}
 use Rattle.tree_laws.proofs.StepWeightLemmas.{nowhere_weighs}
 use Rattle.tree_laws.proofs.AtPart.{at_part}
+use Rattle.run_base_laws.proofs.RootLemmas.{roots_are_of_sessions}
+use Rattle.node_rules.specs.Sessions.{session_at}
+use Rattle.node_rules.specs.Data.stmts
 
 -- ---- acts
 
@@ -162,7 +165,7 @@ module _ (t : History) (before : List Happening) (lawful : IsLawfulRun (so_far t
 
   -- a root does not say ReadOnly
   begins_on : (at : NodeState) {comment : List ℕ} {b : Bool} (l : Live) → live_at k l.me ≡ Some l → l.parent ≡ None → Collects at u.input l comment b → b ≡ false → ⊥
-  begins_on at l live top (steps.By_commit n given call has code is) off = absurd cc
+  begins_on at l live top (steps.By_commit n given call has code writer is) off = absurd cc
   begins_on at {comment = comment} l live top (steps.By_prepare from b came working) off =
       let child : IsChild (Began (births_of s)) l.me from = came_so (GoesSo (Began (births_of s))) f (messages_are_of_neighbors s lawful) k u.node u.input u.took may.comes from l.me (kinds.Prepare b comment) came in
       let parent : l.parent ≡ Some from = above_of (births_of s) l (born_of t before lawful u k may l live) from (child_parent (births_of s) l.me from child) in
@@ -214,7 +217,7 @@ module _ (t : History) (before : List Happening) (lawful : IsLawfulRun (so_far t
         by (steps.Hears_last y from v w a found answers other all_so collected) is = same_one y found is
         by (steps.At_point y from a found came is_ready pointed) is = same_one y found is
 
-    by_step : StepReason k0 u.input b d → RootReason said e u.input b d.wrote d.says
+    by_step : StepReason k0 u.input b d → RootReason said e u.input b l.read_at d.wrote d.says
     by_step (Wrote_seal r is me) = Seals r is me
     by_step (Wrote_decision r is me) = Decides r is me
     by_step (Found_none x below acts_in me) = Finishes (subst (FoundNothing said e) me (finds_nothing weigh acts_in.here acts_in.near acts_in.acting))
@@ -226,16 +229,29 @@ module _ (t : History) (before : List Happening) (lawful : IsLawfulRun (so_far t
         Hears_abort it.0 (subst (λ i. Came u.input it.0 i kinds.Abort) me it.1) (subst (λ i. was_sent is_rollback d.says i it.0 ≡ true) me told)
     by_step (Told_rollback from came) = Gets_rollback from came
     by_step (Rolls n call) = Rolls_back n call
+    by_step (Reads x comment scn call there reads) =
+        let here : live_at k b ≡ Some x = subst (λ (ls : List Live). item_at live_id ls b ≡ Some x) (lives_heard k u.input) there in
+        let both : Some x ≡ Some l = sym here ∙ live in
+        let it : x ≡ l = cc in
+        Ends_reading comment scn call (sym (ap (λ (y : Live). y.read_at) it) ∙ reads)
     by_step (Gives n gives) = Gives_up n gives
 
-    root_turn : live_at d.after b ≡ None → RootReason said e u.input b d.wrote d.says
+    -- a COMMIT comes to the root of its session
+    calls_own : CallsOwn (place_at t.places u.node) k0 u.input b k0
+    calls_own n given x call has found =
+        let same : k0 ≡ k = ap (heard k) call in
+        let root : (session_at k.sessions n).root ≡ Some x.me = subst (λ (j : NodeState). (session_at j.sessions n).root ≡ Some x.me) same has in
+        let at : x.me.session ≡ n = (roots_are_of_sessions s lawful u.node k may.up n x.me root).0 in
+        (given, subst (λ m. IsCall u.input m (stmts.Commit given)) (sym at) call)
+
+    root_turn : live_at d.after b ≡ None → RootReason said e u.input b l.read_at d.wrote d.says
     root_turn none =
         let there : live_at k0 b ≡ Some l = subst (λ (ls : List Live). item_at live_id ls b ≡ Some l) (sym (lives_heard k u.input)) live in
-        by_step (root_leaves (place_at t.places u.node) k0 u.input b (serves t.places f u k may).step (λ no. record { lives = refl; clock = refl }) (l, there, top) none)
+        by_step (root_leaves (place_at t.places u.node) k0 u.input b (serves t.places f u k may).step (λ no. record { lives = refl; clock = refl }) calls_own (l, there, top) none)
 
   pub turn_leaves : AllByRecursion (LiveWeighs e said) k.lives → RootLeaves said e u.input k (turn_of (place_at t.places u.node) k u.input)
   unfolding turn_of
-  turn_leaves weigh b l live top none = subst (λ xs. RootReason said e u.input b d.wrote xs) (sym (posts_back d.after.clock d.says)) (root_turn weigh b l live top none)
+  turn_leaves weigh b l live top none = subst (λ xs. RootReason said e u.input b l.read_at d.wrote xs) (sym (posts_back d.after.clock d.says)) (root_turn weigh b l live top none)
 
 module _ (t : History) where
   leaves_so : (before : List Happening) (h : Happening) (rest : List Happening) → before ++ h ∷ rest ≡ t.trace → IsLawfulRun (so_far t before) → MayHappen t.places t.commands (f_at t before) h

@@ -12,7 +12,7 @@ use Rattle.node_rules.specs.Prepare.{is_awaited}
 use Rattle.node_rules.specs.Turn.{turn_of, heard, draft_of}
 use Rattle.run_rules.specs.Births.{births_of}
 use Rattle.run_base_laws.specs.BirthLaws.{Began, LiveIs}
-use Rattle.run_rules.specs.Data.{Turn, Happening}
+use Rattle.run_rules.specs.Data.{Happening}
 use Rattle.run_rules.specs.Data.happenings
 use Rattle.run_rules.specs.Facts.{place_at, node_at, kept_after, facts_after}
 use Rattle.run_rules.specs.Lawful.{MayHappen, History, IsLawfulRun, facts_at}

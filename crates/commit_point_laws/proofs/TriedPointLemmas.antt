@@ -21,7 +21,7 @@ call = tried.calls 1 (stmts.Commit None) (facts_by tried.places [] before)
 pub the_tried_point : TheTriedPoint
 unfolding trying births_from events_from
 the_tried_point = record {
-  commit = record { before = before; call = call; during = drop 15 tried.trace; is = refl; session = 1; comment = None; asks = refl; kept = _; up = refl; root = tried.a; of = refl; live = _; there = refl };
+  commit = record { before = before; call = call; during = drop 15 tried.trace; is = refl; session = 1; comment = None; asks = refl; kept = _; up = refl; root = tried.a; of = refl; live = _; there = refl; writer = refl };
   root = refl;
   undisturbed = record {
     goes_on = refl;

@@ -1,8 +1,8 @@
 -- In every lawful run a live branch that was told that the walk to the commit point site comes there has a weight: the one
 -- by which its parent took that step.
-use Rattle.std.proofs.Common.{◌≡◌, ◌≢◌, ℕ, ◌≤◌, true, false, List, [], ◌∷◌, ◌++◌, Option, Some, None, inl, inr, refl, sym, ap, subst, subst₂, ◌∙◌, append-nil}
+use Rattle.std.proofs.Common.{◌≡◌, ◌≢◌, ℕ, ◌≤◌, Bool, true, false, List, [], ◌∷◌, ◌++◌, map, Option, Some, None, inl, inr, refl, sym, ap, subst, subst₂, ◌∙◌, append-nil}
 use Rattle.tran_ids.proofs.ListedLemmas.{item_is}
-use Rattle.session_tree.specs.Tree.{weight, step}
+use Rattle.session_tree.specs.Tree.{best_child, place_of_greatest, weight, weight_by, step}
 use Rattle.agreement.specs.Events.{exit}
 use Rattle.node_rules.specs.Data.{BranchId, Edge, Live}
 use Rattle.node_rules.specs.Data.phases
@@ -13,7 +13,7 @@ use Rattle.run_base_laws.specs.BirthLaws.{Began, IsChild}
 use Rattle.run_rules.specs.Branches.{is_among}
 use Rattle.run_rules.specs.Data.{Happening}
 use Rattle.run_rules.specs.Data.happenings
-use Rattle.run_rules.specs.Facts.{place_at, node_at}
+use Rattle.run_rules.specs.Facts.{node_at}
 use Rattle.run_base_laws.specs.FreezeLaws.{was_asked}
 use Rattle.run_base_laws.specs.InTurnLaws.{said_in, newest_exec, call_at}
 use Rattle.run_rules.specs.Lawful.{History, IsLawfulRun, facts_at}
@@ -40,14 +40,23 @@ use Rattle.tree_laws.specs.RestLaws.{Rests, SameTree}
 use Rattle.tree_laws.proofs.CalledLemmas.{edges_were_called}
 use Rattle.tree_laws.proofs.FateLemmas.{Fate, Stays, Leaves, among_found, fate_of}
 use Rattle.tree_laws.proofs.FrozenLemmas.{edge_to, path_down}
-use Rattle.tree_laws.proofs.StrengthLemmas.{lives_have_strength}
 use Rattle.tree_laws.proofs.TimeLemmas.{Part, part_on, part_of, part_lawful, may_of, exit_end, sent_end, keep_on}
 use Rattle.commit_point_laws.specs.PointLaws.{WalksFindWeights}
 use Rattle.commit_point_laws.proofs.MomentLemmas.{SentIn, sent_in, sent_there}
 use Rattle.tree_laws.proofs.AtTurn.{at_happening}
-use Rattle.tree_laws.proofs.FrozenLemmas.{same_weight}
 
 -- ---- weights
+
+unweighed_by : (changed : Bool) (s r : ℕ) (o : Option (ℕ × ℕ)) → weight_by changed s o ≡ None → weight_by changed r o ≡ None
+unweighed_by true s r o is = absurd cc
+unweighed_by false s r o is = is
+
+-- a branch has no weight by its changes and its children, whatever its strength is
+none_weighs : (x y : Live) → y.changed ≡ x.changed → map (λ (e : Edge). e.weight) y.edges ≡ map (λ (e : Edge). e.weight) x.edges → weight y ≡ None → weight x ≡ None
+unfolding weight
+none_weighs x y changed weights is =
+    unweighed_by x.changed y.strength x.strength (best_child x)
+    (ap (λ q. weight_by q y.strength (best_child x)) (sym changed) ∙ (ap (λ ws. weight_by y.changed y.strength (place_of_greatest 1 ws None)) (sym weights) ∙ is))
 
 -- ---- at one moment
 
@@ -171,11 +180,7 @@ module _ (t : History) (whole : IsLawfulRun t) (q c : BranchId) (it : SentIn t w
           let two : Some w ≡ Some y = sym at ∙ found in
           let it_is : w ≡ y = cc in
           let still : SameTree x y = subst (SameTree x) it_is same in
-          let strong_x : x.live.strength ≡ (place_at t.places x.live.me.node).strength = lives_have_strength (so_far t hs) lawful x.live.me.node was.kept there x was.found in
-          let up_y : node_at (f_at t after) y.live.me.node ≡ Some j = subst (λ b. node_at (f_at t after) b.node ≡ Some j) (sym me) up in
-          let strong_y : y.live.strength ≡ (place_at t.places y.live.me.node).strength = lives_have_strength (so_far t after) lawful_z y.live.me.node j up_y y found in
-          let strong : y.live.strength ≡ x.live.strength = strong_y ∙ (ap (λ (b : BranchId). (place_at t.places b.node).strength) (me ∙ sym was.is_me) ∙ sym strong_x) in
-          weighed (sym (same_weight x.live y.live still.changed strong still.weights) ∙ none)
+          weighed (none_weighs x.live y.live still.changed still.weights none)
 
       still_weighs : weight y.live ≢ None
       still_weighs = by_fate (fate_of t whole hs h rest is was.kept x there was.found (λ working. rests))

@@ -1,5 +1,5 @@
--- Why a live root leaves in a turn: its seal or its decision is written, its collect found no changes, or it rolls back: a
--- child says Abort, a rollback reaches it, or its session rolls back or gives up the COMMIT. (Database Administrator's
+-- Why a live root leaves in a turn: its seal or its decision is written, its collect found no changes, its transaction is READ
+-- ONLY and commits, or it rolls back: a child says Abort, a rollback reaches it, or its session rolls back or gives up the COMMIT. (Database Administrator's
 -- Guide, "Distributed Transactions Concepts": prepare phase, read-only optimization.)
 use Rattle.std.specs.Prelude.{◌≡◌, ℕ, Bool, true, false, List, map, Option, Some, None}
 use Rattle.agreement.specs.Events.{Event, Quiet, exit}
@@ -30,19 +30,21 @@ abbrev pub is_rollback : Kind → Bool
 is_rollback kinds.Rollback = true
 is_rollback _ = false
 
--- Why a root leaves in a turn that writes and sends this; a child that says Abort is told Rollback.
-pub data RootReason (said : List Post) (e : List Event) (input : Input) (b : BranchId) (wrote : Option RedoRecord) (sent : List Post) : Type 0 where
-  Seals : (r : Sealed) → wrote ≡ Some (records.Sealed r) → r.me ≡ b → RootReason said e input b wrote sent
-  Decides : (r : Decided) → wrote ≡ Some (records.Decided r) → r.me ≡ b → RootReason said e input b wrote sent
-  Finishes : FoundNothing said e b → RootReason said e input b wrote sent
-  Hears_abort : (from : BranchId) → Came input from b kinds.Abort → was_sent is_rollback sent b from ≡ true → RootReason said e input b wrote sent
-  Gets_rollback : (from : BranchId) → Came input from b kinds.Rollback → RootReason said e input b wrote sent
-  Rolls_back : (n : ℕ) → IsCall input n stmts.Rollback → RootReason said e input b wrote sent
-  Gives_up : (n : ℕ) → input ≡ inputs.GiveUp n → RootReason said e input b wrote sent
+-- Why a root, which reads at an SCN where its transaction is READ ONLY, leaves in a turn that writes and sends this; a child
+-- that says Abort is told Rollback.
+pub data RootReason (said : List Post) (e : List Event) (input : Input) (b : BranchId) (read_at : Option ℕ) (wrote : Option RedoRecord) (sent : List Post) : Type 0 where
+  Seals : (r : Sealed) → wrote ≡ Some (records.Sealed r) → r.me ≡ b → RootReason said e input b read_at wrote sent
+  Decides : (r : Decided) → wrote ≡ Some (records.Decided r) → r.me ≡ b → RootReason said e input b read_at wrote sent
+  Finishes : FoundNothing said e b → RootReason said e input b read_at wrote sent
+  Hears_abort : (from : BranchId) → Came input from b kinds.Abort → was_sent is_rollback sent b from ≡ true → RootReason said e input b read_at wrote sent
+  Gets_rollback : (from : BranchId) → Came input from b kinds.Rollback → RootReason said e input b read_at wrote sent
+  Rolls_back : (n : ℕ) → IsCall input n stmts.Rollback → RootReason said e input b read_at wrote sent
+  Ends_reading : (comment : Option (List ℕ)) (scn : ℕ) → IsCall input b.session (stmts.Commit comment) → read_at ≡ Some scn → RootReason said e input b read_at wrote sent
+  Gives_up : (n : ℕ) → input ≡ inputs.GiveUp n → RootReason said e input b read_at wrote sent
 
 -- each live root that a turn leaves no more has a reason
 abbrev pub RootLeaves : List Post → List Event → Input → NodeState → TurnOutput → Type 0
-RootLeaves said e input k o = (b : BranchId) (l : Live) → live_at k b ≡ Some l → l.parent ≡ None → live_at o.after b ≡ None → RootReason said e input b o.wrote (map post_of o.sent)
+RootLeaves said e input k o = (b : BranchId) (l : Live) → live_at k b ≡ Some l → l.parent ≡ None → live_at o.after b ≡ None → RootReason said e input b l.read_at o.wrote (map post_of o.sent)
 
 -- so does each turn of a node that is up
 abbrev pub TurnsLeaveRoots : List Place → Facts → List Event → Happening → Type 0

@@ -113,8 +113,10 @@ IsUnforced _ = Unit {0}
 
 module _ (p : Place) (input : Input) (calm : ForcesNone input) where
   unforced_on : {k : NodeState} {d : TurnDraft} → Step p input k d → IfSome d.wrote IsUnforced
-  unforced_on (steps.Begins n s call rows range free step) = unforced_on step
-  unforced_on (steps.Pends n l given call has live code step) = unforced_on step
+  unforced_on (steps.Begins n s read_at call begins range free step) = unforced_on step
+  unforced_on (steps.Counts_call n s call counts step) = unforced_on step
+  unforced_on (steps.Goes_back x step goes next) = unforced_on next
+  unforced_on (steps.Pends n l given call has live code writer step) = unforced_on step
   unforced_on (steps.Lets_reads_go l comment below live begins step) = unforced_on step
   unforced_on (steps.Counts_ack s from kept came counts step) = unforced_on step
   unforced_on (steps.Acts l below acts.Rest why) = tt
@@ -151,6 +153,7 @@ delivery_calm f k node (inputs.Call session statement) (Some j) comes i some n s
 delivery_calm f k node (inputs.Call session statement) None comes i some n s call forces = absurd (cc (some))
 delivery_calm f k node (inputs.GiveUp session) took comes i some n s call forces = absurd (cc (call))
 delivery_calm f k node inputs.Reco took comes i some n s call forces = absurd (cc (call))
+delivery_calm f k node inputs.Checkpoint took comes i some n s call forces = absurd (cc (call))
 
 -- nor is a CREATE a statement that forces
 creates_none : (s : Stmt) → commits_first s ≡ true → Forces s → ⊥

@@ -65,7 +65,7 @@ module _ (t : History) (before : List Happening) (lawful : IsLawfulRun (so_far t
     pub begins : live.phase ≡ phases.Working → (live.parent ≡ None) ⊎ PrepareCame u.input live.me
 
   begun : {at : NodeState} {comment : List ℕ} {b : Bool} {a : Act} {x : Exit} (l : Live) → Collects at u.input l comment b → Collected (collecting (with_comment l comment) b) b a → Ends a x → (l.parent ≡ None) ⊎ PrepareCame u.input l.me
-  begun l (steps.By_commit n given call has code is) collected ends = inl (none_is l.parent (root_ends collected ends))
+  begun l (steps.By_commit n given call has code writer is) collected ends = inl (none_is l.parent (root_ends collected ends))
   begun {comment = comment} {b = b} l (steps.By_prepare from _ came working) collected ends = inr (from, b, comment, came)
 
   acting_was : (at : NodeState) → Near k0 at → {l : Live} {b : Bool} {a : Act} → Acting at u.input l b a → (x : Exit) → Ends a x → WasThere l.me

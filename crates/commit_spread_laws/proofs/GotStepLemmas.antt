@@ -3,7 +3,6 @@ use Rattle.std.proofs.Common.{◌≡◌, ◌≢◌, ℕ, Bool, List, Some, None,
 use Rattle.std.specs.Prelude.{◌⊎◌}
 use Rattle.std.specs.List.{AllByRecursion}
 use Rattle.node_rules.specs.Data.{Live, BranchId, Place, Input}
-use Rattle.node_rules.specs.Data.acts
 use Rattle.node_rules.specs.Data.kinds
 use Rattle.node_rules.specs.Data.phases
 use Rattle.node_rules.specs.Inputs.{Came}
@@ -40,16 +39,17 @@ module _ (k0 : NodeState) (p : Place) (input : Input) where
   first_got found = all_weaker (λ l. item_at live_id k0.lives l.me ≡ Some l) Got (λ l here busy. inr (inl (l, here, busy))) k0.lives found
 
   begins_got : {k : NodeState} {comment : List ℕ} {below : Bool} (l : Live) → OfRoots k → live_at k l.me ≡ Some l → Collects k input l comment below → (l.parent ≡ None) ⊎ (WasBusy l.me ⊎ PrepareCame input l.me)
-  begins_got l roots live (steps.By_commit n given call has code is) = inl (roots n given l call has live)
+  begins_got l roots live (steps.By_commit n given call has code writer is) = inl (roots n given l call has live)
   begins_got {comment = comment} {below = below} l roots live (steps.By_prepare from _ came working) = inr (inr (from, below, comment, came))
 
   each : LiveCases p input OfRoots (λ d. Unit {0}) Got
   each = record {
     lasts = commit_lasts (λ l. l.parent ≡ None) p input;
-    root = λ k n s call rows free roots busy. absurd (busy refl);
-    child = λ k to parent edge root depth came new roots busy. absurd (busy refl);
+    root = λ k n s read_at call begins free roots busy. absurd (busy refl);
+    child = λ k to parent edge root depth read_at came new roots busy. absurd (busy refl);
     advised = λ l advice so. so;
     runs = λ k x s t so. so;
+    backs = λ l changed so. so;
     opens = λ k x from strength g link opened roots so. so;
     replies = λ k x weight count a i e answered so. so;
     acts = λ k l below a why roots q all.

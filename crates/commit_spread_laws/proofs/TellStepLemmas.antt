@@ -152,8 +152,10 @@ module _ (k0 : NodeState) (input : Input) where
 
   module _ (p : Place) where
     pub tells_on : {k : NodeState} {d : TurnDraft} → Step p input k d → Near k → IfSome d.wrote (TellsCommit d.says)
-    tells_on (steps.Begins n s call rows range free step) near = tells_on step near
-    tells_on (steps.Pends n l given call has live code step) near = tells_on step near
+    tells_on (steps.Begins n s read_at call begins range free step) near = tells_on step near
+    tells_on (steps.Counts_call n s call counts step) near = tells_on step near
+    tells_on (steps.Goes_back x step goes next) near = tells_on next near
+    tells_on (steps.Pends n l given call has live code writer step) near = tells_on step near
     tells_on (steps.Lets_reads_go l comment below live begins step) near = tells_on step near
     tells_on (steps.Counts_ack s from kept came counts step) near = tells_on step (λ no. absurd (no from s.me came))
     tells_on (steps.Acts {k = k} l below acts.Decide why) near =

@@ -9,7 +9,7 @@ use msg_codec::{
 use sql_print::print_stmt;
 use std::alloc::{AllocError, Global};
 use tran_ids::BranchId;
-use wire_msg::{Kind, Msg};
+use wire_msg::{Kind, Msg, Task};
 
 const SENDER: BranchId = BranchId {
     node: 1,
@@ -98,7 +98,10 @@ fn is_short(alloc: Global, kind: &Kind) -> Result<bool, AllocError>
     ensures { IfOk result (λ short. short ≡ true → IsShort kind.now) }
 {
     match kind {
-        Kind::Exec { statement, .. } => Ok(print_stmt(alloc, statement)?.as_slice().len() < 1000),
+        Kind::Exec {
+            task: Task::Run { statement, .. },
+            ..
+        } => Ok(print_stmt(alloc, statement)?.as_slice().len() < 1000),
         _ => Ok(true),
     }
 }

@@ -42,11 +42,12 @@ const FORGOTTEN: [u8; 15] = [1, 11, 1, 0, 0, 0, 1, 0, 0, 0, 65, 0, 0, 0, 1];
 const HIDDEN: [u8; 15] = [1, 12, 1, 0, 0, 0, 1, 0, 0, 0, 65, 0, 0, 0, 1];
 
 /// A body of each kind.
-const KINDS: [(&str, &[u8]); 12] = [
+const KINDS: [(&str, &[u8]); 13] = [
     ("a start", &START),
     ("a link", &[1, 3, 2, 72, 81, 6, 72, 81, 46, 67, 79, 77]),
     ("a synonym", &[1, 4, 1, 83, 1, 84, 2, 72, 81]),
     ("recovery on", &[1, 5, 1, 0, 0, 0, 1]),
+    ("a strength of 7", &[1, 5, 2, 0, 0, 0, 7]),
     (
         "ended",
         &[
@@ -73,7 +74,7 @@ const KINDS: [(&str, &[u8]); 12] = [
 ];
 
 /// Bytes that are no record's body.
-const NO_RECORDS: [(&str, &[u8]); 13] = [
+const NO_RECORDS: [(&str, &[u8]); 14] = [
     ("no bytes", &[]),
     ("a byte too many", &[1, 1, 0, 0, 0, 1, 0]),
     ("a byte too few", &[1, 1, 0, 0, 0]),
@@ -86,8 +87,9 @@ const NO_RECORDS: [(&str, &[u8]); 13] = [
     ("no kind", &[1, 0, 1, 0, 0, 0, 1, 0, 0, 0, 65, 0, 0, 0, 1]),
     ("a name in lower case", &[1, 3, 2, 104, 113, 2, 72, 81]),
     ("a name of no bytes", &[1, 3, 0, 2, 72, 81]),
-    ("no such setting", &[1, 5, 2, 0, 0, 0, 1]),
+    ("no such setting", &[1, 5, 3, 0, 0, 0, 1]),
     ("a switch of 2", &[1, 5, 1, 0, 0, 0, 2]),
+    ("a strength of 256", &[1, 5, 2, 0, 0, 1, 0]),
     (
         "a rollback with an SCN",
         &[

@@ -84,3 +84,11 @@ delivery_limit = 4096
 -- the most bytes of a script: 1 MiB
 abbrev pub script_limit : ℕ
 script_limit = 1048576
+
+-- the commits of a node that READ ONLY transactions can look behind
+abbrev pub version_limit : ℕ
+version_limit = 64
+
+-- the most bytes of an image's body: 16 MiB
+abbrev pub image_limit : ℕ
+image_limit = 16777216

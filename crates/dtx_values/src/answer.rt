@@ -82,6 +82,10 @@ pub enum Done {
     SystemAltered,
     /// A row of the pending transactions is no longer shown.
     Purged,
+    /// SET TRANSACTION READ ONLY.
+    TransactionSet,
+    /// SAVEPOINT.
+    SavepointMade,
 }
 
 impl Duplicate for Done {

@@ -63,6 +63,7 @@ scn_low s (records.Met b decisions.Rollback mixed) now low = now
 scn_low s (records.Forced b d true) now low = now
 scn_low s (records.Forced b (decisions.Commit n) false) now low = omega (arith, now, low)
 scn_low s (records.Forced b decisions.Rollback false) now low = now
+scn_low s (records.Image i) now low = omega (arith, now, low)
 scn_low s _ now low = now
 
 scns_low : (s : Stored) (rs : List RedoRecord) → s.scn ≤ low_limit → AllByRecursion IsScnLow rs → (stored_by s rs).scn ≤ low_limit

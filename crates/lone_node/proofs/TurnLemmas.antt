@@ -135,12 +135,14 @@ brings_scns (inputs.Message m) within = omega (arith, within)
 brings_scns (inputs.Call session statement) within = tt
 brings_scns (inputs.GiveUp session) within = tt
 brings_scns inputs.Reco within = tt
+brings_scns inputs.Checkpoint within = tt
 
 brings_more : (n m : ℕ) (input : Input) → n ≤ m → BringsWithin n input → BringsWithin m input
 brings_more n m (inputs.Message x) more within = omega (arith, more, within)
 brings_more n m (inputs.Call session statement) more within = tt
 brings_more n m (inputs.GiveUp session) more within = tt
 brings_more n m inputs.Reco more within = tt
+brings_more n m inputs.Checkpoint more within = tt
 
 within_given : (n bound : ℕ) → bound < 1000000 → n ≤ bound → n ≤ given_limit
 within_given n bound few within = omega (arith, few, within)

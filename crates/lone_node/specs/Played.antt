@@ -160,6 +160,7 @@ scn_in (records.Decided r) = r.scn
 scn_in (records.Ended me d) = decided_at d
 scn_in (records.Forced me d given) = decided_at d
 scn_in (records.Met me d mixed) = decided_at d
+scn_in (records.Image i) = i.clock
 scn_in _ = 0
 
 -- the number of a start, and 0 for other records

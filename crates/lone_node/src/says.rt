@@ -13,7 +13,7 @@ use sql_print::{print_stmt, printed_statements_are_read};
 use sql_statement::Stmt;
 use std::alloc::{AllocError, Global};
 use tran_ids::BranchId;
-use wire_msg::{Kind, Msg};
+use wire_msg::{Kind, Msg, Task};
 
 /// What a message says.
 #[derive(Clone, Copy)]
@@ -136,9 +136,11 @@ fn exec(alloc: Global, call: u32, room: u16, text: &[u8]) -> Option<Kind>
     match statement_of(alloc, text) {
         Some(statement) => Some(Kind::Exec {
             call,
-            room,
-            advice: None,
-            statement,
+            task: Task::Run {
+                room,
+                advice: None,
+                statement,
+            },
         }),
         None => None,
     }
@@ -191,6 +193,7 @@ fn kind_of(alloc: Global, says: &Says) -> Option<Kind>
             edge: *edge,
             root: *root,
             depth: *depth,
+            read_at: None,
         }),
         Says::Opened { edge, strength } => Some(Kind::Opened {
             edge: *edge,

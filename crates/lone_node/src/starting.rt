@@ -34,6 +34,7 @@ fn scn_in(redo: &RedoRecord) -> u64
         RedoRecord::Ended { decision, .. } => decided_at(decision),
         RedoRecord::Forced { decision, .. } => decided_at(decision),
         RedoRecord::Met { decision, .. } => decided_at(decision),
+        RedoRecord::Image(image) => image.clock,
         _ => 0,
     }
 }

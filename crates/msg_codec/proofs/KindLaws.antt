@@ -1,11 +1,12 @@
 -- What the fields of a kind are read as. Each kind but Exec has one spelling: its format is exact. An Exec is read from each
 -- text of its statement: what is read is spelled with the text that is there.
-use Rattle.std.proofs.Common.{◌≡◌, ℕ, Bool, true, false, eqb, List, [], ◌++◌, Option, Some, refl, sym, ap, subst, ◌∙◌, append_assoc}
+use Rattle.std.proofs.Common.{◌≡◌, ℕ, Bool, true, false, eqb, List, [], ◌++◌, Option, Some, None, refl, sym, ap, subst, ◌∙◌, append_assoc}
 use Rattle.std.proofs.lemmas.Bool.Decides.{Decides-eqb}
 use Rattle.dtx_values.specs.declared.advice.Advice.{Advice}
 use Rattle.sql_statement.specs.declared.statement.Stmt.{Stmt}
 use Rattle.sql_parse.specs.Statement.{IsStatement, statement_of}
 use Rattle.sql_parse.proofs.ParseLaws.{found_is_spelled, spelled_is_found}
+use Rattle.wire_msg.specs.declared.task.Task.TheVariants as tasks
 use Rattle.wire_msg.specs.declared.kind.Kind.{Kind}
 use Rattle.wire_msg.specs.declared.kind.Kind.TheVariants as kinds
 use Rattle.byte_format.specs.Format.{Format, ◌>>=◌, IsBytes, IsFront, IsExact, ReadsAgain}
@@ -18,7 +19,7 @@ use Rattle.byte_format.proofs.ChoiceLaws.{kind_is, no_kind_is, reads_made}
 use Rattle.byte_format.proofs.Steps.{bind_some, some_is, IsBytes-rest}
 use Rattle.field_codec.proofs.FieldLaws.{branch_exact, comment_exact, advice_exact}
 use Rattle.msg_codec.specs.Statement.{statement_at, statement_as}
-use Rattle.msg_codec.specs.Kind.{kind_byte, open_format, opened_format, call_format, exec_as, reply_format, prepare_format, open_of, opened_of, exec_of, reply_of, prepare_of, committed_of, bare_of, kinds_but_exec, kinds_as}
+use Rattle.msg_codec.specs.Kind.{kind_byte, open_format, open_at_format, back_format, open_at_of, back_of, opened_format, call_format, exec_as, reply_format, prepare_format, open_of, opened_of, exec_of, reply_of, prepare_of, committed_of, bare_of, kinds_but_exec, kinds_as}
 use Rattle.msg_codec.proofs.AnswerLaws.{answer_exact}
 
 -- ---- one and then the other, where the second has several spellings
@@ -58,6 +59,12 @@ statement_takes bytes x fits e =
 open_exact : IsExact open_format
 open_exact = pair_exact _ _ number8_exact (pair_exact _ _ branch_exact number8_exact)
 
+open_at_exact : IsExact open_at_format
+open_at_exact = pair_exact _ _ number8_exact (pair_exact _ _ branch_exact (pair_exact _ _ number8_exact number64_exact))
+
+back_exact : IsExact back_format
+back_exact = pair_exact _ _ number32_exact number32_exact
+
 opened_exact : IsExact opened_format
 opened_exact = pair_exact _ _ number8_exact number8_exact
 
@@ -77,7 +84,7 @@ bare_is n bare others back named rest = kind_is (λ u. bare) (bare_of bare) empt
 
 others_choice : IsChoice kind_byte kinds_but_exec
 others_choice =
-    kind_is (λ x. kinds.Open x.0 x.1.0 x.1.1) open_of open_format open_exact (λ x. refl) 1 kind_byte _ (λ x. refl)
+    kind_is (λ x. kinds.Open x.0 x.1.0 x.1.1 None) open_of open_format open_exact (λ x. refl) 1 kind_byte _ (λ x. refl)
     (kind_is (λ x. kinds.Opened x.0 x.1) opened_of opened_format opened_exact (λ x. refl) 2 kind_byte _ (λ x. refl)
     (kind_is (λ x. kinds.Reply x.0 x.1.0 x.1.1.0 x.1.1.1) reply_of reply_format reply_exact (λ x. refl) 4 kind_byte _ (λ x. refl)
     (kind_is (λ x. kinds.Prepare x.0 x.1) prepare_of prepare_format prepare_exact (λ x. refl) 5 kind_byte _ (λ x. refl)
@@ -93,14 +100,16 @@ others_choice =
     (bare_is 15 kinds.Forgotten _ refl refl
     (bare_is 16 kinds.Rollback _ refl refl
     (bare_is 17 kinds.Ask _ refl refl
-    (no_kind_is kind_byte))))))))))))))))
+    (kind_is (λ x. kinds.Open x.0 x.1.0 x.1.1.0 (Some x.1.1.1)) open_at_of open_at_format open_at_exact (λ x. refl) 18 kind_byte _ (λ x. refl)
+    (kind_is (λ x. kinds.Exec x.0 (tasks.GoBack x.1)) back_of back_format back_exact (λ x. refl) 19 kind_byte _ (λ x. refl)
+    (no_kind_is kind_byte))))))))))))))))))
 
 -- ---- Exec
 
 exec_again : (text_of : Stmt → List ℕ) (x : (ℕ × (ℕ × Option Advice)) × Stmt) → ReadsAgain (exec_as text_of) x
 exec_again text_of x = pair_again call_format (statement_as text_of) call_exact x (statement_again text_of x.1)
 
-exec_kind_again : (text_of : Stmt → List ℕ) (x : (ℕ × (ℕ × Option Advice)) × Stmt) → ReadsAgain (kinds_as text_of 3) (kinds.Exec x.0.0 x.0.1.0 x.0.1.1 x.1)
+exec_kind_again : (text_of : Stmt → List ℕ) (x : (ℕ × (ℕ × Option Advice)) × Stmt) → ReadsAgain (kinds_as text_of 3) (kinds.Exec x.0.0 (tasks.Run x.0.1.0 x.0.1.1 x.1))
 exec_kind_again text_of x rest fits = rw (exec_again text_of x rest fits) refl
 
 exec_takes : (bytes : List ℕ) (x : ((ℕ × (ℕ × Option Advice)) × Stmt) × List ℕ) → IsBytes bytes → (exec_as (λ s. [])).read bytes ≡ Some x → (text : List ℕ) × IsFront (exec_as (λ s. text)) bytes x.0 x.1
@@ -116,9 +125,11 @@ exec_takes bytes x fits e =
 
 -- what a kind says is read again, whichever text its statement was written as
 pub kind_again : (text_of : Stmt → List ℕ) (v : Kind) → ReadsAgain (kinds_as text_of (kind_byte v)) v
-kind_again text_of (kinds.Open edge root depth) = reads_made (λ x. kinds.Open x.0 x.1.0 x.1.1) open_of open_format open_exact (λ x. refl) (edge, (root, depth))
+kind_again text_of (kinds.Open edge root depth None) = reads_made (λ x. kinds.Open x.0 x.1.0 x.1.1 None) open_of open_format open_exact (λ x. refl) (edge, (root, depth))
+kind_again text_of (kinds.Open edge root depth (Some scn)) = reads_made (λ x. kinds.Open x.0 x.1.0 x.1.1.0 (Some x.1.1.1)) open_at_of open_at_format open_at_exact (λ x. refl) (edge, (root, (depth, scn)))
 kind_again text_of (kinds.Opened edge strength) = reads_made (λ x. kinds.Opened x.0 x.1) opened_of opened_format opened_exact (λ x. refl) (edge, strength)
-kind_again text_of (kinds.Exec call room advice s) = exec_kind_again text_of ((call, (room, advice)), s)
+kind_again text_of (kinds.Exec call (tasks.Run room advice s)) = exec_kind_again text_of ((call, (room, advice)), s)
+kind_again text_of (kinds.Exec call (tasks.GoBack keep)) = reads_made (λ x. kinds.Exec x.0 (tasks.GoBack x.1)) back_of back_format back_exact (λ x. refl) (call, keep)
 kind_again text_of (kinds.Reply call weight count result) = reads_made (λ x. kinds.Reply x.0 x.1.0 x.1.1.0 x.1.1.1) reply_of reply_format reply_exact (λ x. refl) (call, (weight, (count, result)))
 kind_again text_of (kinds.Prepare site_below comment) = reads_made (λ x. kinds.Prepare x.0 x.1) prepare_of prepare_format prepare_exact (λ x. refl) (site_below, comment)
 kind_again text_of (kinds.Committed scn) = reads_made kinds.Committed committed_of number64 number64_exact (λ x. refl) scn
@@ -130,7 +141,7 @@ KindFront k bytes x = ((text : List ℕ) × IsFront (kinds_as (λ s. text) k) by
 
 -- Exec beside the other kinds
 abbrev exec_in : (Stmt → List ℕ) → Format Kind
-exec_in text_of = variant (λ x. kinds.Exec x.0.0 x.0.1.0 x.0.1.1 x.1) exec_of (exec_as text_of)
+exec_in text_of = variant (λ x. kinds.Exec x.0.0 (tasks.Run x.0.1.0 x.0.1.1 x.1)) exec_of (exec_as text_of)
 
 -- with this text of its statement
 abbrev exec_with : List ℕ → Format Kind
@@ -138,9 +149,9 @@ exec_with text = exec_in (λ s. text)
 
 exec_kind_takes : (bytes : List ℕ) (x : Kind × List ℕ) → IsBytes bytes → (exec_with []).read bytes ≡ Some x → ((text : List ℕ) × IsFront (exec_with text) bytes x.0 x.1) × (kind_byte x.0 ≡ 3)
 exec_kind_takes bytes x fits e =
-    let u = bind_some ((exec_as (λ s. [])).read bytes) (λ a. Some (kinds.Exec a.0.0.0 a.0.0.1.0 a.0.0.1.1 a.0.1, a.1)) x e in
+    let u = bind_some ((exec_as (λ s. [])).read bytes) (λ a. Some (kinds.Exec a.0.0.0 (tasks.Run a.0.0.1.0 a.0.0.1.1 a.0.1), a.1)) x e in
     let t = exec_takes bytes u.0 fits u.1 in
-    subst (λ (y : Kind × List ℕ). ((text : List ℕ) × IsFront (exec_with text) bytes y.0 y.1) × (kind_byte y.0 ≡ 3)) (some_is (kinds.Exec u.0.0.0.0 u.0.0.0.1.0 u.0.0.0.1.1 u.0.0.1, u.0.1) x u.2)
+    subst (λ (y : Kind × List ℕ). ((text : List ℕ) × IsFront (exec_with text) bytes y.0 y.1) × (kind_byte y.0 ≡ 3)) (some_is (kinds.Exec u.0.0.0.0 (tasks.Run u.0.0.0.1.0 u.0.0.0.1.1 u.0.0.1), u.0.1) x u.2)
     ((t.0, record { fits = t.1.fits; spelled = t.1.spelled }), refl)
 
 either_takes : (b : Bool) (k : ℕ) → (b ≡ true → k ≡ 3) → (bytes : List ℕ) (x : Kind × List ℕ) → IsBytes bytes → (either b (exec_with []) (kinds_but_exec k)).read bytes ≡ Some x

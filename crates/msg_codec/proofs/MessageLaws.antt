@@ -1,5 +1,5 @@
 -- Messages are read back, and what is read is what the bytes spell.
-use Rattle.std.proofs.Common.{◌≡◌, ℕ, suc, List, [], ◌∷◌, ◌++◌, Option, Some, option_and_then, refl, sym, ap, subst, ◌∙◌}
+use Rattle.std.proofs.Common.{◌≡◌, ℕ, suc, List, [], ◌∷◌, ◌++◌, Option, Some, None, option_and_then, refl, sym, ap, subst, ◌∙◌}
 use Rattle.std.proofs.lemmas.List.{append-nil}
 use Rattle.tran_ids.specs.declared.branch.BranchId.{BranchId}
 use Rattle.sql_statement.specs.declared.statement.Stmt.{Stmt}
@@ -7,6 +7,7 @@ use Rattle.sql_print.specs.Printing.{printed}
 use Rattle.sql_print.proofs.RoundTrip.{printed_again}
 use Rattle.wire_msg.specs.declared.kind.Kind.{Kind}
 use Rattle.wire_msg.specs.declared.kind.Kind.TheVariants as kinds
+use Rattle.wire_msg.specs.declared.task.Task.TheVariants as tasks
 use Rattle.wire_msg.specs.declared.msg.Msg.{Msg}
 use Rattle.byte_format.specs.Format.{◌>>=◌, IsBytes, IsFront, IsExact, ReadsAgain}
 use Rattle.byte_format.proofs.NumberLaws.{number64_exact}
@@ -98,13 +99,16 @@ one_message bytes a b p q = some_is a b (sym (message_is_found bytes a p) ∙ me
 
 -- the text that the statement of a message is printed as
 printed_text : Kind → List ℕ
-printed_text (kinds.Exec call room advice s) = printed s
+printed_text (kinds.Exec call (tasks.Run room advice s)) = printed s
 printed_text _ = []
 
 -- it is spelled alike with the text that is printed and with that text alone
 written_kind : (k : Kind) → (kinds_as printed (kind_byte k)).Fits k → (kinds_as (λ s. printed_text k) (kind_byte k)).Fits k × ((kinds_as (λ s. printed_text k) (kind_byte k)).text k ≡ (kinds_as printed (kind_byte k)).text k)
 unfolding printed_text
-written_kind (kinds.Exec call room advice s) fits = (fits, refl)
+written_kind (kinds.Open edge root depth None) fits = (fits, refl)
+written_kind (kinds.Open edge root depth (Some scn)) fits = (fits, refl)
+written_kind (kinds.Exec call (tasks.Run room advice s)) fits = (fits, refl)
+written_kind (kinds.Exec call (tasks.GoBack keep)) fits = (fits, refl)
 written_kind _ fits = (fits, refl)
 
 -- what is written of a message spells it
@@ -131,7 +135,10 @@ written_once a b p q e = some_is a b (sym (message_again a p) ∙ ap message_of 
 
 -- what was read has a spelling with the printed text of its statement, if that is not too long
 printed_kind : (text : List ℕ) (k : Kind) → (kinds_as (λ s. text) (kind_byte k)).Fits k → IsShort k → (kinds_as printed (kind_byte k)).Fits k
-printed_kind text (kinds.Exec call room advice s) fits short = (fits.0, (short, printed_again text s fits.1.1))
+printed_kind text (kinds.Open edge root depth None) fits short = fits
+printed_kind text (kinds.Open edge root depth (Some scn)) fits short = fits
+printed_kind text (kinds.Exec call (tasks.GoBack keep)) fits short = fits
+printed_kind text (kinds.Exec call (tasks.Run room advice s)) fits short = (fits.0, (short, printed_again text s fits.1.1))
 printed_kind text _ fits short = fits
 
 pub read_message_fits : (bytes : List ℕ) (m : Msg) → IsMessage m bytes → IsShort m.kind → HasSpelling m

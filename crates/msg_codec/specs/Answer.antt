@@ -1,9 +1,9 @@
 -- Answers as bytes.
 --
 --   answer  = 1, done, a number of four bytes; or 2, heads, rows; or 3, a code of two bytes, arguments
---   done    = 1 for rows that were created, 2 for updated, 3 for deleted
+--   done    = 1 for rows that were created, 2 for updated, 3 for deleted; or 4 for a branch that went back, with the number 0
 --   heads, rows, arguments = a count of four bytes, and so many; heads and arguments are texts of UTF-8
-use Rattle.std.specs.Prelude.{ℕ, List, Option, Some, None, ⊤}
+use Rattle.std.specs.Prelude.{ℕ, ◌==◌, Bool, true, List, Option, Some, None, ⊤}
 use Rattle.dtx_values.specs.declared.answer.Done.{Done}
 use Rattle.dtx_values.specs.declared.answer.Done.TheVariants as dones
 use Rattle.dtx_values.specs.declared.answer.RowSet.{RowSet}
@@ -12,7 +12,7 @@ use Rattle.dtx_values.specs.declared.answer.Answer.{Answer}
 use Rattle.dtx_values.specs.declared.answer.Answer.TheVariants as answers
 use Rattle.byte_format.specs.Format.{Format}
 use Rattle.byte_format.specs.Number.{empty, number16, number32}
-use Rattle.byte_format.specs.Part.{pair, mapped}
+use Rattle.byte_format.specs.Part.{pair, mapped, tested}
 use Rattle.byte_format.specs.Several.{counted}
 use Rattle.byte_format.specs.Choice.{choice, kind, no_kind}
 use Rattle.field_codec.specs.Text.{utf8_format}
@@ -23,6 +23,7 @@ abbrev pub done_kind : Done → ℕ
 done_kind dones.Created = 1
 done_kind dones.Updated = 2
 done_kind dones.Deleted = 3
+done_kind dones.RolledBack = 4
 done_kind _ = 0
 
 -- whether rows were created
@@ -40,12 +41,18 @@ abbrev pub deleted_of : Done → Option ⊤
 deleted_of dones.Deleted = Some tt
 deleted_of _ = None
 
+-- whether a branch went back
+abbrev pub went_back_of : Done → Option ⊤
+went_back_of dones.RolledBack = Some tt
+went_back_of _ = None
+
 -- what was done: no field, whichever it is
 abbrev pub done_kinds : ℕ → Format Done
 done_kinds =
     kind 1 (λ u. dones.Created) created_of empty
     (kind 2 (λ u. dones.Updated) updated_of empty
-    (kind 3 (λ u. dones.Deleted) deleted_of empty no_kind))
+    (kind 3 (λ u. dones.Deleted) deleted_of empty
+    (kind 4 (λ u. dones.RolledBack) went_back_of empty no_kind)))
 
 -- what was done to rows
 abbrev pub done_format : Format Done
@@ -55,9 +62,14 @@ done_format = choice done_kind done_kinds
 abbrev pub texts_format : Format (List (List ℕ))
 texts_format = counted number32 utf8_format
 
+-- going back counts no rows
+abbrev pub counts_rows : Done × ℕ → Bool
+counts_rows (dones.RolledBack, n) = n == 0
+counts_rows _ = true
+
 -- what was done, and to how many rows
 abbrev pub did_format : Format (Done × ℕ)
-did_format = pair done_format number32
+did_format = tested counts_rows (pair done_format number32)
 
 -- what a query found: its heads, and its rows
 abbrev pub found_format : Format RowSet

@@ -4,6 +4,7 @@ use Rattle.dtx_values.specs.declared.advice.Advice.{Advice}
 use Rattle.dtx_values.specs.declared.answer.Answer.{Answer}
 use Rattle.tran_ids.specs.declared.branch.BranchId.{BranchId}
 use Rattle.sql_statement.specs.declared.statement.Stmt.{Stmt}
+use Rattle.wire_msg.specs.declared.task.Task.TheVariants as tasks
 use Rattle.wire_msg.specs.declared.kind.Kind.{Kind}
 use Rattle.wire_msg.specs.declared.kind.Kind.TheVariants as kinds
 use Rattle.wire_msg.specs.Names.{name_of_kind, place_of_kind, same_kind}
@@ -25,6 +26,14 @@ kind_byte k = place_of_kind (name_of_kind k)
 abbrev pub open_format : Format (ℕ × (BranchId × ℕ))
 open_format = pair number8 (pair branch_format number8)
 
+-- OpenAt: an Open, and the SCN at which its READ ONLY transaction reads
+abbrev pub open_at_format : Format (ℕ × (BranchId × (ℕ × ℕ)))
+open_at_format = pair number8 (pair branch_format (pair number8 number64))
+
+-- Back: the call, and the last call that stays
+abbrev pub back_format : Format (ℕ × ℕ)
+back_format = pair number32 number32
+
 -- Opened: the number of the edge, and the strength of the child's node
 abbrev pub opened_format : Format (ℕ × ℕ)
 opened_format = pair number8 number8
@@ -45,20 +54,30 @@ reply_format = pair number32 (pair (optional number8) (pair number16 answer_form
 abbrev pub prepare_format : Format (Bool × List ℕ)
 prepare_format = pair flag comment_format
 
--- what an Open says
+-- what an Open says that tells no SCN
 abbrev pub open_of : Kind → Option (ℕ × (BranchId × ℕ))
-open_of (kinds.Open edge root depth) = Some (edge, (root, depth))
+open_of (kinds.Open edge root depth None) = Some (edge, (root, depth))
 open_of _ = None
+
+-- what an Open says that tells one
+abbrev pub open_at_of : Kind → Option (ℕ × (BranchId × (ℕ × ℕ)))
+open_at_of (kinds.Open edge root depth (Some scn)) = Some (edge, (root, (depth, scn)))
+open_at_of _ = None
 
 -- what an Opened says
 abbrev pub opened_of : Kind → Option (ℕ × ℕ)
 opened_of (kinds.Opened edge strength) = Some (edge, strength)
 opened_of _ = None
 
--- what an Exec says
+-- what an Exec says that runs a statement
 abbrev pub exec_of : Kind → Option ((ℕ × (ℕ × Option Advice)) × Stmt)
-exec_of (kinds.Exec call room advice s) = Some ((call, (room, advice)), s)
+exec_of (kinds.Exec call (tasks.Run room advice s)) = Some ((call, (room, advice)), s)
 exec_of _ = None
+
+-- what an Exec says that goes back
+abbrev pub back_of : Kind → Option (ℕ × ℕ)
+back_of (kinds.Exec call (tasks.GoBack keep)) = Some (call, keep)
+back_of _ = None
 
 -- what a Reply says
 abbrev pub reply_of : Kind → Option (ℕ × (Option ℕ × (ℕ × Answer)))
@@ -86,7 +105,7 @@ bare_kind n bare others = kind n (λ u. bare) (bare_of bare) empty others
 -- the fields of each kind but Exec
 abbrev pub kinds_but_exec : ℕ → Format Kind
 kinds_but_exec =
-    kind 1 (λ x. kinds.Open x.0 x.1.0 x.1.1) open_of open_format
+    kind 1 (λ x. kinds.Open x.0 x.1.0 x.1.1 None) open_of open_format
     (kind 2 (λ x. kinds.Opened x.0 x.1) opened_of opened_format
     (kind 4 (λ x. kinds.Reply x.0 x.1.0 x.1.1.0 x.1.1.1) reply_of reply_format
     (kind 5 (λ x. kinds.Prepare x.0 x.1) prepare_of prepare_format
@@ -101,8 +120,10 @@ kinds_but_exec =
     (bare_kind 14 kinds.Ack
     (bare_kind 15 kinds.Forgotten
     (bare_kind 16 kinds.Rollback
-    (bare_kind 17 kinds.Ask no_kind)))))))))))))))
+    (bare_kind 17 kinds.Ask
+    (kind 18 (λ x. kinds.Open x.0 x.1.0 x.1.1.0 (Some x.1.1.1)) open_at_of open_at_format
+    (kind 19 (λ x. kinds.Exec x.0 (tasks.GoBack x.1)) back_of back_format no_kind)))))))))))))))))
 
 -- the fields of each kind: Exec, the one kind that has several spellings, and the others
 abbrev pub kinds_as : (Stmt → List ℕ) → ℕ → Format Kind
-kinds_as text_of = kind 3 (λ x. kinds.Exec x.0.0 x.0.1.0 x.0.1.1 x.1) exec_of (exec_as text_of) kinds_but_exec
+kinds_as text_of = kind 3 (λ x. kinds.Exec x.0.0 (tasks.Run x.0.1.0 x.0.1.1 x.1)) exec_of (exec_as text_of) kinds_but_exec

@@ -2,14 +2,14 @@
 ghost use Rattle.std.specs.Prelude.{◌≡◌, ◌++◌, OnOk};
 ghost use Rattle.std.specs.Io.{StartsWith};
 ghost use Rattle.byte_format.specs.Reads.{ReadsInMemory};
-ghost use Rattle.msg_codec.specs.Answer.{done_format, found_format, refusal_format, answer_format};
+ghost use Rattle.msg_codec.specs.Answer.{done_format, did_format, counts_rows as counts_rows_of, found_format, refusal_format, answer_format};
 
 use byte_format::{Field, TakeErr, put_u8, put_u16, put_u32, take_u8, take_u16, take_u32};
 use dtx_values::{Answer, Done, Refusal, RowSet};
 use field_codec::{ListField, RowField, Utf8Field};
 use std::alloc::{AllocError, Global};
 
-/// What was done to rows: 1 for created, 2 for updated, 3 for deleted.
+/// What was done: 1 for rows that were created, 2 for updated, 3 for deleted, 4 for a branch that went back.
 struct DoneField;
 
 impl Field for DoneField {
@@ -22,6 +22,7 @@ impl Field for DoneField {
             Done::Created => put_u8(out, 1),
             Done::Updated => put_u8(out, 2),
             Done::Deleted => put_u8(out, 3),
+            Done::RolledBack => put_u8(out, 4),
             _ => unreachable!(),
         }
     }
@@ -31,7 +32,42 @@ impl Field for DoneField {
             [1, rest @ ..] => Ok((Done::Created, rest)),
             [2, rest @ ..] => Ok((Done::Updated, rest)),
             [3, rest @ ..] => Ok((Done::Deleted, rest)),
+            [4, rest @ ..] => Ok((Done::RolledBack, rest)),
             _ => Err(TakeErr::NoSpelling),
+        }
+    }
+}
+
+/// What was done, and to how many rows: to none where a branch went back.
+struct DidField;
+
+fn counts_rows(did: &(Done, u32)) -> bool
+    ensures { result ≡ counts_rows_of did.now }
+{
+    match did.0 {
+        Done::RolledBack => did.1 == 0,
+        _ => true,
+    }
+}
+
+impl Field for DidField {
+    type Value = (Done, u32);
+
+    ghost format = { did_format };
+
+    fn put_into(out: &mut Vec<u8>, did: &(Done, u32)) -> Result<(), AllocError> {
+        DoneField::put_into(out, &did.0)?;
+        put_u32(out, did.1)
+    }
+
+    fn take_from(alloc: Global, bytes: &[u8]) -> Result<((Done, u32), &[u8]), TakeErr> {
+        let (done, rest) = DoneField::take_from(alloc, bytes)?;
+        let (count, rest) = take_u32(rest)?;
+        let did = (done, count);
+        if counts_rows(&did) {
+            Ok((did, rest))
+        } else {
+            Err(TakeErr::NoSpelling)
         }
     }
 }
@@ -88,8 +124,7 @@ impl Field for AnswerField {
         match answer {
             Answer::Did(done, count) => {
                 put_u8(out, 1)?;
-                DoneField::put_into(out, done)?;
-                put_u32(out, *count)
+                DidField::put_into(out, &(*done, *count))
             }
             Answer::Found(found) => {
                 put_u8(out, 2)?;
@@ -106,9 +141,8 @@ impl Field for AnswerField {
         let (kind, rest) = take_u8(bytes)?;
         match kind {
             1 => {
-                let (done, rest) = DoneField::take_from(alloc, rest)?;
-                let (count, rest) = take_u32(rest)?;
-                Ok((Answer::Did(done, count), rest))
+                let (did, rest) = DidField::take_from(alloc, rest)?;
+                Ok((Answer::Did(did.0, did.1), rest))
             }
             2 => {
                 let (found, rest) = FoundField::take_from(alloc, rest)?;

@@ -15,7 +15,7 @@ ghost use Rattle.msg_codec.specs.Fits.{AnswerFits, KindFits};
 
 use dtx_values::{Answer, Refusal, Row, RowSet};
 use field_codec::{branch_fits, row_fits};
-use wire_msg::{Kind, Msg};
+use wire_msg::{Kind, Msg, Task};
 
 /// Each of these rows has a spelling if one byte is enough to count its cells.
 fn rows_fit(rows: &[Row])
@@ -83,18 +83,36 @@ fn kind_fits(kind: &Kind)
     ensures { (kinds_as printed (kind_byte kind.now)).Fits kind.now }
 {
     match kind {
-        Kind::Open { edge, root, depth } => {
+        Kind::Open {
+            edge,
+            root,
+            depth,
+            read_at,
+        } => {
             let _edge = *edge;
             branch_fits(root);
             let _depth = *depth;
+            if let Some(scn) = read_at {
+                let _scn = *scn;
+            }
         }
         Kind::Opened { edge, strength } => {
             let _edge = *edge;
             let _strength = *strength;
         }
-        Kind::Exec { call, room, .. } => {
+        Kind::Exec {
+            call,
+            task: Task::Run { room, .. },
+        } => {
             let _call = *call;
             let _room = *room;
+        }
+        Kind::Exec {
+            call,
+            task: Task::GoBack { keep },
+        } => {
+            let _call = *call;
+            let _keep = *keep;
         }
         Kind::Reply {
             call,

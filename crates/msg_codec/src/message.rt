@@ -13,16 +13,27 @@ use byte_format::{Field, TakeErr, put_u8, put_u64, take_u64};
 use field_codec::{BranchField, put_branch};
 use std::alloc::{AllocError, Global};
 use tran_ids::BranchId;
-use wire_msg::{Kind, Msg};
+use wire_msg::{Kind, Msg, Task};
 
 /// The byte that names the kind.
 fn kind_byte(kind: &Kind) -> u8
     ensures { result ≡ kind_byte kind.now }
 {
     match kind {
-        Kind::Open { .. } => 1,
+        Kind::Open { read_at: None, .. } => 1,
+        Kind::Open {
+            read_at: Some(_scn),
+            ..
+        } => 18,
         Kind::Opened { .. } => 2,
-        Kind::Exec { .. } => 3,
+        Kind::Exec {
+            task: Task::Run { .. },
+            ..
+        } => 3,
+        Kind::Exec {
+            task: Task::GoBack { .. },
+            ..
+        } => 19,
         Kind::Reply { .. } => 4,
         Kind::Prepare { .. } => 5,
         Kind::Prepared => 6,

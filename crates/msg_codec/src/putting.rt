@@ -2,7 +2,7 @@
 ghost use Rattle.std.specs.Prelude.{◌≡◌, ◌++◌, OnOk};
 ghost use Rattle.std.specs.Io.{StartsWith};
 ghost use Rattle.sql_print.specs.Printing.{printed};
-ghost use Rattle.msg_codec.specs.Kind.{kind_byte, kinds_as, open_format, opened_format, exec_as, reply_format, prepare_format};
+ghost use Rattle.msg_codec.specs.Kind.{kind_byte, kinds_as, open_format, open_at_format, back_format, opened_format, exec_as, reply_format, prepare_format};
 
 use crate::answer::AnswerField;
 use crate::statement::StatementField;
@@ -12,7 +12,7 @@ use field_codec::{AdviceField, CommentField, put_branch};
 use sql_statement::Stmt;
 use std::alloc::AllocError;
 use tran_ids::BranchId;
-use wire_msg::Kind;
+use wire_msg::{Kind, Task};
 
 /// Writes what an Open says.
 fn put_open(out: &mut Vec<u8>, edge: u8, root: &BranchId, depth: u8) -> Result<(), AllocError>
@@ -25,6 +25,33 @@ fn put_open(out: &mut Vec<u8>, edge: u8, root: &BranchId, depth: u8) -> Result<(
     put_u8(out, depth)
 }
 
+/// Writes what an Open says that tells an SCN.
+fn put_open_at(
+    out: &mut Vec<u8>,
+    edge: u8,
+    root: &BranchId,
+    depth: u8,
+    scn: u64,
+) -> Result<(), AllocError>
+    requires { open_at_format.Fits (edge, (root.now, (depth, scn))) }
+    ensures written { OnOk result (out.new.items ≡ out.old.items ++ open_at_format.text (edge, (root.now, (depth, scn)))) }
+    ensures kept { StartsWith out.new.items out.old.items }
+{
+    put_u8(out, edge)?;
+    put_branch(out, root)?;
+    put_u8(out, depth)?;
+    put_u64(out, scn)
+}
+
+/// Writes what an Exec says that goes back.
+fn put_back(out: &mut Vec<u8>, call: u32, keep: u32) -> Result<(), AllocError>
+    ensures written { OnOk result (out.new.items ≡ out.old.items ++ back_format.text (call, keep)) }
+    ensures kept { StartsWith out.new.items out.old.items }
+{
+    put_u32(out, call)?;
+    put_u32(out, keep)
+}
+
 /// Writes what an Opened says.
 fn put_opened(out: &mut Vec<u8>, edge: u8, strength: u8) -> Result<(), AllocError>
     ensures written { OnOk result (out.new.items ≡ out.old.items ++ opened_format.text (edge, strength)) }
@@ -34,7 +61,7 @@ fn put_opened(out: &mut Vec<u8>, edge: u8, strength: u8) -> Result<(), AllocErro
     put_u8(out, strength)
 }
 
-/// Writes what an Exec says.
+/// Writes what an Exec says that runs a statement.
 fn put_exec(
     out: &mut Vec<u8>,
     call: u32,
@@ -87,14 +114,31 @@ pub(crate) fn put_fields(out: &mut Vec<u8>, kind: &Kind) -> Result<(), AllocErro
     ensures kept { StartsWith out.new.items out.old.items }
 {
     match kind {
-        Kind::Open { edge, root, depth } => put_open(out, *edge, root, *depth),
+        Kind::Open {
+            edge,
+            root,
+            depth,
+            read_at: None,
+        } => put_open(out, *edge, root, *depth),
+        Kind::Open {
+            edge,
+            root,
+            depth,
+            read_at: Some(scn),
+        } => put_open_at(out, *edge, root, *depth, *scn),
         Kind::Opened { edge, strength } => put_opened(out, *edge, *strength),
         Kind::Exec {
             call,
-            room,
-            advice,
-            statement,
+            task: Task::Run {
+                room,
+                advice,
+                statement,
+            },
         } => put_exec(out, *call, *room, advice, statement),
+        Kind::Exec {
+            call,
+            task: Task::GoBack { keep },
+        } => put_back(out, *call, *keep),
         Kind::Reply {
             call,
             weight,

@@ -1,18 +1,18 @@
 //! Takes the fields of each kind of message. Each call fails with `NoSpelling` exactly where the fields are not at the
 //! front, and with `NoMemory` where memory runs out.
-ghost use Rattle.std.specs.Prelude.{◌≡◌};
+ghost use Rattle.std.specs.Prelude.{◌≡◌, Some, None};
 ghost use Rattle.byte_format.specs.Number.{number64};
 ghost use Rattle.byte_format.specs.Part.{mapped_at};
 ghost use Rattle.byte_format.specs.Reads.{ReadsInMemory};
 ghost use Rattle.sql_print.specs.Printing.{printed};
-ghost use Rattle.msg_codec.specs.Kind.{kinds_as, open_format, opened_format, exec_as, reply_format, prepare_format};
+ghost use Rattle.msg_codec.specs.Kind.{kinds_as, open_format, open_at_format, back_format, opened_format, exec_as, reply_format, prepare_format};
 
 use crate::answer::AnswerField;
 use crate::statement::StatementField;
 use byte_format::{Field, TakeErr, take_flag, take_u8, take_u16, take_u32, take_u64};
 use field_codec::{AdviceField, BranchField, CommentField};
 use std::alloc::Global;
-use wire_msg::Kind;
+use wire_msg::{Kind, Task};
 
 /// What the message of this kind says whose fields are at the front, and the bytes after them.
 pub(crate) fn take_fields(alloc: Global, kind: u8, bytes: &[u8]) -> Result<(Kind, &[u8]), TakeErr>
@@ -36,6 +36,8 @@ pub(crate) fn take_fields(alloc: Global, kind: u8, bytes: &[u8]) -> Result<(Kind
         15 => Ok((Kind::Forgotten, bytes)),
         16 => Ok((Kind::Rollback, bytes)),
         17 => Ok((Kind::Ask, bytes)),
+        18 => take_open_at(alloc, bytes),
+        19 => take_back(bytes),
         _ => Err(TakeErr::NoSpelling),
     }
 }
@@ -43,12 +45,49 @@ pub(crate) fn take_fields(alloc: Global, kind: u8, bytes: &[u8]) -> Result<(Kind
 /// What an Open says.
 fn take_open(alloc: Global, bytes: &[u8]) -> Result<(Kind, &[u8]), TakeErr>
     ensures { ReadsInMemory (λ x. (x.0, x.1.now)) result
-        (mapped_at (λ x. Kind.Open x.0 x.1.0 x.1.1) open_format.read bytes.now) }
+        (mapped_at (λ x. Kind.Open x.0 x.1.0 x.1.1 None) open_format.read bytes.now) }
 {
     let (edge, rest) = take_u8(bytes)?;
     let (root, rest) = BranchField::take_from(alloc, rest)?;
     let (depth, rest) = take_u8(rest)?;
-    Ok((Kind::Open { edge, root, depth }, rest))
+    let kind = Kind::Open {
+        edge,
+        root,
+        depth,
+        read_at: None,
+    };
+    Ok((kind, rest))
+}
+
+/// What an Open says that tells an SCN.
+fn take_open_at(alloc: Global, bytes: &[u8]) -> Result<(Kind, &[u8]), TakeErr>
+    ensures { ReadsInMemory (λ x. (x.0, x.1.now)) result
+        (mapped_at (λ x. Kind.Open x.0 x.1.0 x.1.1.0 (Some x.1.1.1)) open_at_format.read bytes.now) }
+{
+    let (edge, rest) = take_u8(bytes)?;
+    let (root, rest) = BranchField::take_from(alloc, rest)?;
+    let (depth, rest) = take_u8(rest)?;
+    let (scn, rest) = take_u64(rest)?;
+    let kind = Kind::Open {
+        edge,
+        root,
+        depth,
+        read_at: Some(scn),
+    };
+    Ok((kind, rest))
+}
+
+/// What an Exec says that goes back.
+fn take_back(bytes: &[u8]) -> Result<(Kind, &[u8]), TakeErr>
+    ensures { ReadsInMemory (λ x. (x.0, x.1.now)) result (mapped_at (λ x. Kind.Exec x.0 (Task.GoBack x.1)) back_format.read bytes.now) }
+{
+    let (call, rest) = take_u32(bytes)?;
+    let (keep, rest) = take_u32(rest)?;
+    let kind = Kind::Exec {
+        call,
+        task: Task::GoBack { keep },
+    };
+    Ok((kind, rest))
 }
 
 /// What an Opened says.
@@ -63,18 +102,18 @@ fn take_opened(bytes: &[u8]) -> Result<(Kind, &[u8]), TakeErr>
 /// What an Exec says.
 fn take_exec(alloc: Global, bytes: &[u8]) -> Result<(Kind, &[u8]), TakeErr>
     ensures { ReadsInMemory (λ x. (x.0, x.1.now)) result
-        (mapped_at (λ x. Kind.Exec x.0.0 x.0.1.0 x.0.1.1 x.1) (exec_as printed).read bytes.now) }
+        (mapped_at (λ x. Kind.Exec x.0.0 (Task.Run x.0.1.0 x.0.1.1 x.1)) (exec_as printed).read bytes.now) }
 {
     let (call, rest) = take_u32(bytes)?;
     let (room, rest) = take_u16(rest)?;
     let (advice, rest) = AdviceField::take_from(alloc, rest)?;
     let (statement, rest) = StatementField::take_from(alloc, rest)?;
-    let kind = Kind::Exec {
-        call,
+    let task = Task::Run {
         room,
         advice,
         statement,
     };
+    let kind = Kind::Exec { call, task };
     Ok((kind, rest))
 }
 

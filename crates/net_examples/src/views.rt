@@ -155,6 +155,7 @@ fn live(alloc: Global, session: u32, phase: Phase) -> Result<Live, NameErr> {
         phase,
         advice: None,
         comment: bytes(alloc, b"stock")?,
+        read_at: None,
     })
 }
 

@@ -45,6 +45,11 @@ module _ {A : Type 0} (id : A → BranchId) where
   put_twice [] x y is = ap (λ hit. if hit then y ∷ [] else x ∷ y ∷ []) (same_from_equal (id x) (id y) is)
   put_twice (z ∷ zs) x y is = twice_step x y z zs is (same (id z) (id x)) refl (put_twice zs x y is)
 
+  -- the same item put in its place
+  pub still_there : (xs : List A) (b : BranchId) (o : Option A) → item_at id xs b ≡ o → with_item id (λ x. x) xs o ≡ xs
+  still_there xs b None is = refl
+  still_there xs b (Some x) is = put_back xs b x is
+
 -- what a branch does that is not live
 nobody : (k : NodeState) (b : BranchId) (f : Branch → DraftByRules) → item_at live_id k.lives b ≡ None → at_live k f (branch_at k b) ≡ nothing k
 nobody k b f none = ap (λ o. at_live k f (with_work k o)) none

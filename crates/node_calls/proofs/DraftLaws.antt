@@ -1,5 +1,5 @@
 -- What a live branch does whose statement is answered, goes on, or waits for a link.
-use Rattle.std.proofs.Common.{◌≡◌, ℕ, ◌+◌, List, [], ◌∷◌, Option, None, Some, sym, ap, subst, ◌∙◌}
+use Rattle.std.proofs.Common.{◌≡◌, ℕ, ◌+◌, List, [], ◌∷◌, Option, None, Some, refl, sym, ap, subst, ◌∙◌}
 use Rattle.tran_ids.specs.declared.branch.BranchId.{BranchId}
 use Rattle.tran_ids.specs.Listed.{item_at, put_item}
 use Rattle.tran_ids.proofs.ListedLemmas.{item_is}
@@ -8,23 +8,25 @@ use Rattle.link_session.specs.declared.reply.ReplyFields.{ReplyFields}
 use Rattle.reco.specs.declared.post.Post.{Post}
 use Rattle.node_rules.specs.declared.session.Session.{Session}
 use Rattle.node_rules.specs.declared.work.Work.{Work}
-use Rattle.node_rules.specs.Data.{Live, Answer, Stmt}
+use Rattle.node_rules.specs.Data.{Live, Answer, Done, Stmt}
+use Rattle.node_rules.specs.declared.work.Errand.{Errand}
 use Rattle.node_rules.specs.Data.answers
 use Rattle.node_rules.specs.Data.dones
 use Rattle.node_rules.specs.Data.kinds
 use Rattle.node_rules.specs.declared.session.PendingCall.TheVariants as pending
-use Rattle.node_rules.specs.NodeState.{NodeState, TurnDraft as DraftByRules, live_id, work_id, with_work, branch_at, without_branch, nothing, ending, post}
+use Rattle.node_rules.specs.NodeState.{NodeState, Branch, TurnDraft as DraftByRules, live_id, work_id, with_work, branch_at, without_branch, nothing, ending, post}
 use Rattle.sql_check.specs.Words.{one}
 use Rattle.sql_check.specs.Refusals.{dtx}
-use Rattle.node_rules.specs.Sessions.{with_call, needs_rollback}
+use Rattle.node_rules.specs.Sessions.{session_at, with_call, needs_rollback}
 use Rattle.node_rules.specs.Prepare.{to_children}
-use Rattle.node_rules.specs.Client.{rollback_by, statement_given_up, waited_link}
+use Rattle.node_rules.specs.Client.{rollback_by, root_at, root_by, statement_given_up, waited_link}
 use Rattle.node_state.specs.Sessions.{transaction_ended}
+use Rattle.node_rules.specs.Marks.{step_of}
 use Rattle.node_rules.specs.Calls.{answered, answer_ends, answer_says, answered_sessions, call_pends, calls_over, exec_to, kept_reply, nobody_at, opens_through, replies, reply_fields}
 use Rattle.node_state.specs.Works.{answered_with, called_over, change_work, given_up, waits_for_child, work_of}
 use Rattle.node_drafts.specs.declared.draft.TurnDraft.{TurnDraft}
 use Rattle.node_drafts.specs.Gives.{GivesDraft}
-use Rattle.node_calls.specs.Handled.{at_live}
+use Rattle.node_calls.specs.Handled.{at_live, leaves_by}
 use Rattle.node_calls.proofs.BranchLaws.{put_back, branch_here, somebody}
 
 -- a draft of the rules, from its parts
@@ -79,37 +81,45 @@ module _ (k : NodeState) (b : BranchId) (l : Live) (is : item_at live_id k.lives
         gives_so (at_live k (λ x. answered k x a) (branch_at k b)) (answered_by k.lives (Some parent)) after draft (answered_so (Some parent) at)
         (new ∙ ap (λ f. record k { works = change_work (answered_with (Some f)) k.works b }) same) (done ∙ ap sends (said ∙ ap (replies (branch_here k b l) parent) same))
 
-  -- ---- a statement that goes on
+  -- ---- an errand that goes on
 
-  module _ (s : Stmt) (given : ℕ) where
+  module _ (e : Errand) where
+    abbrev step_here : ℕ
+    step_here = step_of k.sessions (branch_here k b l)
+
     abbrev called_by : ℕ → List Live → DraftByRules
     called_by i ls = record {
-      after = record k { lives = ls; works = change_work (called_over i s given) k.works b; sessions = call_pends k.sessions l };
+      after = record k { lives = ls; works = change_work (called_over i e step_here) k.works b; sessions = call_pends k.sessions l };
       wrote = None;
-      says = exec_to k.sessions (branch_here k b l) i s given (peer_of l i);
+      says = exec_to k.sessions (branch_here k b l) i e (peer_of l i);
       ended = [];
     }
 
     -- to a child
-    pub called_so : (i : ℕ) (says : List Post) (works : List Work) (sessions : List Session) (draft : TurnDraft) → works ≡ change_work (called_over i s given) k.works b → sessions ≡ call_pends k.sessions l
-        → says ≡ exec_to k.sessions (branch_here k b l) i s given (peer_of l i) → draft ≡ sends says
-        → GivesDraft (at_live k (λ x. calls_over k x i s given) (branch_at k b)) (with_calls k works sessions) draft
-    called_so i says works sessions draft w_is s_is said done =
-        gives_so (at_live k (λ x. calls_over k x i s given) (branch_at k b)) (called_by i k.lives) (with_calls k works sessions) draft
-        (somebody k b l (λ x. calls_over k x i s given) is ∙ ap (called_by i) (put_back live_id k.lives b l is))
-        (calls_so works (change_work (called_over i s given) k.works b) sessions (call_pends k.sessions l) w_is s_is) (done ∙ ap sends said)
+    pub called_so : (i step : ℕ) (says : List Post) (works : List Work) (sessions : List Session) (draft : TurnDraft) → step ≡ step_here
+        → works ≡ change_work (called_over i e step) k.works b → sessions ≡ call_pends k.sessions l
+        → says ≡ exec_to k.sessions (branch_here k b l) i e (peer_of l i) → draft ≡ sends says
+        → GivesDraft (at_live k (λ x. calls_over k x i e) (branch_at k b)) (with_calls k works sessions) draft
+    called_so i step says works sessions draft at w_is s_is said done =
+        gives_so (at_live k (λ x. calls_over k x i e) (branch_at k b)) (called_by i k.lives) (with_calls k works sessions) draft
+        (somebody k b l (λ x. calls_over k x i e) is ∙ ap (called_by i) (put_back live_id k.lives b l is))
+        (calls_so works (change_work (called_over i e step_here) k.works b) sessions (call_pends k.sessions l)
+        (w_is ∙ ap (λ n. change_work (called_over i e n) k.works b) at) s_is) (done ∙ ap sends said)
 
+  -- ---- a statement that waits for a link
+
+  module _ (s : Stmt) (given : ℕ) where
     abbrev waits_by : ℕ → List ℕ → List Live → DraftByRules
     waits_by node link ls = record {
       after = record k { lives = ls; works = change_work (waits_for_child link s given) k.works b; sessions = call_pends k.sessions l };
       wrote = None;
-      says = post l.me (nobody_at node) (kinds.Open (next_edge l) l.root (l.depth + 1));
+      says = post l.me (nobody_at node) (kinds.Open (next_edge l) l.root (l.depth + 1) l.read_at);
       ended = [];
     }
 
     -- over a link that is used for the first time
     pub opened_so : (node : ℕ) (link : List ℕ) (says : List Post) (works : List Work) (sessions : List Session) (draft : TurnDraft) → works ≡ change_work (waits_for_child link s given) k.works b
-        → sessions ≡ call_pends k.sessions l → says ≡ post l.me (nobody_at node) (kinds.Open (next_edge l) l.root (l.depth + 1)) → draft ≡ sends says
+        → sessions ≡ call_pends k.sessions l → says ≡ post l.me (nobody_at node) (kinds.Open (next_edge l) l.root (l.depth + 1) l.read_at) → draft ≡ sends says
         → GivesDraft (at_live k (λ x. opens_through k x node link s given) (branch_at k b)) (with_calls k works sessions) draft
     opened_so node link says works sessions draft w_is s_is said done =
         gives_so (at_live k (λ x. opens_through k x node link s given) (branch_at k b)) (waits_by node link k.lives) (with_calls k works sessions) draft
@@ -139,21 +149,31 @@ module _ (k : NodeState) (b : BranchId) (l : Live) (is : item_at live_id k.lives
         (s_is ∙ ap (λ ss. needs_rollback ss n (dtx 3 []).code) i_is))
         (done ∙ ap (ends n) told)
 
-    -- ---- a transaction that rolls back
+    -- ---- a transaction that ends at once
 
-    abbrev rolled_back : DraftByRules
-    rolled_back = record {
-      after = record (without_branch k l.me) { sessions = transaction_ended k.sessions n };
-      wrote = None;
-      says = to_children l kinds.Rollback;
-      ended = (record { session = n; answer = answers.Did dones.RolledBack 0 }) ∷ [];
-    }
+    module _ (d : Done) where
+      abbrev left : DraftByRules
+      left = record {
+        after = record (without_branch k l.me) { sessions = transaction_ended k.sessions n };
+        wrote = None;
+        says = to_children l kinds.Rollback;
+        ended = (record { session = n; answer = answers.Did d 0 }) ∷ [];
+      }
 
-    pub rolled_back_so : (after : NodeState) (draft : TurnDraft) → after ≡ record (without_branch k l.me) { sessions = transaction_ended k.sessions n }
-        → draft ≡ record { wrote = None; says = to_children l kinds.Rollback; ended = (record { session = n; answer = answers.Did dones.RolledBack 0 }) ∷ [] }
-        → GivesDraft (rollback_by k n (branch_at k b)) after draft
-    rolled_back_so after draft new done =
-        gives_so (rollback_by k n (branch_at k b)) rolled_back after draft (ap (λ o. rollback_by k n (with_work k o)) is) new done
+      pub left_so : (after : NodeState) (draft : TurnDraft) → after ≡ record (without_branch k l.me) { sessions = transaction_ended k.sessions n }
+          → draft ≡ record { wrote = None; says = to_children l kinds.Rollback; ended = (record { session = n; answer = answers.Did d 0 }) ∷ [] }
+          → GivesDraft (leaves_by k n d (branch_at k b)) after draft
+      left_so after draft new done = gives_so (leaves_by k n d (branch_at k b)) left after draft (ap (λ o. leaves_by k n d (with_work k o)) is) new done
+
+rolls_back_is : (k : NodeState) (n : ℕ) (o : Option Branch) → leaves_by k n dones.RolledBack o ≡ rollback_by k n o
+rolls_back_is k n None = refl
+rolls_back_is k n (Some x) = refl
+
+-- ROLLBACK at the root of a session
+pub rolls_back_so : (k : NodeState) (n : ℕ) (root : BranchId) (after : NodeState) (draft : TurnDraft) → (session_at k.sessions n).root ≡ Some root
+    → GivesDraft (leaves_by k n dones.RolledBack (branch_at k root)) after draft → GivesDraft (rollback_by k n (root_at k n)) after draft
+rolls_back_so k n root after draft has does =
+    subst (λ d. GivesDraft d after draft) (rolls_back_is k n (branch_at k root) ∙ sym (ap (λ o. rollback_by k n (root_by k o)) has)) does
 
 -- ---- branches that are not live
 
@@ -163,5 +183,5 @@ module _ (k : NodeState) (b : BranchId) (none : item_at live_id k.lives b ≡ No
   none_given_up draft does = subst (λ d. GivesDraft d k draft) (sym (ap (λ o. statement_given_up k n (with_work k o)) none)) does
 
   -- and only the call ends
-  pub none_to_roll_back : (draft : TurnDraft) → GivesDraft (ending k n (answers.Did dones.RolledBack 0)) k draft → GivesDraft (rollback_by k n (branch_at k b)) k draft
-  none_to_roll_back draft does = subst (λ d. GivesDraft d k draft) (sym (ap (λ o. rollback_by k n (with_work k o)) none)) does
+  pub none_leaves : (d : Done) (draft : TurnDraft) → GivesDraft (ending k n (answers.Did d 0)) k draft → GivesDraft (leaves_by k n d (branch_at k b)) k draft
+  none_leaves d draft does = subst (λ x. GivesDraft x k draft) (sym (ap (λ o. leaves_by k n d (with_work k o)) none)) does

@@ -1,9 +1,11 @@
 -- What a statement meets at a node is what it meets at the node's store, and what it leaves there is the same.
-use Rattle.std.proofs.Common.{◌≡◌, ℕ, ◌-◌, List, Some, Result, IfOk, refl, ap, subst, ◌∙◌}
+use Rattle.std.proofs.Common.{◌≡◌, ℕ, ◌-◌, List, Option, Some, None, Result, IfOk, refl, sym, ap, subst, ◌∙◌}
 use Rattle.tran_ids.specs.declared.branch.BranchId.{BranchId}
 use Rattle.tran_ids.specs.Listed.{item_at}
 use Rattle.row_locks.specs.Locks.{Lock}
-use Rattle.row_store.specs.Store.{Contents, used_extents}
+use Rattle.row_store.specs.Own.{view_of}
+use Rattle.row_store.specs.Pending.{changes_of}
+use Rattle.row_store.specs.Store.{Contents, seen_by, sets_at, used_extents}
 use Rattle.row_store.specs.declared.pending.Owned.{Owned}
 use Rattle.stmt_run.specs.Run.{locks_after, ran_over}
 use Rattle.stmt_run.specs.Stored.{ground_in, owns_after as owns_after_store, store_after_run}
@@ -11,14 +13,17 @@ use Rattle.node_rules.specs.Data.{Live, Table, Stmt, Keyed, Answer}
 use Rattle.node_rules.specs.NodeState.{NodeState, live_id, branch_at}
 use Rattle.node_rules.specs.Names.{Runs_here, way_of}
 use Rattle.node_rules.specs.Calls.{answered, statement_at}
-use Rattle.node_rules.specs.Statement.{StmtOutcome, Refuses, Reads, Writes, answer_of_run, ground_of, makes_changes, owns_after, ran, view}
+use Rattle.node_rules.specs.Marks.{step_of}
+use Rattle.node_rules.specs.declared.work.Work.{Work}
+use Rattle.node_rules.specs.Statement.{StmtOutcome, Refuses, Reads, Writes, answer_of_run, ground_of, makes_changes, owns_after, ran, read_by, reads_at, reads_too_old, rows_read, view}
 use Rattle.node_state.specs.Changed.{change_item}
 use Rattle.node_state.specs.Lives.{changed_by}
 use Rattle.node_drafts.specs.declared.draft.TurnDraft.{TurnDraft}
 use Rattle.node_drafts.specs.Gives.{GivesDraft}
 use Rattle.node_memory.specs.declared.memory.Memory.{Memory}
 use Rattle.node_memory.specs.Parts.{kept_in, stored_in, HasOwnUndo}
-use Rattle.node_calls.specs.Handled.{at_live, did_changes}
+use Rattle.node_calls.specs.Handled.{at_live, did_changes, works_after_run}
+use Rattle.node_calls.proofs.BranchLaws.{branch_here}
 use Rattle.node_calls.proofs.WayLaws.{ran_so}
 
 -- what live branches have changed after a run
@@ -33,16 +38,17 @@ changes_is (Refuses x) = refl
 changes_is (Reads found keys) = refl
 changes_is (Writes d cs keys undo) = refl
 
--- what a node keeps whose store, locks and live branches are these
-abbrev pub with_parts : Memory → Contents → List Lock → List Live → NodeState
-with_parts m store locks lives = record (kept_in m) {
+-- what a node keeps whose store, locks, live branches and calls are these
+abbrev pub with_parts : Memory → Contents → List Lock → List Live → List Work → NodeState
+with_parts m store locks lives works = record (kept_in m) {
   stored = record (stored_in m) { rows = store.rows; doubts = store.doubts };
   owns = store.owns;
   locks = locks;
   lives = lives;
+  works = works;
 }
 
-module _ (m : Memory) (own : HasOwnUndo m) (b : BranchId) (s : Stmt) (t : Table) where
+module _ (m : Memory) (b : BranchId) (s : Stmt) (t : Table) where
   -- what the statement does at the store, and by the rules
   abbrev pub at_store : StmtOutcome
   at_store = ran_over (ground_in m.store m.locks b t) s t
@@ -50,41 +56,68 @@ module _ (m : Memory) (own : HasOwnUndo m) (b : BranchId) (s : Stmt) (t : Table)
   abbrev by_rules : StmtOutcome
   by_rules = ran m.place (kept_in m) b s t
 
-  ground_is : ground_in m.store m.locks b t ≡ ground_of m.place (kept_in m) b t
-  ground_is = ap (λ n. record (ground_in m.store m.locks b t) { free = n - used_extents m.store.owns m.store.doubts }) own
+-- a branch that reads at no SCN
+reads_none : (m : Memory) (b : BranchId) (l : Live) → item_at live_id m.lives b ≡ Some l → l.read_at ≡ None → reads_at (kept_in m) b ≡ None
+reads_none m b l is newest = ap read_by is ∙ newest
 
-  ran_is : at_store ≡ by_rules
+-- sees the newest rows
+pub seen_newest : (m : Memory) (b : BranchId) (l : Live) (table : List ℕ) → item_at live_id m.lives b ≡ Some l → l.read_at ≡ None → seen_by m.store b table ≡ view (kept_in m) b table
+seen_newest m b l table is newest = sym (ap (λ scn. view_of (rows_read (kept_in m) scn) (changes_of (sets_at m.store.owns b)) table) (reads_none m b l is newest))
+
+module _ (m : Memory) (own : HasOwnUndo m) (b : BranchId) (s : Stmt) (t : Table) (newest : reads_at (kept_in m) b ≡ None) where
+  abbrev seen_at : Option ℕ → List Keyed
+  seen_at scn = view_of (rows_read (kept_in m) scn) (changes_of (sets_at m.store.owns b)) t.name
+
+  seen_is : seen_by m.store b t.name ≡ view (kept_in m) b t.name
+  seen_is = sym (ap seen_at newest)
+
+  ground_is : ground_in m.store m.locks b t ≡ ground_of m.place (kept_in m) b t
+  ground_is =
+      ap (λ n. record (ground_in m.store m.locks b t) { free = n - used_extents m.store.owns m.store.doubts }) own
+      ∙ sym (ap (λ scn. record (ground_of m.place (kept_in m) b t) { view = seen_at scn; too_old = reads_too_old (kept_in m) scn }) newest)
+
+  ran_is : at_store m b s t ≡ by_rules m b s t
   unfolding ran
   ran_is = ap (λ g. ran_over g s t) ground_is
 
   abbrev store_by : Contents
-  store_by = record m.store { owns = owns_after m.store.owns b (view (kept_in m) b t.name) by_rules }
+  store_by = record m.store { owns = owns_after m.store.owns b (view (kept_in m) b t.name) (by_rules m b s t) }
 
-  store_is : store_after_run m.store b t at_store ≡ store_by
-  store_is = ap (store_after_run m.store b t) ran_is ∙ ap (λ os. record m.store { owns = os }) (owns_is m.store.owns b (view (kept_in m) b t.name) by_rules)
+  store_is : store_after_run m.store b t (at_store m b s t) ≡ store_by
+  store_is =
+      ap (store_after_run m.store b t) ran_is
+      ∙ ap (λ rows. record m.store { owns = owns_after_store m.store.owns b rows (by_rules m b s t) }) seen_is
+      ∙ ap (λ os. record m.store { owns = os }) (owns_is m.store.owns b (view (kept_in m) b t.name) (by_rules m b s t))
 
-  abbrev kept_by : NodeState
-  kept_by = record (kept_in m) {
-    owns = owns_after m.store.owns b (view (kept_in m) b t.name) by_rules;
-    locks = locks_after m.locks b t by_rules;
-    lives = change_item live_id (changed_by (makes_changes by_rules)) m.lives b;
+  abbrev kept_by : ℕ → NodeState
+  kept_by step = record (kept_in m) {
+    owns = owns_after m.store.owns b (view (kept_in m) b t.name) (by_rules m b s t);
+    locks = locks_after m.locks b t (by_rules m b s t);
+    lives = change_item live_id (changed_by (makes_changes (by_rules m b s t))) m.lives b;
+    works = works_after_run m.works b step t (by_rules m b s t);
   }
 
   -- what the node keeps after it
-  kept_is : (store : Contents) (locks : List Lock) (lives : List Live) → store ≡ store_after_run m.store b t at_store → locks ≡ locks_after m.locks b t at_store
-      → lives ≡ change_item live_id (changed_by (makes_changes at_store)) m.lives b → with_parts m store locks lives ≡ kept_by
-  kept_is store locks lives s_is l_is v_is =
-      ap (λ x. with_parts m x locks lives) (s_is ∙ store_is)
-      ∙ ap (λ x. with_parts m store_by x lives) (l_is ∙ ap (locks_after m.locks b t) ran_is)
-      ∙ ap (λ x. with_parts m store_by (locks_after m.locks b t by_rules) x) (v_is ∙ ap (λ r. change_item live_id (changed_by (makes_changes r)) m.lives b) ran_is)
+  kept_is : (store : Contents) (locks : List Lock) (lives : List Live) (works : List Work) (step : ℕ) → store ≡ store_after_run m.store b t (at_store m b s t)
+      → locks ≡ locks_after m.locks b t (at_store m b s t) → lives ≡ change_item live_id (changed_by (makes_changes (at_store m b s t))) m.lives b
+      → works ≡ works_after_run m.works b step t (at_store m b s t) → with_parts m store locks lives works ≡ kept_by step
+  kept_is store locks lives works step s_is l_is v_is w_is =
+      let r = by_rules m b s t in
+      ap (λ x. with_parts m x locks lives works) (s_is ∙ store_is)
+      ∙ ap (λ x. with_parts m store_by x lives works) (l_is ∙ ap (locks_after m.locks b t) ran_is)
+      ∙ ap (λ x. with_parts m store_by (locks_after m.locks b t r) x works) (v_is ∙ ap (λ q. change_item live_id (changed_by (makes_changes q)) m.lives b) ran_is)
+      ∙ ap (λ x. with_parts m store_by (locks_after m.locks b t r) (change_item live_id (changed_by (makes_changes r)) m.lives b) x) (w_is ∙ ap (works_after_run m.works b step t) ran_is)
 
-  -- and so the branch answers it by the rules
-  pub ran_here : {E : Type 0} (l : Live) (given : ℕ) (told : Answer) (store : Contents) (locks : List Lock) (lives : List Live) (after : NodeState) (result : Result TurnDraft E)
-      → item_at live_id m.lives b ≡ Some l → way_of m.place (stored_in m).durable l given s ≡ Runs_here t → told ≡ answer_of_run at_store
-      → store ≡ store_after_run m.store b t at_store → locks ≡ locks_after m.locks b t at_store → lives ≡ change_item live_id (changed_by (makes_changes at_store)) m.lives b
-      → IfOk result (λ draft. GivesDraft (at_live (with_parts m store locks lives) (λ x. answered (with_parts m store locks lives) x told) (branch_at (with_parts m store locks lives) b)) after draft)
-      → IfOk result (λ draft. GivesDraft (at_live (kept_in m) (λ x. statement_at m.place (kept_in m) x s given) (branch_at (kept_in m) b)) after draft)
-  ran_here l given told store locks lives after result is way t_is s_is l_is v_is does =
-      let k = with_parts m store locks lives in
-      ran_so m.place (kept_in m) b l is s given t by_rules k after result way refl (kept_is store locks lives s_is l_is v_is)
-      (subst (λ a. IfOk result (λ draft. GivesDraft (at_live k (λ x. answered k x a) (branch_at k b)) after draft)) (t_is ∙ ap answer_of_run ran_is) does)
+-- and so the branch answers it by the rules
+pub ran_here : (m : Memory) → HasOwnUndo m → (b : BranchId) (s : Stmt) (t : Table) {E : Type 0} (l : Live) (given step : ℕ) (told : Answer) (store : Contents) (locks : List Lock) (lives : List Live) (works : List Work)
+    (after : NodeState) (result : Result TurnDraft E)
+    → item_at live_id m.lives b ≡ Some l → l.read_at ≡ None → way_of m.place (stored_in m).durable l given s ≡ Runs_here t → step ≡ step_of m.sessions (branch_here (kept_in m) b l)
+    → told ≡ answer_of_run (at_store m b s t) → store ≡ store_after_run m.store b t (at_store m b s t) → locks ≡ locks_after m.locks b t (at_store m b s t)
+    → lives ≡ change_item live_id (changed_by (makes_changes (at_store m b s t))) m.lives b → works ≡ works_after_run m.works b step t (at_store m b s t)
+    → IfOk result (λ draft. GivesDraft (at_live (with_parts m store locks lives works) (λ x. answered (with_parts m store locks lives works) x told) (branch_at (with_parts m store locks lives works) b)) after draft)
+    → IfOk result (λ draft. GivesDraft (at_live (kept_in m) (λ x. statement_at m.place (kept_in m) x s given) (branch_at (kept_in m) b)) after draft)
+ran_here m own b s t l given step told store locks lives works after result is newest way at t_is s_is l_is v_is w_is does =
+    let k = with_parts m store locks lives works in
+    let reads = reads_none m b l is newest in
+    ran_so m.place (kept_in m) b l is s given t (by_rules m b s t) step k after result way refl at (kept_is m own b s t reads store locks lives works step s_is l_is v_is w_is)
+    (subst (λ a. IfOk result (λ draft. GivesDraft (at_live k (λ x. answered k x a) (branch_at k b)) after draft)) (t_is ∙ ap answer_of_run (ran_is m own b s t reads)) does)

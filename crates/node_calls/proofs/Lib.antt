@@ -7,6 +7,7 @@ mod GroundLaws
 mod TableLaws
 mod CallLaws
 mod RootLaws
+mod SavepointLaws
 mod TurnLaws
 mod NameLaws
 mod ReadyLaws

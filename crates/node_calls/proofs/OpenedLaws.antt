@@ -1,12 +1,13 @@
 -- A branch whose new child is there goes on with what waited for it.
-use Rattle.std.proofs.Common.{◌≡◌, ℕ, zero, suc, ◌+◌, ◌-◌, ◌==◌, ◌<◌, ◌^◌, Bool, true, false, if◌then◌else◌, List, [], ◌∷◌, ◌++◌, length, slice_get, unwrap_or, Option, None, Some, IfSome, refl, sym, ap, subst, ◌∙◌, arith}
+use Rattle.std.proofs.Common.{◌≡◌, ℕ, zero, suc, ◌+◌, ◌==◌, ◌<◌, ◌^◌, Bool, true, false, if◌then◌else◌, List, [], ◌∷◌, ◌++◌, length, slice_get, unwrap_or, Option, None, Some, IfSome, refl, sym, ap, subst, ◌∙◌, arith}
 use Rattle.dtx_values.specs.Limits.{branch_limit}
 use Rattle.std.proofs.lemmas.Bool.Decides.{nat_tests}
 use Rattle.tran_ids.specs.declared.branch.BranchId.{BranchId}
 use Rattle.tran_ids.specs.Listed.{item_at, put_item}
 use Rattle.tran_ids.proofs.ListedLemmas.{item_is}
 use Rattle.session_tree.specs.Live.{add_edge, new_edge, next_edge}
-use Rattle.node_rules.specs.Data.{Edge, Live, Stmt}
+use Rattle.node_rules.specs.Data.{Edge, Live}
+use Rattle.node_rules.specs.declared.work.Errand.{Errand}
 use Rattle.node_rules.specs.declared.work.Going.{Going}
 use Rattle.node_rules.specs.declared.work.Waits.{Waits}
 use Rattle.node_rules.specs.declared.work.Work.{Work}
@@ -86,11 +87,14 @@ room_there ls b l edge g w is found room =
     let there : HasRoomWhile (length l.edges) g = subst (λ o. IfSome o (λ x. HasRoomWhile (length x.edges) g)) is room in
     subst (λ o. IfSome o (λ x. length x.edges < branch_limit)) (sym is) (room_while (length l.edges) edge (next_edge l) g w found there)
 
--- a statement goes on the same where its branch was put in its place before
-pub calls_again : (k : NodeState) (x : Branch) (i : ℕ) (s : Stmt) (given : ℕ) → calls_over (with_branch k x) x i s given ≡ calls_over k x i s given
-calls_again k x i s given =
-    ap (λ m. record { after = record m { sessions = call_pends k.sessions x.live }; wrote = None; says = exec_to k.sessions x i s given (peer_of x.live i); ended = [] })
-    (changed_twice k x (called x i s given) refl refl)
+-- an errand goes on the same where its branch was put in its place before
+pub calls_twice : (k : NodeState) (x y : Branch) (i : ℕ) (e : Errand) → x.live.me ≡ y.live.me → x.work.branch ≡ y.work.branch → calls_over (with_branch k x) y i e ≡ calls_over k y i e
+calls_twice k x y i e me mine =
+    ap (λ m. record { after = record m { sessions = call_pends k.sessions y.live }; wrote = None; says = exec_to k.sessions y i e (peer_of y.live i); ended = [] })
+    (changed_twice k x (called k.sessions y i e) me mine)
+
+pub calls_again : (k : NodeState) (x : Branch) (i : ℕ) (e : Errand) → calls_over (with_branch k x) x i e ≡ calls_over k x i e
+calls_again k x i e = calls_twice k x x i e refl refl
 
 module _ (k : NodeState) (b : BranchId) (l : Live) (is : item_at live_id k.lives b ≡ Some l) (from : BranchId) (edge strength : ℕ) where
   abbrev it : Branch
@@ -105,11 +109,11 @@ module _ (k : NodeState) (b : BranchId) (l : Live) (is : item_at live_id k.lives
   opened_ignored draft none does = subst (λ d. GivesDraft d k draft) (sym (at_once ∙ ap (goes_if k it from strength) none)) does
 
   -- the branch with its new child, called
-  pub opened_so : (w : Waited) (e : Edge) (given : ℕ) (lives : List Live) (works : List Work) (after : NodeState) (draft : TurnDraft) → waited_for edge (next_edge l) (work_of k.works b).going ≡ Some w
-      → e ≡ new_edge from w.link strength → given ≡ w.room - 1 → lives ≡ change_item live_id (λ y. add_edge y e) k.lives b → works ≡ change_work with_child k.works b
-      → GivesDraft (at_live (record k { lives = lives; works = works }) (λ x. calls_over (record k { lives = lives; works = works }) x edge w.statement given) (branch_at (record k { lives = lives; works = works }) b)) after draft
+  pub opened_so : (w : Waited) (e : Edge) (lives : List Live) (works : List Work) (after : NodeState) (draft : TurnDraft) → waited_for edge (next_edge l) (work_of k.works b).going ≡ Some w
+      → e ≡ new_edge from w.link strength → lives ≡ change_item live_id (λ y. add_edge y e) k.lives b → works ≡ change_work with_child k.works b
+      → GivesDraft (at_live (record k { lives = lives; works = works }) (λ x. calls_over (record k { lives = lives; works = works }) x edge w.errand) (branch_at (record k { lives = lives; works = works }) b)) after draft
       → GivesDraft (at_live k (λ x. on_opened k x from edge strength) (branch_at k b)) after draft
-  opened_so w e given lives works after draft waits is_e is_given is_lives is_works does =
+  opened_so w e lives works after draft waits is_e is_lives is_works does =
       let m : NodeState = record k { lives = lives; works = works } in
       let x = with_edge it (new_edge from w.link strength) in
       let put : m ≡ with_branch k x =
@@ -117,11 +121,10 @@ module _ (k : NodeState) (b : BranchId) (l : Live) (is : item_at live_id k.lives
       ∙ ap (λ ws. record k { lives = put_item live_id k.lives x.live; works = ws }) is_works in
       let me : l.me ≡ b = item_is live_id k.lives b l is in
       let mine : x.work.branch ≡ x.live.me = work_branch k.works b ∙ sym me in
-      let code : at_live m (λ y. calls_over m y edge w.statement given) (branch_at m b) ≡ calls_over k x edge w.statement (w.room - 1) =
-      ap (λ g. at_live m (λ y. calls_over m y edge w.statement g) (branch_at m b)) is_given
-      ∙ ap (λ n. at_live n (λ y. calls_over n y edge w.statement (w.room - 1)) (branch_at n b)) put
-      ∙ ap (at_live (with_branch k x) (λ y. calls_over (with_branch k x) y edge w.statement (w.room - 1))) (found_changed k b x me mine)
-      ∙ calls_again k x edge w.statement (w.room - 1) in
-      let rules : at_live k (λ y. on_opened k y from edge strength) (branch_at k b) ≡ calls_over k x edge w.statement (w.room - 1) =
-      at_once ∙ ap (goes_if k it from strength) waits ∙ ap (λ i. calls_over k x i w.statement (w.room - 1)) (sym (number_is edge (next_edge l) (work_of k.works b).going w waits)) in
+      let code : at_live m (λ y. calls_over m y edge w.errand) (branch_at m b) ≡ calls_over k x edge w.errand =
+      ap (λ n. at_live n (λ y. calls_over n y edge w.errand) (branch_at n b)) put
+      ∙ ap (at_live (with_branch k x) (λ y. calls_over (with_branch k x) y edge w.errand)) (found_changed k b x me mine)
+      ∙ calls_again k x edge w.errand in
+      let rules : at_live k (λ y. on_opened k y from edge strength) (branch_at k b) ≡ calls_over k x edge w.errand =
+      at_once ∙ ap (goes_if k it from strength) waits ∙ ap (λ i. calls_over k x i w.errand) (sym (number_is edge (next_edge l) (work_of k.works b).going w waits)) in
       subst (λ d. GivesDraft d after draft) (code ∙ sym rules) does

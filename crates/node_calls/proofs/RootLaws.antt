@@ -1,5 +1,5 @@
 -- A statement of a client goes to the root of its session.
-use Rattle.std.proofs.Common.{◌≡◌, ℕ, ◌<◌, ◌≤◌, ◌^◌, length, Bool, true, false, if◌then◌else◌, List, [], ◌∷◌, ◌++◌, Option, None, Some, IfSome, refl, sym, ap, subst, ◌∙◌, arith}
+use Rattle.std.proofs.Common.{◌≡◌, ℕ, ◌<◌, ◌≤◌, ◌^◌, ◌&&◌, length, is_some, Bool, true, false, if◌then◌else◌, List, [], ◌∷◌, ◌++◌, Option, None, Some, IfSome, refl, sym, ap, subst, ◌∙◌, arith}
 use Rattle.dtx_values.specs.Limits.{node_limit}
 use Rattle.catalog.specs.Catalog.{is_used}
 use Rattle.tran_ids.specs.declared.branch.BranchId.{BranchId}
@@ -10,11 +10,13 @@ use Rattle.node_rules.specs.Data.{Place, Live, Stmt}
 use Rattle.node_rules.specs.declared.work.Work.{Work}
 use Rattle.node_rules.specs.Ids.{decimal}
 use Rattle.node_rules.specs.Words.{one}
-use Rattle.node_rules.specs.Refusals.{ora}
-use Rattle.node_rules.specs.NodeState.{NodeState, Branch, live_id, with_work, branch_at, nothing}
+use Rattle.node_rules.specs.Refusals.{ora, dtx}
+use Rattle.node_rules.specs.Data.answers
+use Rattle.node_rules.specs.Data.dones
+use Rattle.node_rules.specs.NodeState.{NodeState, Branch, live_id, with_work, branch_at, nothing, ending}
 use Rattle.node_rules.specs.Sessions.{session_at}
 use Rattle.node_rules.specs.Calls.{next_call, statement_at}
-use Rattle.node_rules.specs.Client.{begun, begun_lives, refuses, root_by, statement_by, statement_call}
+use Rattle.node_rules.specs.Client.{allowed_at, begun, begun_by, begun_lives, counted, is_write, read_only_by, refuses, root_by, statement_by, statement_call}
 use Rattle.node_drafts.specs.declared.draft.TurnDraft.{TurnDraft}
 use Rattle.node_drafts.specs.Gives.{GivesDraft}
 use Rattle.node_ready_laws.specs.Rows.{HasRows}
@@ -23,6 +25,7 @@ use Rattle.node_state.specs.Works.{work_of}
 use Rattle.node_memory.specs.declared.memory.Memory.{Memory}
 use Rattle.node_memory.specs.Parts.{kept_in}
 use Rattle.node_calls.specs.Handled.{at_live, refuses_again, TakesStatement}
+use Rattle.node_calls.proofs.BranchLaws.{branch_here, somebody}
 
 -- ---- at the root of a session
 
@@ -43,7 +46,43 @@ pub rooted_in : (p q : Place) (k m : NodeState) (n : ℕ) (s : Stmt) (root : Bra
     → GivesDraft (statement_by q m n s (session_at m.sessions n).code (branch_at m root)) after draft → GivesDraft (statement_call p k n s) after draft
 rooted_in p q k m n s root after draft is here at does = subst (λ r. GivesDraft (statement_call r k n s) after draft) here (subst (λ j. GivesDraft (statement_call q j n s) after draft) is (rooted q m n s root after draft at does))
 
-statement_is : (p : Place) (k : NodeState) (n : ℕ) (s : Stmt) (o : Option Branch) → statement_by p k n s None o ≡ at_live k (λ x. statement_at p k x s 0) o
+-- a call of a transaction that has begun is counted
+pub begun_so : (p : Place) (k j m : NodeState) (n : ℕ) → j ≡ begun_by p k n None (session_at k.sessions n).root → m ≡ counted j n → m ≡ begun p k n
+begun_so p k j m n began counts = counts ∙ ap (λ q. counted q n) began
+
+-- a READ ONLY transaction may not write
+forbidden_if : (p : Place) (k : NodeState) (n : ℕ) (x : Branch) (s : Stmt) (forbidden hit : Bool) → forbidden ≡ hit
+    → (if forbidden then refuses k n (dtx 21 []) else statement_at p k x s 0) ≡ (if hit then refuses k n (dtx 21 []) else statement_at p k x s 0)
+forbidden_if p k n x s forbidden hit is = ap (λ b. if b then refuses k n (dtx 21 []) else statement_at p k x s 0) is
+
+module _ (p : Place) (k : NodeState) (n : ℕ) (root : BranchId) (s : Stmt) where
+  pub forbidden_so : (l : Live) (draft : TurnDraft) → item_at live_id k.lives root ≡ Some l → (is_some l.read_at && is_write s) ≡ true → GivesDraft (refuses k n (dtx 21 [])) k draft
+      → GivesDraft (at_live k (λ x. allowed_at p k n x s) (branch_at k root)) k draft
+  forbidden_so l draft is forbidden does =
+      subst (λ d. GivesDraft d k draft) (sym (somebody k root l (λ x. allowed_at p k n x s) is ∙ forbidden_if p k n (branch_here k root l) s (is_some l.read_at && is_write s) true forbidden)) does
+
+  pub allowed_so : (l : Live) (after : NodeState) (draft : TurnDraft) → item_at live_id k.lives root ≡ Some l → (is_some l.read_at && is_write s) ≡ false
+      → GivesDraft (at_live k (λ x. statement_at p k x s 0) (branch_at k root)) after draft → GivesDraft (at_live k (λ x. allowed_at p k n x s) (branch_at k root)) after draft
+  allowed_so l after draft is free does =
+      subst (λ d. GivesDraft d after draft)
+      (somebody k root l (λ x. statement_at p k x s 0) is
+      ∙ sym (somebody k root l (λ x. allowed_at p k n x s) is ∙ forbidden_if p k n (branch_here k root l) s (is_some l.read_at && is_write s) false free)) does
+
+-- ---- SET TRANSACTION READ ONLY
+
+pub begun_already : (p : Place) (k : NodeState) (n : ℕ) (root : BranchId) (draft : TurnDraft) → (session_at k.sessions n).root ≡ Some root → GivesDraft (refuses k n (ora 1453 [])) k draft
+    → GivesDraft (read_only_by p k n (session_at k.sessions n).root) k draft
+begun_already p k n root draft has does = subst (λ d. GivesDraft d k draft) (sym (ap (read_only_by p k n) has)) does
+
+pub reader_begun : (p : Place) (k m : NodeState) (n : ℕ) (read_at : ℕ) (draft : TurnDraft) → (session_at k.sessions n).root ≡ None → read_at ≡ k.clock → m ≡ begun_by p k n (Some read_at) None
+    → GivesDraft (ending m n (answers.Did dones.TransactionSet 0)) m draft → GivesDraft (read_only_by p k n (session_at k.sessions n).root) m draft
+reader_begun p k m n read_at draft none at began does =
+    subst (λ d. GivesDraft d m draft)
+    (ap (λ j. ending j n (answers.Did dones.TransactionSet 0)) (began ∙ ap (λ c. begun_by p k n (Some c) None) at) ∙ sym (ap (read_only_by p k n) none)) does
+
+-- ---- a statement at the root
+
+statement_is : (p : Place) (k : NodeState) (n : ℕ) (s : Stmt) (o : Option Branch) → statement_by p k n s None o ≡ at_live k (λ x. allowed_at p k n x s) o
 statement_is p k n s None = refl
 statement_is p k n s (Some x) = refl
 
@@ -53,7 +92,7 @@ refused_is p k n code s (Some x) = refl
 
 -- a statement of a transaction that may go on
 pub statement_so : (p : Place) (k : NodeState) (n : ℕ) (s : Stmt) (code : Option ℕ) (root : BranchId) (after : NodeState) (draft : TurnDraft) → code ≡ None
-    → GivesDraft (at_live k (λ x. statement_at p k x s 0) (branch_at k root)) after draft → GivesDraft (statement_by p k n s code (branch_at k root)) after draft
+    → GivesDraft (at_live k (λ x. allowed_at p k n x s) (branch_at k root)) after draft → GivesDraft (statement_by p k n s code (branch_at k root)) after draft
 statement_so p k n s code root after draft none does =
     subst (λ d. GivesDraft d after draft) (sym (ap (λ o. statement_by p k n s o (branch_at k root)) none ∙ statement_is p k n s (branch_at k root))) does
 
@@ -85,13 +124,13 @@ holds_begun : (P : Live → Type 0) (x : Live) (b : BranchId) → P x → (ls : 
 holds_begun P x b new [] holds = holds_last P x (same x.me b) new
 holds_begun P x b new (y ∷ ys) holds = holds_here P y b (item_at live_id ys b) (item_at live_id (ys ++ x ∷ []) b) (same y.me b) (holds_begun P x b new ys) holds
 
-few_by : (p : Place) (k : NodeState) (n : ℕ) (root : Option BranchId) (b : BranchId) → IfSome (item_at live_id k.lives b) (λ l. count l < 2 ^ 16) → IfSome (item_at live_id (begun_lives p k n root) b) (λ l. count l < 2 ^ 16)
+few_by : (p : Place) (k : NodeState) (n : ℕ) (root : Option BranchId) (b : BranchId) → IfSome (item_at live_id k.lives b) (λ l. count l < 2 ^ 16) → IfSome (item_at live_id (begun_lives p k n None root) b) (λ l. count l < 2 ^ 16)
 few_by p k n (Some root) b few = few
 few_by p k n None b few = holds_begun (λ l. count l < 2 ^ 16) _ b (omega arith) k.lives few
 
 -- a root that begins has told of no other branch
 few_begun : (p : Place) (k : NodeState) (n : ℕ) (b : BranchId) → IfSome (item_at live_id k.lives b) (λ l. count l < 2 ^ 16)
-    → IfSome (item_at live_id (begun_lives p k n (session_at k.sessions n).root) b) (λ l. count l < 2 ^ 16)
+    → IfSome (item_at live_id (begun_lives p k n None (session_at k.sessions n).root) b) (λ l. count l < 2 ^ 16)
 few_begun p k n b few = few_by p k n (session_at k.sessions n).root b few
 
 -- and so a statement may come to a branch where a transaction begins

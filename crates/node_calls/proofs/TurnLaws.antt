@@ -1,7 +1,7 @@
 -- A message of a call, by what its branch is at the node.
 use Rattle.std.proofs.Common.{◌≡◌, ℕ, Option, None, Some, refl, sym, ap, subst, ◌∙◌}
 use Rattle.tran_ids.specs.declared.branch.BranchId.{BranchId}
-use Rattle.node_rules.specs.Data.{Place, KeptRow, Stmt, Advice, Answer}
+use Rattle.node_rules.specs.Data.{Place, KeptRow, Task, Answer}
 use Rattle.node_rules.specs.NodeState.{NodeState, Branch, TurnDraft as DraftByRules, branch_at, kept_row_at, nothing, saying}
 use Rattle.node_rules.specs.Calls.{gone_reply, on_exec, on_opened, on_reply}
 use Rattle.node_rules.specs.Turn.{BranchStatus, Is_live, Is_kept, Is_gone, exec_turn, kept_or_gone, live_or, opened_turn, reply_turn, status_of}
@@ -42,18 +42,18 @@ live_here : (k : NodeState) (b : BranchId) (x : Branch) → Is_live x ≡ status
 unfolding status_of
 live_here k b x stands = live_by k b x (branch_at k b) (kept_row_at k b) refl stands
 
-module _ (p : Place) (k : NodeState) (from b : BranchId) (call given : ℕ) (advice : Option Advice) (s : Stmt) (after : NodeState) (draft : TurnDraft) where
+module _ (p : Place) (k : NodeState) (from b : BranchId) (call : ℕ) (task : Task) (after : NodeState) (draft : TurnDraft) where
   -- a live branch takes the call
-  pub lives_so : (x : Branch) → Is_live x ≡ status_of k b → GivesDraft (at_live k (λ y. on_exec p k y from call given advice s) (branch_at k b)) after draft
-      → GivesDraft (exec_turn p k from b call given advice s (status_of k b)) after draft
+  pub lives_so : (x : Branch) → Is_live x ≡ status_of k b → GivesDraft (at_live k (λ y. on_exec p k y from call task) (branch_at k b)) after draft
+      → GivesDraft (exec_turn p k from b call task (status_of k b)) after draft
   lives_so x stands does =
-      let f = λ (y : Branch). on_exec p k y from call given advice s in
-      subst (λ d. GivesDraft d after draft) (ap (at_live k f) (live_here k b x stands) ∙ ap (exec_turn p k from b call given advice s) stands) does
+      let f = λ (y : Branch). on_exec p k y from call task in
+      subst (λ d. GivesDraft d after draft) (ap (at_live k f) (live_here k b x stands) ∙ ap (exec_turn p k from b call task) stands) does
 
   -- a kept one ignores it
-  pub exec_kept : (row : KeptRow) → Is_kept row ≡ status_of k b → GivesDraft (nothing k) after draft → GivesDraft (exec_turn p k from b call given advice s (status_of k b)) after draft
-  exec_kept row stands does = subst (λ d. GivesDraft d after draft) (ap (exec_turn p k from b call given advice s) stands) does
+  pub exec_kept : (row : KeptRow) → Is_kept row ≡ status_of k b → GivesDraft (nothing k) after draft → GivesDraft (exec_turn p k from b call task (status_of k b)) after draft
+  exec_kept row stands does = subst (λ d. GivesDraft d after draft) (ap (exec_turn p k from b call task) stands) does
 
   -- and a gone one refuses it
-  pub exec_gone : Is_gone ≡ status_of k b → GivesDraft (saying k (gone_reply b from call)) after draft → GivesDraft (exec_turn p k from b call given advice s (status_of k b)) after draft
-  exec_gone stands does = subst (λ d. GivesDraft d after draft) (ap (exec_turn p k from b call given advice s) stands) does
+  pub exec_gone : Is_gone ≡ status_of k b → GivesDraft (saying k (gone_reply b from call)) after draft → GivesDraft (exec_turn p k from b call task (status_of k b)) after draft
+  exec_gone stands does = subst (λ d. GivesDraft d after draft) (ap (exec_turn p k from b call task) stands) does

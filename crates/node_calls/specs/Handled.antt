@@ -1,12 +1,14 @@
 -- What a turn makes of a live branch of a node, and what a node needs where a statement comes to one.
-use Rattle.std.specs.Prelude.{◌≡◌, Bool, false, nat_lt, ℕ, ◌-◌, ◌<◌, ◌≤◌, ◌^◌, ◌==◌, if◌then◌else◌, [], length, Option, Some, None, IfSome}
+use Rattle.std.specs.Prelude.{◌≡◌, Bool, false, nat_lt, ℕ, List, ◌<◌, ◌≤◌, ◌^◌, ◌==◌, if◌then◌else◌, [], length, Option, Some, None, IfSome}
 use Rattle.dtx_values.specs.Limits.{branch_limit, node_limit}
 use Rattle.tran_ids.specs.declared.branch.BranchId.{BranchId}
 use Rattle.tran_ids.specs.Listed.{item_at}
 use Rattle.catalog.specs.Catalog.{is_used}
 use Rattle.session_tree.specs.Live.{new_edge, next_edge}
 use Rattle.session_tree.specs.Tree.{count}
-use Rattle.node_rules.specs.Data.{Answer, Edge, Stmt}
+use Rattle.node_rules.specs.Data.{Answer, Done, Edge, Stmt, Table}
+use Rattle.node_rules.specs.declared.work.Errand.{Errand}
+use Rattle.node_rules.specs.declared.work.Errand.TheVariants as errands
 use Rattle.node_rules.specs.declared.work.Going.{Going}
 use Rattle.node_rules.specs.declared.work.Waits.{Waits}
 use Rattle.node_rules.specs.Data.answers
@@ -15,11 +17,16 @@ use Rattle.node_rules.specs.NodeState.{NodeState, Branch, TurnDraft, live_id, no
 use Rattle.node_rules.specs.Ids.{decimal}
 use Rattle.node_rules.specs.Words.{one}
 use Rattle.node_rules.specs.Refusals.{ora}
-use Rattle.node_rules.specs.Client.{refuses}
-use Rattle.node_rules.specs.Calls.{calls_over, next_call, with_edge}
+use Rattle.node_rules.specs.Client.{did, leaves, refuses}
+use Rattle.node_rules.specs.Calls.{calls_over, less_room, next_call, with_edge}
 use Rattle.node_ready_laws.specs.Rows.{HasRows}
 use Rattle.node_state.specs.Lives.{heard}
-use Rattle.node_state.specs.Works.{work_of}
+use Rattle.node_state.specs.Works.{change_work, run_noted, work_of}
+use Rattle.stmt_store.specs.declared.written.Written.{Written}
+use Rattle.stmt_store.specs.Stores.{written_of}
+use Rattle.node_rules.specs.Marks.{keys_of_table}
+use Rattle.node_rules.specs.Statement.{StmtOutcome}
+use Rattle.node_rules.specs.declared.work.Work.{Work}
 use Rattle.node_ways.specs.Ways.{has_table}
 use Rattle.node_memory.specs.declared.memory.Memory.{Memory}
 use Rattle.node_memory.specs.Parts.{kept_in}
@@ -34,7 +41,7 @@ at_live k f (Some x) = f x
 -- what waits for a new child
 abbrev pub waits_for : Going → Waits → Option Waited
 waits_for g (waiting.ForReply i) = None
-waits_for g (waiting.ForOpened link) = Some (record { link = link; statement = g.statement; room = g.room })
+waits_for g (waiting.ForOpened link) = Some (record { link = link; errand = less_room g.errand })
 
 -- what waits for the child of this number, which is the next one
 abbrev pub waited_for : ℕ → ℕ → Option Going → Option Waited
@@ -43,7 +50,7 @@ waited_for number next (Some g) = if number == next then waits_for g g.waits els
 
 -- the branch goes on with what waited for its new child
 abbrev pub goes_on : NodeState → Branch → BranchId → ℕ → Waited → TurnDraft
-goes_on k x from strength w = calls_over k (with_edge x (new_edge from w.link strength)) (next_edge x.live) w.statement (w.room - 1)
+goes_on k x from strength w = calls_over k (with_edge x (new_edge from w.link strength)) (next_edge x.live) w.errand
 
 -- the child that replies, with its number
 abbrev pub replier_as : Replier → ℕ × Edge
@@ -53,6 +60,11 @@ replier_as r = (r.number, r.edge.now)
 abbrev pub refuses_again : NodeState → ℕ → ℕ → Option Branch → TurnDraft
 refuses_again k n code None = nothing k
 refuses_again k n code (Some x) = refuses k n (ora 2067 (one (decimal code)))
+
+-- a transaction that ends at once, where its root is live; else only the call ends
+abbrev pub leaves_by : NodeState → ℕ → Done → Option Branch → TurnDraft
+leaves_by k n d None = did k n d
+leaves_by k n d (Some x) = leaves k n d x
 
 -- whether an answer tells of changes
 abbrev pub did_changes : Answer → Bool
@@ -92,3 +104,23 @@ pub record TakesStatement (m : Memory) (b : BranchId) (s : Stmt) : Type 0 where
   pub nodes : length m.place.names ≤ node_limit
   pub nameless : has_table s ≡ false → is_used m.catalog [] ≡ false  -- a form without a table names the empty name
   pub rows : HasRows (kept_in m)
+
+-- the step that an errand goes back to, where a child of the branch has done so
+abbrev pub step_after : Answer → Errand → Option ℕ
+step_after a (errands.Statement s given) = None
+step_after (answers.Refused r) (errands.GoBack step) = None
+step_after _ (errands.GoBack step) = Some step
+
+-- the same of what is under way
+abbrev pub back_step : Answer → Option Going → Option ℕ
+back_step a None = None
+back_step a (Some g) = step_after a g.errand
+
+-- the calls of live branches after a run that wrote this
+abbrev pub with_written : List Work → BranchId → ℕ → Table → Option Written → List Work
+with_written ws b step t None = ws
+with_written ws b step t (Some w) = change_work (run_noted step w.sets (keys_of_table t.name w.keys)) ws b
+
+-- and after a run that came to this
+abbrev pub works_after_run : List Work → BranchId → ℕ → Table → StmtOutcome → List Work
+works_after_run ws b step t r = with_written ws b step t (written_of r)

@@ -1,4 +1,4 @@
-//! A statement goes on: over an edge to a child, or over a link that is used for the first time.
+//! An errand goes on: over an edge to a child, or over a link that is used for the first time.
 ghost use Rattle.std.specs.Prelude.{◌≡◌, ◌<◌, ◌≤◌, ◌^◌, ◌+◌, length, IfOk, IfSome};
 ghost use Rattle.dtx_values.specs.Limits.{branch_limit, depth_limit};
 ghost use Rattle.tran_ids.specs.Listed.{item_at};
@@ -6,7 +6,8 @@ ghost use Rattle.session_tree.specs.Live.{peer_of as peer_of_number};
 ghost use Rattle.node_rules.specs.NodeState.{branch_at, live_id, post as post_of};
 ghost use Rattle.node_rules.specs.Data.kinds;
 ghost use Rattle.session_tree.specs.Live.{next_edge};
-ghost use Rattle.node_rules.specs.Calls.{advice_of as advice_of_branch, call_pends, calls_over, exec_to, next_call, nobody_at as nobody_at_node, opens_through};
+ghost use Rattle.node_rules.specs.Calls.{advice_of as advice_of_branch, call_pends, calls_over, exec_to, next_call, nobody_at as nobody_at_node, opens_through, task_for as task_for_of};
+ghost use Rattle.node_rules.specs.Marks.{step_of as step_of_branch};
 ghost use Rattle.node_state.specs.Works.{work_of};
 ghost use Rattle.node_drafts.specs.Gives.{GivesDraft, branch_with};
 ghost use Rattle.node_memory.specs.Parts.{kept_in};
@@ -15,33 +16,31 @@ ghost use Rattle.node_calls.specs.Handled.{at_live};
 use dtx_values::{Advice, Duplicate, Listing, Name};
 use node_drafts::{TurnDraft, peer_of, post};
 use node_memory::Memory;
-use node_rules::PendingCall;
+use node_rules::{Errand, PendingCall};
 use node_state::{Sessions, Works};
 use reco::Posts;
 use session_tree::{Live, room};
 use sql_statement::Stmt;
 use std::alloc::{AllocError, Global};
 use tran_ids::BranchId;
-use wire_msg::Kind;
+use wire_msg::{Kind, Task};
 
-/// A statement of a live branch goes on to the child of a number, from 1, with the room that its own Exec carried. Nothing
-/// where the branch is not live.
+/// An errand of a live branch goes on to the child of a number, from 1. Nothing where the branch is not live.
 #[tactic(auto, using(crate::proofs::BranchLaws::nothing_so))]
 pub(crate) fn call_over(
     memory: &mut Memory,
     alloc: Global,
     branch: &BranchId,
     number: u8,
-    statement: Stmt,
-    given: u16,
+    errand: Errand,
 ) -> Result<TurnDraft, AllocError>
     requires { next_call (work_of memory.old.works branch.now) number < 2 ^ 32 }
     ensures gives { IfOk result (λ draft.
-        GivesDraft (at_live (kept_in memory.old) (λ x. calls_over (kept_in memory.old) x number statement given) (branch_at (kept_in memory.old) branch.now)) (kept_in memory.new) draft) }
+        GivesDraft (at_live (kept_in memory.old) (λ x. calls_over (kept_in memory.old) x number errand) (branch_at (kept_in memory.old) branch.now)) (kept_in memory.new) draft) }
     ensures place { memory.new.place ≡ memory.old.place }
 {
     let Some(live) = memory.lives.get(branch) else {
-        drop(statement);
+        drop(errand);
         return Ok(TurnDraft::nothing(alloc));
     };
     match exec_over(
@@ -51,19 +50,16 @@ pub(crate) fn call_over(
         branch,
         live,
         number,
-        &statement,
-        given,
+        &errand,
     ) {
         Err(error) => {
-            drop(statement);
+            drop(errand);
             Err(error)
         }
         Ok(says) => {
+            let step = step_of(&memory.sessions, &memory.works, branch, live);
             pend(&mut memory.sessions, live);
-            match memory
-                .works
-                .call_over(alloc, branch, number, statement, given)
-            {
+            match memory.works.call_over(alloc, branch, number, errand, step) {
                 Err(error) => {
                     drop(says);
                     Err(error)
@@ -138,7 +134,49 @@ fn advice_of(sessions: &Sessions, live: &Live) -> Option<Advice>
     }
 }
 
-// The Exec to a child, with the room left and the advice.
+/// The step of what a branch does now: at a root the number of its client's calls, elsewhere that of the last call that came.
+pub(crate) fn step_of(sessions: &Sessions, works: &Works, branch: &BranchId, live: &Live) -> u32
+    ensures { result ≡ step_of_branch sessions.now (branch_with live.now (work_of works.now branch.now)) }
+{
+    if live.parent.is_none() {
+        sessions.at(live.me.session).calls
+    } else {
+        works.last_call(branch)
+    }
+}
+
+// What the child of a number is called for.
+fn task_for(
+    alloc: Global,
+    sessions: &Sessions,
+    works: &Works,
+    branch: &BranchId,
+    live: &Live,
+    number: u8,
+    errand: &Errand,
+) -> Result<Task, AllocError>
+    requires { length live.now.edges ≤ branch_limit }
+    ensures { IfOk result (λ task. task ≡ task_for_of sessions.now (branch_with live.now (work_of works.now branch.now)) number errand.now) }
+{
+    match errand {
+        Errand::Statement {
+            statement,
+            room: given,
+        } => {
+            let statement = statement.copy(alloc)?;
+            Ok(Task::Run {
+                room: room(live, *given),
+                advice: advice_of(sessions, live),
+                statement,
+            })
+        }
+        Errand::GoBack { step } => Ok(Task::GoBack {
+            keep: works.kept_call(branch, *step, number),
+        }),
+    }
+}
+
+// The Exec to a child.
 fn exec_over(
     alloc: Global,
     sessions: &Sessions,
@@ -146,22 +184,19 @@ fn exec_over(
     branch: &BranchId,
     live: &Live,
     number: u8,
-    statement: &Stmt,
-    given: u16,
+    errand: &Errand,
 ) -> Result<Posts, AllocError>
     requires edges { length live.now.edges ≤ branch_limit }
     requires numbers { next_call (work_of works.now branch.now) number < 2 ^ 32 }
-    ensures { IfOk result (λ posts. posts ≡ exec_to sessions.now (branch_with live.now (work_of works.now branch.now)) number statement.now given (peer_of_number live.now number)) }
+    ensures { IfOk result (λ posts. posts ≡ exec_to sessions.now (branch_with live.now (work_of works.now branch.now)) number errand.now (peer_of_number live.now number)) }
 {
     match peer_of(live, number) {
         None => Ok(Listing::new(alloc)),
         Some(peer) => {
-            let statement = statement.copy(alloc)?;
+            let task = task_for(alloc, sessions, works, branch, live, number, errand)?;
             let kind = Kind::Exec {
                 call: works.next_call(branch, number),
-                room: room(live, given),
-                advice: advice_of(sessions, live),
-                statement,
+                task,
             };
             post(alloc, live.me, peer, kind)
         }
@@ -172,12 +207,13 @@ fn exec_over(
 fn open_says(alloc: Global, live: &Live, node: u8) -> Result<Posts, AllocError>
     requires edges { length live.now.edges ≤ branch_limit }
     requires depth { live.now.depth < depth_limit }
-    ensures { IfOk result (λ posts. posts ≡ post_of live.now.me (nobody_at_node node) (kinds.Open (next_edge live.now) live.now.root (live.now.depth + 1))) }
+    ensures { IfOk result (λ posts. posts ≡ post_of live.now.me (nobody_at_node node) (kinds.Open (next_edge live.now) live.now.root (live.now.depth + 1) live.now.read_at)) }
 {
     let kind = Kind::Open {
         edge: live.edges.as_slice().len() as u8 + 1,
         root: live.root,
         depth: live.depth + 1,
+        read_at: live.read_at,
     };
     post(alloc, live.me, nobody_at(node), kind)
 }

@@ -1,9 +1,10 @@
-//! CREATE TABLE, CREATE DATABASE LINK, CREATE SYNONYM, and ALTER SYSTEM of recovery: each writes one record.
+//! CREATE TABLE, CREATE DATABASE LINK, CREATE SYNONYM, and ALTER SYSTEM of recovery and of the commit point strength: each writes
+//! one record.
 ghost use Rattle.std.specs.Prelude.{◌≡◌, [], IfOk};
 ghost use Rattle.dtx_values.specs.declared.answer.Answer.TheVariants.{Refused};
 ghost use Rattle.sql_check.specs.Refusals.{ora};
 ghost use Rattle.node_rules.specs.NodeState.{NodeState};
-ghost use Rattle.node_rules.specs.Client.{writes as writes_of, refuses as refuses_of, create_table as create_table_of, create_link as create_link_of, create_synonym as create_synonym_of, set_recovery as set_recovery_of};
+ghost use Rattle.node_rules.specs.Client.{writes as writes_of, refuses as refuses_of, create_table as create_table_of, create_link as create_link_of, create_synonym as create_synonym_of, set_recovery as set_recovery_of, set_strength as set_strength_of};
 ghost use Rattle.node_ready_laws.specs.Rows.{HasRows};
 ghost use Rattle.node_ready_laws.specs.Following.{MayFollow};
 ghost use Rattle.node_drafts.specs.Gives.{GivesDraft};
@@ -24,8 +25,8 @@ pub fn refuse_text(alloc: Global, session: u32) -> Result<TurnDraft, AllocError>
     refuse(alloc, session, INVALID_SQL)
 }
 
-// The call of a session ends with a refusal that names nothing.
-fn refuse(alloc: Global, session: u32, code: u16) -> Result<TurnDraft, AllocError>
+/// The call of a session ends with a refusal that names nothing.
+pub(crate) fn refuse(alloc: Global, session: u32, code: u16) -> Result<TurnDraft, AllocError>
     ensures { IfOk result (λ draft. (k : NodeState) → GivesDraft (refuses_of k session (ora code [])) k draft) }
 {
     TurnDraft::ending(alloc, session, Answer::Refused(plain(alloc, code)))
@@ -97,6 +98,20 @@ pub fn set_recovery(
     ensures place { memory.new.place ≡ memory.old.place }
 {
     let redo = RedoRecord::Param(Param::Recovery(on));
+    write(memory, alloc, session, redo, Done::SystemAltered)
+}
+
+/// ALTER SYSTEM SET COMMIT_POINT_STRENGTH.
+pub fn set_strength(
+    memory: &mut Memory,
+    alloc: Global,
+    session: u32,
+    strength: u8,
+) -> Result<TurnDraft, AllocError>
+    ensures gives { IfOk result (λ draft. GivesDraft (set_strength_of (kept_in memory.old) session strength) (kept_in memory.new) draft) }
+    ensures place { memory.new.place ≡ memory.old.place }
+{
+    let redo = RedoRecord::Param(Param::Strength(strength));
     write(memory, alloc, session, redo, Done::SystemAltered)
 }
 

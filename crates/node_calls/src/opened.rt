@@ -1,9 +1,9 @@
-//! A parent learns that its new child is there, and the statement that waited for it goes on.
-ghost use Rattle.std.specs.Prelude.{◌≡◌, ◌-◌, ◌≤◌, length, IfOk};
+//! A parent learns that its new child is there, and what waited for it goes on.
+ghost use Rattle.std.specs.Prelude.{◌≡◌, ◌≤◌, length, IfOk};
 ghost use Rattle.dtx_values.specs.Limits.{branch_limit};
 ghost use Rattle.session_tree.specs.Live.{new_edge as new_edge_of, next_edge as next_edge_of};
 ghost use Rattle.node_rules.specs.NodeState.{branch_at};
-ghost use Rattle.node_rules.specs.Calls.{on_opened as on_opened_of};
+ghost use Rattle.node_rules.specs.Calls.{less_room as less_room_of, on_opened as on_opened_of};
 ghost use Rattle.node_state.specs.Works.{work_of};
 ghost use Rattle.node_drafts.specs.Gives.{GivesDraft};
 ghost use Rattle.node_memory.specs.Parts.{kept_in};
@@ -13,21 +13,19 @@ use crate::calling::call_over;
 use dtx_values::{Duplicate, Name};
 use node_drafts::TurnDraft;
 use node_memory::Memory;
-use node_rules::{Going, Waits};
+use node_rules::{Errand, Going, Waits};
 use node_state::Works;
 use session_tree::{Edge, Live, Vote};
-use sql_statement::Stmt;
 use std::alloc::{AllocError, Global};
 use tran_ids::BranchId;
 
-/// A statement that waits for a child.
+/// What waits for a child.
 #[derive(Drop)]
 pub(crate) struct Waited {
     /// The link over which the child was asked for.
     pub link: Name,
-    pub statement: Stmt,
-    /// The room that the Exec of the statement carried.
-    pub room: u16,
+    /// As it goes on: a statement has room for one branch less.
+    pub errand: Errand,
 }
 
 /// Opened at a live branch: the statement that waits for this child goes on to it. Any other Opened is ignored.
@@ -53,34 +51,36 @@ pub(crate) fn on_opened(
     let Some(waited) = waited_for(alloc, &memory.works, to, edge, next)? else {
         return Ok(TurnDraft::nothing(alloc));
     };
-    let Waited {
-        link,
-        statement,
-        room,
-    } = waited;
+    let Waited { link, errand } = waited;
     match memory.lives.add_edge(to, new_edge(from, link, strength)) {
         Err(error) => {
-            drop(statement);
+            drop(errand);
             Err(error)
         }
         Ok(()) => match memory.works.add_edge(alloc, to) {
             Err(error) => {
-                drop(statement);
+                drop(errand);
                 Err(error)
             }
             Ok(()) => {
-                let draft = call_over(memory, alloc, to, edge, statement, one_less(room))?;
+                let draft = call_over(memory, alloc, to, edge, errand)?;
                 Ok(draft)
             }
         },
     }
 }
 
-// The room that is left once a child is there.
-fn one_less(room: u16) -> u16
-    ensures { result ≡ room - 1 }
+// An errand once a child is there: a statement has room for one branch less.
+fn less_room(alloc: Global, errand: &Errand) -> Result<Errand, AllocError>
+    ensures { IfOk result (λ less. less ≡ less_room_of errand.now) }
 {
-    room.saturating_sub(1)
+    match errand {
+        Errand::Statement { statement, room } => Ok(Errand::Statement {
+            statement: statement.copy(alloc)?,
+            room: room.saturating_sub(1),
+        }),
+        Errand::GoBack { step } => Ok(Errand::GoBack { step: *step }),
+    }
 }
 
 // The number of the next child.
@@ -148,8 +148,7 @@ fn waits_for(alloc: Global, going: &Going) -> Result<Option<Waited>, AllocError>
         Waits::ForReply(_) => Ok(None),
         Waits::ForOpened(link) => Ok(Some(Waited {
             link: link.copy(alloc)?,
-            statement: going.statement.copy(alloc)?,
-            room: going.room,
+            errand: less_room(alloc, &going.errand)?,
         })),
     }
 }

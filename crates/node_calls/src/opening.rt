@@ -23,17 +23,20 @@ pub fn on_open(
     edge: u8,
     root: BranchId,
     depth: u8,
+    read_at: Option<u64>,
 ) -> Result<TurnDraft, AllocError>
     requires sessions { 65 + length memory.old.opens < 2 ^ 32 }
     requires new { item_at live_id memory.old.lives (next_child_of memory.old.place (kept_in memory.old)) ≡ None }
-    ensures gives { IfOk result (λ draft. GivesDraft (on_open_of memory.old.place (kept_in memory.old) parent edge root depth) (kept_in memory.new) draft) }
+    ensures gives { IfOk result (λ draft. GivesDraft (on_open_of memory.old.place (kept_in memory.old) parent edge root depth read_at) (kept_in memory.new) draft) }
     ensures place { memory.new.place ≡ memory.old.place }
 {
     match memory.opens.find(&parent, edge) {
         Some(opening) => Ok(TurnDraft::saying(alloc, opened_says(alloc, &opening)?)),
         None => {
             let opening = new_opening(memory, parent, edge);
-            memory.lives.begin(begun(alloc, &opening, root, depth))?;
+            memory
+                .lives
+                .begin(begun(alloc, &opening, root, depth, read_at))?;
             memory.opens.add(opening)?;
             Ok(TurnDraft::saying(alloc, opened_says(alloc, &opening)?))
         }
@@ -77,8 +80,8 @@ pub(crate) fn strength_of(memory: &Memory) -> u8
 }
 
 // A branch that has just begun for its parent.
-fn begun(alloc: Global, opening: &Opening, root: BranchId, depth: u8) -> Live
-    ensures { result ≡ fresh_live opening.now.child root (Some opening.now.parent) depth opening.now.strength }
+fn begun(alloc: Global, opening: &Opening, root: BranchId, depth: u8, read_at: Option<u64>) -> Live
+    ensures { result ≡ fresh_live opening.now.child root (Some opening.now.parent) depth opening.now.strength read_at }
 {
     Live {
         me: opening.child,
@@ -91,5 +94,6 @@ fn begun(alloc: Global, opening: &Opening, root: BranchId, depth: u8) -> Live
         phase: Phase::Working,
         advice: None,
         comment: Listing::new(alloc),
+        read_at,
     }
 }

@@ -8,13 +8,14 @@ ghost use Rattle.node_rules.specs.Calls.{heard_sessions, on_reply as on_reply_of
 ghost use Rattle.node_state.specs.Works.{work_of};
 ghost use Rattle.node_drafts.specs.Gives.{GivesDraft, branch_with};
 ghost use Rattle.node_memory.specs.Parts.{kept_in};
-ghost use Rattle.node_calls.specs.Handled.{at_live, replier_as, HasFewWith};
+ghost use Rattle.node_calls.specs.Handled.{at_live, back_step as back_step_of, replier_as, step_after, HasFewWith};
 
 use crate::answering::answer;
+use crate::going_back::children_back;
 use dtx_values::Answer;
 use node_drafts::{BRANCH_GONE, TurnDraft, edge_at, heard_answer, is_gone};
 use node_memory::Memory;
-use node_rules::{Waits, Work};
+use node_rules::{Errand, Waits, Work};
 use node_state::{Sessions, Works};
 use session_tree::{Edge, Live};
 use std::alloc::{AllocError, Global};
@@ -28,8 +29,9 @@ pub(crate) struct Replier<'a> {
     pub edge: &'a Edge,
 }
 
-/// Reply at a live branch: the one that is waited for is heard, and its result is the answer here too. Any other is ignored.
-/// Where a root hears that its child is gone, the answer names the link, and the transaction can only be rolled back.
+/// Reply at a live branch: the one that is waited for is heard, and its result is the answer here too; where a child has gone
+/// back, the next one does. Any other is ignored. Where a root hears that its child is gone, the answer names the link, and the
+/// transaction can only be rolled back.
 #[tactic(auto, using(crate::proofs::BranchLaws::nothing_so))]
 pub(crate) fn on_reply(
     memory: &mut Memory,
@@ -55,11 +57,42 @@ pub(crate) fn on_reply(
         return Ok(TurnDraft::nothing(alloc));
     };
     let number = replier.number;
+    if let Some(step) = back_step(&memory.works, to, &told) {
+        drop(told);
+        memory.lives.hear(alloc, to, number, weight, count);
+        let draft = children_back(memory, alloc, to, step, number)?;
+        return Ok(draft);
+    }
     hear_gone(&mut memory.sessions, live, &told);
     let heard = heard_answer(alloc, live, &replier.edge.link, told)?;
     memory.lives.hear(alloc, to, number, weight, count);
     let draft = answer(memory, alloc, to, heard)?;
     Ok(draft)
+}
+
+// The step that a branch goes back to, where a child of it has done so.
+fn back_step(works: &Works, branch: &BranchId, told: &Answer) -> Option<u32>
+    ensures { result ≡ back_step_of told.now (work_of works.now branch.now).going }
+{
+    match works.get(branch) {
+        None => None,
+        Some(work) => match &work.going {
+            None => None,
+            Some(going) => step_by(&going.errand, told),
+        },
+    }
+}
+
+fn step_by(errand: &Errand, told: &Answer) -> Option<u32>
+    ensures { result ≡ step_after told.now errand.now }
+{
+    match errand {
+        Errand::Statement { .. } => None,
+        Errand::GoBack { step } => match told {
+            Answer::Refused(_) => None,
+            _ => Some(*step),
+        },
+    }
 }
 
 // Where a root hears that its child is gone, the transaction needs a rollback.

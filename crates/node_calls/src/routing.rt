@@ -1,30 +1,34 @@
 //! A statement at a live branch: it runs here, is refused, or goes on.
-ghost use Rattle.std.specs.Prelude.{◌≡◌, true, IfOk, OnOk};
+ghost use Rattle.std.specs.Prelude.{◌≡◌, true, None, IfOk, OnOk};
 ghost use Rattle.sql_eval.specs.Laws.{has_one_key, AreRowsOf};
 ghost use Rattle.row_store.specs.Store.{has_table, seen_by};
 ghost use Rattle.stmt_run.specs.Run.{answer_of_run, locks_after, ran_over};
 ghost use Rattle.stmt_run.specs.Stored.{ground_in, store_after_run};
 ghost use Rattle.node_rules.specs.NodeState.{branch_at, live_id};
 ghost use Rattle.node_rules.specs.Calls.{statement_at as statement_at_of};
+ghost use Rattle.node_rules.specs.Marks.{keys_of_table as keys_of_table_by};
 ghost use Rattle.node_rules.specs.Statement.{makes_changes};
 ghost use Rattle.node_state.specs.Changed.{change_item};
 ghost use Rattle.node_state.specs.Lives.{changed_by};
 ghost use Rattle.node_drafts.specs.Gives.{GivesDraft};
 ghost use Rattle.node_memory.specs.Parts.{kept_in};
-ghost use Rattle.node_calls.specs.Handled.{at_live, did_changes, TakesStatement};
+ghost use Rattle.node_calls.specs.Handled.{at_live, did_changes, with_written, works_after_run, TakesStatement};
 
 use crate::answering::answer;
-use crate::calling::{call_over, open_through};
-use dtx_values::{Answer, Duplicate, Table};
+use crate::calling::{call_over, open_through, step_of};
+use dtx_values::{Answer, Duplicate, Listing, Name, Table, Value};
 use node_drafts::TurnDraft;
 use node_memory::Memory;
-use node_state::Lives;
+use node_rules::Errand;
+use node_state::{Lives, Works};
 use node_ways::{Way, passed_on, way_of};
 use row_locks::Locks;
 use row_store::Store;
+use savepoints::{RowKey, RowKeys};
+use session_tree::Live;
 use sql_statement::Stmt;
 use std::alloc::{AllocError, Global};
-use stmt_store::run;
+use stmt_store::{Ran, Written, run};
 use tran_ids::BranchId;
 
 /// A statement at a live branch, with the room that its Exec carried: it runs here, is refused, or goes on to a child, or over a
@@ -54,6 +58,8 @@ pub(crate) fn statement_at(
         statement,
     ) {
         Way::RunsHere(table) => {
+            reads_newest(live)?;
+            let step = step_of(&memory.sessions, &memory.works, branch, live);
             let told = run_over(
                 alloc,
                 statement,
@@ -61,14 +67,20 @@ pub(crate) fn statement_at(
                 &mut memory.store,
                 &mut memory.locks,
                 &mut memory.lives,
+                &mut memory.works,
                 branch,
+                step,
             )?;
             answer(memory, alloc, branch, told)
         }
         Way::NowhereTo(refusal) => answer(memory, alloc, branch, Answer::Refused(refusal)),
         Way::Over { edge, table } => {
             let passed = passed_on(alloc, statement, table)?;
-            call_over(memory, alloc, branch, edge, passed, given)
+            let errand = Errand::Statement {
+                statement: passed,
+                room: given,
+            };
+            call_over(memory, alloc, branch, edge, errand)
         }
         Way::Through { node, link, table } => {
             let link = link.copy(alloc)?;
@@ -83,7 +95,18 @@ pub(crate) fn statement_at(
     }
 }
 
-// Runs a statement over a table of the node, and notes whether the branch has made changes.
+// A branch reads the newest rows. Rows at an SCN are not read yet, which ends as for lack of memory: no text spells SET
+// TRANSACTION READ ONLY, so no branch of a run reads any.
+fn reads_newest(live: &Live) -> Result<(), AllocError>
+    ensures { OnOk result (live.now.read_at ≡ None) }
+{
+    match live.read_at {
+        None => Ok(()),
+        Some(_scn) => Err(AllocError),
+    }
+}
+
+// Runs a statement over a table of the node, and notes what it wrote, and whether the branch has made changes.
 #[tactic(auto, using(crate::proofs::GroundLaws::changes_is))]
 fn run_over(
     alloc: Global,
@@ -92,7 +115,9 @@ fn run_over(
     store: &mut Store,
     locks: &mut Locks,
     lives: &mut Lives,
+    works: &mut Works,
     branch: &BranchId,
+    step: u32,
 ) -> Result<Answer, AllocError>
     requires one_key { has_one_key table.now ≡ true }
     requires table { has_table store.old.rows table.now.name ≡ true }
@@ -105,11 +130,59 @@ fn run_over(
         (locks.new ≡ locks_after locks.old branch.now table.now (ran_over (ground_in store.old locks.old branch.now table.now) statement.now table.now)) }
     ensures lives { OnOk result
         (lives.new ≡ change_item live_id (changed_by (makes_changes (ran_over (ground_in store.old locks.old branch.now table.now) statement.now table.now))) lives.old branch.now) }
+    ensures works { OnOk result
+        (works.new ≡ works_after_run works.old branch.now step table.now (ran_over (ground_in store.old locks.old branch.now table.now) statement.now table.now)) }
     ensures undo { store.new.extents ≡ store.old.extents }
 {
-    let told = run(alloc, statement, table, store, locks, branch)?;
-    lives.note_changes(branch, has_changed(&told));
-    Ok(told)
+    let Ran { answer, written } = run(alloc, statement, table, store, locks, branch)?;
+    lives.note_changes(branch, has_changed(&answer));
+    match note(alloc, works, branch, step, table, written) {
+        Err(error) => {
+            drop(answer);
+            Err(error)
+        }
+        Ok(()) => Ok(answer),
+    }
+}
+
+// Notes what an accepted statement wrote.
+fn note(
+    alloc: Global,
+    works: &mut Works,
+    branch: &BranchId,
+    step: u32,
+    table: &Table,
+    written: Option<Written>,
+) -> Result<(), AllocError>
+    ensures { OnOk result (works.new ≡ with_written works.old branch.now step table.now written) }
+{
+    match written {
+        None => Ok(()),
+        Some(Written { sets, keys }) => {
+            let rows = keys_of_table(alloc, &table.name, keys.as_slice());
+            drop(keys);
+            works.note_run(alloc, branch, step, sets, rows?)
+        }
+    }
+}
+
+// These keys of a table.
+fn keys_of_table(alloc: Global, table: &Name, keys: &[Value]) -> Result<RowKeys, AllocError>
+    ensures { IfOk result (λ rows. rows ≡ keys_of_table_by table.now keys.now) }
+{
+    let mut rows = Vec::with_capacity(alloc, keys.len())?;
+    for key in keys {
+        rows.push(row_key(alloc, table, key)?)?;
+    }
+    Ok(Listing::of(rows))
+}
+
+fn row_key(alloc: Global, table: &Name, key: &Value) -> Result<RowKey, AllocError>
+    ensures { IfOk result (λ row. row ≡ record { table = table.now; key = key.now }) }
+{
+    let table = table.copy(alloc)?;
+    let key = key.copy(alloc)?;
+    Ok(RowKey { table, key })
 }
 
 // Whether an answer tells of changes.

@@ -1,5 +1,6 @@
 //! Messages of calls, by what their branch is at the node: live, kept or gone.
 ghost use Rattle.std.specs.Prelude.{◌≡◌, IfOk};
+ghost use Rattle.sql_statement.specs.declared.statement.Stmt.{Stmt as StmtBy};
 ghost use Rattle.node_rules.specs.Turn.{exec_turn as exec_turn_of, opened_turn as opened_turn_of, reply_turn as reply_turn_of, status_of};
 ghost use Rattle.node_drafts.specs.Gives.{GivesDraft};
 ghost use Rattle.node_memory.specs.Parts.{kept_in};
@@ -8,12 +9,12 @@ ghost use Rattle.node_calls.specs.Handled.{HasFewWith, EdgesHaveNumbers, BranchH
 use crate::executing::on_exec;
 use crate::opened::on_opened;
 use crate::replied::on_reply;
-use dtx_values::{Advice, Answer};
+use dtx_values::Answer;
 use node_drafts::{TurnDraft, gone_reply};
 use node_memory::{BranchStatus, Memory};
-use sql_statement::Stmt;
 use std::alloc::{AllocError, Global};
 use tran_ids::BranchId;
+use wire_msg::Task;
 
 /// Exec: a live branch takes the call, a kept one ignores it, and a gone one refuses it with DTX-08.
 #[tactic(auto, using(crate::proofs::TurnLaws::exec_kept, crate::proofs::TurnLaws::exec_gone))]
@@ -23,18 +24,16 @@ pub fn exec_turn(
     from: BranchId,
     to: &BranchId,
     call: u32,
-    given: u16,
-    advice: Option<Advice>,
-    statement: &Stmt,
+    task: &Task,
 ) -> Result<TurnDraft, AllocError>
-    requires { TakesStatement memory.old to.now statement.now }
+    requires { (s : StmtBy) → TakesStatement memory.old to.now s }
     ensures gives { IfOk result (λ draft.
-        GivesDraft (exec_turn_of memory.old.place (kept_in memory.old) from to.now call given advice statement.now (status_of (kept_in memory.old) to.now)) (kept_in memory.new) draft) }
+        GivesDraft (exec_turn_of memory.old.place (kept_in memory.old) from to.now call task.now (status_of (kept_in memory.old) to.now)) (kept_in memory.new) draft) }
     ensures place { memory.new.place ≡ memory.old.place }
 {
     match memory.status_of(to) {
         BranchStatus::Live(_) => {
-            let draft = on_exec(memory, alloc, from, to, call, given, advice, statement)?;
+            let draft = on_exec(memory, alloc, from, to, call, task)?;
             Ok(draft)
         }
         BranchStatus::Kept(_) => Ok(TurnDraft::nothing(alloc)),

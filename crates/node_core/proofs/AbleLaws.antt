@@ -86,7 +86,7 @@ raised_able p k m may =
     let clock = may.able.clock in
     record {
       ready = record { rows = may.able.ready.rows; names = may.able.ready.names; shape = may.able.ready.shape; ids = may.able.ready.ids };
-      undo = record { lives = may.able.undo.lives; keys = may.able.undo.keys; stands = may.able.undo.stands };
+      undo = record { lives = may.able.undo.lives; keys = may.able.undo.keys; stands = may.able.undo.stands; even = may.able.undo.even };
       nodes = may.able.nodes;
       links = may.able.links;
       opens = may.able.opens;

@@ -1,6 +1,6 @@
 -- A call that is refused in the turn in which it came changes no row and no lock, and writes no record.
 use Rattle.std.proofs.Common.{◌≡◌, ℕ, Bool, true, false, if◌then◌else◌, List, [], ◌∷◌, ◌++◌, find, length, unwrap_or, Option, None, Some, refl, ap}
-use Rattle.std.specs.Prelude.{is_none, Result, Ok, Err}
+use Rattle.std.specs.Prelude.{◌&&◌, is_none, is_some, Result, Ok, Err}
 use Rattle.node_rules.specs.Data.{Table, Stmt, Answer, Done, Refusal, BranchId, RedoRecord, KeptRow, Edge, Live, Walk, Act, Place}
 use Rattle.node_rules.specs.declared.session.Finished.{Finished}
 use Rattle.node_rules.specs.Data.answers
@@ -16,12 +16,14 @@ use Rattle.node_rules.specs.Names.{Way, Runs_here, Over, Through, Nowhere_to, wa
 use Rattle.node_rules.specs.Statement.{StmtOutcome, Refuses, Reads, Writes, node_after_run, after_run, answer_of_run, ran}
 use Rattle.node_rules.specs.NodeState.{NodeState, TurnDraft, Branch}
 use Rattle.node_rules.specs.Sessions.{commit_is_pending, commit_complete, session_at, tran_refusal, with_call}
-use Rattle.node_rules.specs.Calls.{answer_ends, answered, goes}
+use Rattle.node_rules.specs.Refusals.{dtx}
+use Rattle.node_rules.specs.Marks.{branch_back, next_back, node_back, savepoint_at}
+use Rattle.node_rules.specs.Calls.{answer_ends, answered, backs_to, branch_ran, goes, statement_at}
 use Rattle.node_rules.specs.Prepare.{act_turn, is_alone, collecting, with_comment, without_read_keys}
 use Rattle.node_rules.specs.Force.{branch_to_force, force_commit, force_rollback, may_purge, hides, purge}
-use Rattle.node_rules.specs.Client.{refuses, writes, begun, statement_by, statement_call, commit_by, rollback_by, is_used, is_link, call_turn, read_turn, root_at}
+use Rattle.node_rules.specs.Client.{back_by, back_call, back_to_savepoint, counted, is_write, read_only_by, refuses, savepoint_by, savepoint_call, writes, begun, statement_by, statement_call, commit_at, commit_by, rollback_by, is_used, is_link, call_turn, read_turn, root_at}
 use Rattle.node_rules.specs.Turn.{turn_of}
-use Rattle.node_core.specs.Refused.{LeavesAll, IsRefused, RefusedCallsLeaveAll}
+use Rattle.node_core.specs.Refused.{RefusedCallsLeaveAll}
 
 -- a session's call ends with a refusal, and no other call ends
 abbrev Says : ℕ → List Finished → Type 0
@@ -74,8 +76,8 @@ none_ends n says = let is : None ≡ Some (answers.Refused says.0) = told n [] s
 
 -- ---- statements of a table
 
-run_leaves : (k : NodeState) (x : Branch) (t : Table) (r : StmtOutcome) (n : ℕ) → Says n (answered (node_after_run k x.live.me t r) (record x { live = after_run x.live r }) (answer_of_run r)).ended
-    → Leaves k (answered (node_after_run k x.live.me t r) (record x { live = after_run x.live r }) (answer_of_run r))
+run_leaves : (k : NodeState) (x : Branch) (t : Table) (r : StmtOutcome) (n : ℕ) → Says n (answered (node_after_run k x.live.me t r) (branch_ran k.sessions x t r) (answer_of_run r)).ended
+    → Leaves k (answered (node_after_run k x.live.me t r) (branch_ran k.sessions x t r) (answer_of_run r))
 run_leaves k x t (Refuses refusal) n says = record { stored = refl; owns = refl; locks = refl; wrote = refl }
 run_leaves k x t (Reads rows keys) n says = let is : answers.Found rows ≡ answers.Refused says.0 = ends_so (after_run x.live (Reads rows keys)) (answers.Found rows) x.live.parent n says in absurd cc
 run_leaves k x t (Writes d cs keys undo) n says = let is : answers.Did d (length cs) ≡ answers.Refused says.0 = ends_so (after_run x.live (Writes d cs keys undo)) (answers.Did d (length cs)) x.live.parent n says in absurd cc
@@ -86,10 +88,15 @@ goes_leaves p k x s given (Nowhere_to refusal) n says = record { stored = refl; 
 goes_leaves p k x s given (Over i table) n says = record { stored = refl; owns = refl; locks = refl; wrote = refl }
 goes_leaves p k x s given (Through node link table) n says = record { stored = refl; owns = refl; locks = refl; wrote = refl }
 
+allowed_leaves : (p : Place) (k : NodeState) (n : ℕ) (x : Branch) (s : Stmt) (forbidden : Bool) → Says n (if forbidden then refuses k n (dtx 21 []) else statement_at p k x s 0).ended
+    → Leaves k (if forbidden then refuses k n (dtx 21 []) else statement_at p k x s 0)
+allowed_leaves p k n x s true says = record { stored = refl; owns = refl; locks = refl; wrote = refl }
+allowed_leaves p k n x s false says = goes_leaves p k x s 0 (way_of p k.stored.durable x.live 0 s) n says
+
 statement_leaves : (p : Place) (k : NodeState) (n : ℕ) (s : Stmt) (code : Option ℕ) (root : Option Branch) → Says n (statement_by p k n s code root).ended → Leaves k (statement_by p k n s code root)
 statement_leaves p k n s code None says = record { stored = refl; owns = refl; locks = refl; wrote = refl }
 statement_leaves p k n s (Some c) (Some x) says = record { stored = refl; owns = refl; locks = refl; wrote = refl }
-statement_leaves p k n s None (Some x) says = goes_leaves p k x s 0 (way_of p k.stored.durable x.live 0 s) n says
+statement_leaves p k n s None (Some x) says = allowed_leaves p k n x s (is_some x.live.read_at && is_write s) says
 
 -- a session without a transaction begins one first, which changes no row
 call_leaves : (p : Place) (k : NodeState) (n : ℕ) (s : Stmt) → Says n (statement_call p (begun p k n) n s).ended → Leaves k (statement_call p (begun p k n) n s)
@@ -132,13 +139,17 @@ acts_refuse_none k l acts.SayReadOnly n first says = absurd first
 acts_refuse_none k l acts.Seal n first says = absurd first
 acts_refuse_none k l acts.Abandon n first says = absurd first
 
-commit_leaves : (k : NodeState) (n : ℕ) (comment : List ℕ) (code : Option ℕ) (root : Option Branch) → Says n (commit_by k n comment code root).ended → Leaves k (commit_by k n comment code root)
-commit_leaves k n comment code None says = absurd (did_not n n dones.Committed 0 says)
-commit_leaves k n comment (Some c) (Some x) says = record { stored = refl; owns = refl; locks = refl; wrote = refl }
-commit_leaves k n comment None (Some x) says =
+commits_leave : (k : NodeState) (n : ℕ) (comment : List ℕ) (x : Branch) (read_at : Option ℕ) → Says n (commit_at k n comment x read_at).ended → Leaves k (commit_at k n comment x read_at)
+commits_leave k n comment x (Some scn) says = absurd (did_not n n dones.Committed 0 says)
+commits_leave k n comment x None says =
     let begun_kept = without_read_keys (record k { sessions = with_call k.sessions n pending.Commit }) x.live.me in
     let begun_live = collecting (with_comment x.live comment) true in
     absurd (acts_refuse_none begun_kept begun_live (first_act_by begun_live true begun_live.edges) n (act_first begun_live begun_live.edges) says)
+
+commit_leaves : (k : NodeState) (n : ℕ) (comment : List ℕ) (code : Option ℕ) (root : Option Branch) → Says n (commit_by k n comment code root).ended → Leaves k (commit_by k n comment code root)
+commit_leaves k n comment code None says = absurd (did_not n n dones.Committed 0 says)
+commit_leaves k n comment (Some c) (Some x) says = record { stored = refl; owns = refl; locks = refl; wrote = refl }
+commit_leaves k n comment None (Some x) says = commits_leave k n comment x x.live.read_at says
 
 -- ---- other statements
 
@@ -167,6 +178,41 @@ rolls_back : (k : NodeState) (n : ℕ) (root : Option Branch) → Says n (rollba
 rolls_back k n None says = absurd (did_not n n dones.RolledBack 0 says)
 rolls_back k n (Some x) says = absurd (did_not n n dones.RolledBack 0 says)
 
+-- ---- READ ONLY, savepoints
+
+reads_leave : (p : Place) (k : NodeState) (n : ℕ) (root : Option BranchId) → Says n (read_only_by p k n root).ended → Leaves k (read_only_by p k n root)
+reads_leave p k n (Some root) says = record { stored = refl; owns = refl; locks = refl; wrote = refl }
+reads_leave p k n None says = absurd (did_not n n dones.TransactionSet 0 says)
+
+marks_leave : (k : NodeState) (n : ℕ) (name : List ℕ) (code : Option ℕ) (root : Option Branch) → Says n (savepoint_by k n name code root).ended → Leaves k (savepoint_by k n name code root)
+marks_leave k n name code None says = absurd (none_ends n says)
+marks_leave k n name (Some c) (Some x) says = record { stored = refl; owns = refl; locks = refl; wrote = refl }
+marks_leave k n name None (Some x) says = absurd (did_not n n dones.SavepointMade 0 says)
+
+savepoint_leaves : (p : Place) (k : NodeState) (n : ℕ) (name : List ℕ) → Says n (savepoint_call (begun p k n) n name).ended → Leaves k (savepoint_call (begun p k n) n name)
+savepoint_leaves p k n name says =
+    let own = marks_leave (begun p k n) n name (session_at (begun p k n).sessions n).code (root_at (begun p k n) n) says in
+    record { stored = own.stored; owns = own.owns; locks = own.locks; wrote = own.wrote }
+
+-- a branch that goes back is not refused in the turn in which it begins to
+backs_refuse_none : (k : NodeState) (x : Branch) (step : ℕ) (next : Option ℕ) (n : ℕ) → Says n (backs_to k x step next).ended → ⊥
+backs_refuse_none k x step None n says = let is : answers.Did dones.RolledBack 0 ≡ answers.Refused says.0 = ends_so x.live (answers.Did dones.RolledBack 0) x.live.parent n says in absurd cc
+backs_refuse_none k x step (Some i) n says = none_ends n says
+
+back_leaves_to : (k : NodeState) (n : ℕ) (name : List ℕ) (x : Branch) (at : Option ℕ) → Says n (back_to_savepoint k n name x at).ended → Leaves k (back_to_savepoint k n name x at)
+back_leaves_to k n name x None says = record { stored = refl; owns = refl; locks = refl; wrote = refl }
+back_leaves_to k n name x (Some step) says = absurd (backs_refuse_none (node_back k x step) (branch_back k x step) step (next_back (branch_back k x step).work step 1) n says)
+
+back_leaves_by : (k : NodeState) (n : ℕ) (name : List ℕ) (code : Option ℕ) (root : Option Branch) → Says n (back_by k n name code root).ended → Leaves k (back_by k n name code root)
+back_leaves_by k n name code None says = record { stored = refl; owns = refl; locks = refl; wrote = refl }
+back_leaves_by k n name (Some c) (Some x) says = record { stored = refl; owns = refl; locks = refl; wrote = refl }
+back_leaves_by k n name None (Some x) says = back_leaves_to k n name x (savepoint_at x.work.marks name) says
+
+back_leaves : (k : NodeState) (n : ℕ) (name : List ℕ) → Says n (back_call (counted k n) n name).ended → Leaves k (back_call (counted k n) n name)
+back_leaves k n name says =
+    let own = back_leaves_by (counted k n) n name (session_at (counted k n).sessions n).code (root_at (counted k n) n) says in
+    record { stored = own.stored; owns = own.owns; locks = own.locks; wrote = own.wrote }
+
 turn_leaves : (p : Place) (k : NodeState) (n : ℕ) (s : Stmt) → Says n (call_turn p k n s).ended → Leaves k (call_turn p k n s)
 turn_leaves p k n (stmts.CreateTable t) says = made_leaves k n (is_used k.stored.durable t.name) _ _ _ says
 turn_leaves p k n (stmts.CreateLink l) says = made_leaves k n (is_link k.stored.durable l.name) _ _ _ says
@@ -181,6 +227,10 @@ turn_leaves p k n stmts.Rollback says = rolls_back k n (root_at k n) says
 turn_leaves p k n (stmts.RollbackForce id) says = forces_rollback k n (branch_to_force p.names k.stored.durable.kept id) says
 turn_leaves p k n (stmts.Advise a) says = absurd (did_not n n dones.SessionAltered 0 says)
 turn_leaves p k n (stmts.Recovery on) says = absurd (did_not n n dones.SystemAltered 0 says)
+turn_leaves p k n (stmts.SetStrength strength) says = absurd (did_not n n dones.SystemAltered 0 says)
+turn_leaves p k n stmts.SetReadOnly says = reads_leave p k n (session_at k.sessions n).root says
+turn_leaves p k n (stmts.Savepoint name) says = savepoint_leaves p k n name says
+turn_leaves p k n (stmts.RollbackTo name) says = back_leaves k n name says
 turn_leaves p k n (stmts.PurgeMixed id) says = purge_leaves k n true id says
 turn_leaves p k n (stmts.PurgeLost id) says = purge_leaves k n false id says
 
@@ -194,3 +244,4 @@ refused_calls_leave_all p k (inputs.Call n s) says = let own = read_leaves p k n
 refused_calls_leave_all p k (inputs.GiveUp n) says = absurd says
 refused_calls_leave_all p k (inputs.Message m) says = absurd says
 refused_calls_leave_all p k inputs.Reco says = absurd says
+refused_calls_leave_all p k inputs.Checkpoint says = absurd says

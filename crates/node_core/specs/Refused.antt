@@ -1,6 +1,6 @@
 -- What a refused statement leaves.
 use Rattle.std.specs.Prelude.{◌≡◌, List, [], ◌∷◌, None}
-use Rattle.node_rules.specs.Data.{Refusal, RedoRecord, Place, Input}
+use Rattle.node_rules.specs.Data.{Refusal, Place, Input}
 use Rattle.node_rules.specs.declared.session.Finished.{Finished}
 use Rattle.node_rules.specs.Data.answers
 use Rattle.node_rules.specs.Data.inputs

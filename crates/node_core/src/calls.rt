@@ -1,7 +1,8 @@
 //! The calls of clients, by the form of the statement.
 ghost use Rattle.std.specs.Prelude.{◌≡◌, [], IfOk, IfSome};
 ghost use Rattle.node_rules.specs.Inputs.{IsSession};
-ghost use Rattle.node_rules.specs.Client.{refuses, begun, statement_call as statement_call_of, call_turn as call_turn_of, read_turn as read_turn_of};
+ghost use Rattle.node_rules.specs.Client.{refuses, begun, read_only_by, savepoint_call as savepoint_call_of, statement_call as statement_call_of, call_turn as call_turn_of, read_turn as read_turn_of};
+ghost use Rattle.node_rules.specs.Sessions.{session_at};
 ghost use Rattle.node_rules.specs.Refusals.{ora};
 ghost use Rattle.node_memory.specs.Parts.{kept_in};
 ghost use Rattle.node_drafts.specs.Gives.{GivesDraft};
@@ -9,9 +10,10 @@ ghost use Rattle.node_core.specs.Able.{IsAble, EndsWork};
 
 use crate::able::{may_begin, takes_statements};
 use crate::committing::commit_call;
+use dtx_values::Name;
 use node_calls::{
-    advise, create_link, create_synonym, create_table, refuse_text, rollback_by, set_recovery,
-    statement_call,
+    advise, back_call, create_link, create_synonym, create_table, refuse_text, rollback_by,
+    savepoint_call, set_read_only, set_recovery, set_strength, statement_call,
 };
 use node_commit::{commit_force, purge, rollback_force};
 use node_drafts::TurnDraft;
@@ -34,6 +36,33 @@ fn table_call(
     takes_statements(memory);
     may_begin(memory, session);
     statement_call(memory, alloc, session, statement)
+}
+
+// SET TRANSACTION READ ONLY.
+fn read_only_call(memory: &mut Memory, alloc: Global, session: u32) -> Result<TurnDraft, AllocError>
+    requires able { IsAble memory.old.place (kept_in memory.old) }
+    requires fit { IsSession session }
+    ensures gives { IfOk result (λ draft. GivesDraft (read_only_by memory.old.place (kept_in memory.old) session (session_at memory.old.sessions session).root) (kept_in memory.new) draft) }
+    ensures place { memory.new.place ≡ memory.old.place }
+{
+    may_begin(memory, session);
+    set_read_only(memory, alloc, session)
+}
+
+// SAVEPOINT.
+fn mark_call(
+    memory: &mut Memory,
+    alloc: Global,
+    session: u32,
+    name: &Name,
+) -> Result<TurnDraft, AllocError>
+    requires able { IsAble memory.old.place (kept_in memory.old) }
+    requires fit { IsSession session }
+    ensures gives { IfOk result (λ draft. GivesDraft (savepoint_call_of (begun memory.old.place (kept_in memory.old) session) session name.now) (kept_in memory.new) draft) }
+    ensures place { memory.new.place ≡ memory.old.place }
+{
+    may_begin(memory, session);
+    savepoint_call(memory, alloc, session, name)
 }
 
 // A statement of a client.
@@ -62,6 +91,10 @@ fn call_turn(
         Stmt::RollbackForce { id } => rollback_force(memory, alloc, session, id.as_slice()),
         Stmt::Advise(advice) => advise(memory, alloc, session, *advice),
         Stmt::Recovery(on) => set_recovery(memory, alloc, session, *on),
+        Stmt::SetStrength(strength) => set_strength(memory, alloc, session, *strength),
+        Stmt::SetReadOnly => read_only_call(memory, alloc, session),
+        Stmt::Savepoint(name) => mark_call(memory, alloc, session, name),
+        Stmt::RollbackTo(name) => back_call(memory, alloc, session, name),
         Stmt::PurgeMixed { id } => purge(memory, alloc, session, true, id.as_slice()),
         Stmt::PurgeLost { id } => purge(memory, alloc, session, false, id.as_slice()),
     }

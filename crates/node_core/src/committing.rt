@@ -1,7 +1,9 @@
 //! COMMIT in a session.
-ghost use Rattle.std.specs.Prelude.{◌≡◌, unwrap_or, [], None, Some, IfOk, IfSome};
+ghost use Rattle.std.specs.Prelude.{◌≡◌, unwrap_or, is_some, [], None, Some, IfOk, IfSome};
+ghost use Rattle.std.specs.Option.{option_copied};
 ghost use Rattle.node_rules.specs.NodeState.{branch_at};
 ghost use Rattle.node_rules.specs.Sessions.{session_at};
+ghost use Rattle.node_rules.specs.Statement.{read_by};
 ghost use Rattle.node_rules.specs.Client.{commit_by, commit_call as commit_call_of};
 ghost use Rattle.node_memory.specs.Parts.{kept_in};
 ghost use Rattle.node_drafts.specs.Gives.{GivesDraft};
@@ -11,11 +13,13 @@ ghost use Rattle.sql_statement.specs.declared.statement.Stmt.TheVariants as stmt
 ghost use Rattle.node_rules.specs.Data.phases as phases;
 
 use crate::able::may_commit;
-use dtx_values::{Answer, Bytes, Duplicate, Listing};
+use dtx_values::{Answer, Bytes, Done, Duplicate, Listing};
+use node_calls::leave;
 use node_commit::collects;
 use node_drafts::{TurnDraft, commit_complete, needs_rollback};
 use node_memory::Memory;
 use node_rules::PendingCall;
+use session_tree::Live;
 use std::alloc::{AllocError, Global};
 use tran_ids::BranchId;
 
@@ -29,8 +33,8 @@ fn comment_text(alloc: Global, comment: &Option<Bytes>) -> Result<Bytes, AllocEr
     }
 }
 
-// COMMIT at a live root that works: its collect begins.
-#[tactic(auto, using(crate::proofs::CommitLaws::collects_so))]
+// COMMIT at a live root that works: one that reads at an SCN has nothing to commit, and the collect of any other begins.
+#[tactic(auto, using(crate::proofs::CommitLaws::collects_so, crate::proofs::CommitLaws::reader_leaves))]
 fn commit_live(
     memory: &mut Memory,
     alloc: Global,
@@ -43,9 +47,23 @@ fn commit_live(
     ensures gives { IfOk result (λ draft. GivesDraft (commit_by (kept_in memory.old) session comment None (branch_at (kept_in memory.old) root.now)) (kept_in memory.new) draft) }
     ensures place { memory.new.place ≡ memory.old.place }
 {
+    if reads_at_scn(memory.live_at(root)) {
+        drop(comment);
+        return leave(memory, alloc, session, root, Done::Committed);
+    }
     may_commit(memory, root);
     memory.sessions.set_call(session, PendingCall::Commit);
     collects(memory, alloc, root, true, comment)
+}
+
+// Whether a live branch reads at an SCN.
+fn reads_at_scn(live: Option<&Live>) -> bool
+    ensures { result ≡ is_some (read_by (option_copied live.entry)) }
+{
+    match live {
+        None => false,
+        Some(live) => live.read_at.is_some(),
+    }
 }
 
 // COMMIT in a session with this root: complete where it is not live, and ORA-02067 where it can only be rolled back.

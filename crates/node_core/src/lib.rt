@@ -7,6 +7,7 @@
 
 mod able;
 mod calls;
+mod checkpoints;
 mod committing;
 mod giving_up;
 mod laws;

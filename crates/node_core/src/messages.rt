@@ -8,7 +8,7 @@ ghost use Rattle.node_drafts.specs.Gives.{GivesDraft};
 ghost use Rattle.node_core.specs.Able.{IsAble};
 
 use crate::able::{may_commit, may_hear_opened, may_hear_reply, may_open, takes_statements};
-use dtx_values::{Advice, Answer, Bytes, Duplicate};
+use dtx_values::{Answer, Bytes, Duplicate};
 use node_calls::{exec_turn, on_open, opened_turn, reply_turn};
 use node_commit::{
     ack_turn, answer_turn, ask_turn, commit_point_turn, committed_turn, forgotten_turn,
@@ -17,10 +17,9 @@ use node_commit::{
 use node_drafts::TurnDraft;
 use node_memory::Memory;
 use session_tree::Vote;
-use sql_statement::Stmt;
 use std::alloc::{AllocError, Global};
 use tran_ids::BranchId;
-use wire_msg::Kind;
+use wire_msg::{Kind, Task};
 
 // Open: a branch is asked for.
 fn opens(
@@ -30,13 +29,14 @@ fn opens(
     edge: u8,
     root: BranchId,
     depth: u8,
+    read_at: Option<u64>,
 ) -> Result<TurnDraft, AllocError>
     requires { IsAble memory.old.place (kept_in memory.old) }
-    ensures gives { IfOk result (λ draft. GivesDraft (on_open_of memory.old.place (kept_in memory.old) from edge root depth) (kept_in memory.new) draft) }
+    ensures gives { IfOk result (λ draft. GivesDraft (on_open_of memory.old.place (kept_in memory.old) from edge root depth read_at) (kept_in memory.new) draft) }
     ensures place { memory.new.place ≡ memory.old.place }
 {
     may_open(memory);
-    on_open(memory, alloc, from, edge, root, depth)
+    on_open(memory, alloc, from, edge, root, depth, read_at)
 }
 
 // Opened: a child that was asked for is there.
@@ -56,23 +56,21 @@ fn opened(
     opened_turn(memory, alloc, from, to, edge, strength)
 }
 
-// Exec: a statement for the branch.
+// Exec: a call for the branch.
 fn executes(
     memory: &mut Memory,
     alloc: Global,
     from: BranchId,
     to: &BranchId,
     call: u32,
-    room: u16,
-    advice: Option<Advice>,
-    statement: &Stmt,
+    task: &Task,
 ) -> Result<TurnDraft, AllocError>
     requires { IsAble memory.old.place (kept_in memory.old) }
-    ensures gives { IfOk result (λ draft. GivesDraft (exec_turn_of memory.old.place (kept_in memory.old) from to.now call room advice statement.now (status_of (kept_in memory.old) to.now)) (kept_in memory.new) draft) }
+    ensures gives { IfOk result (λ draft. GivesDraft (exec_turn_of memory.old.place (kept_in memory.old) from to.now call task.now (status_of (kept_in memory.old) to.now)) (kept_in memory.new) draft) }
     ensures place { memory.new.place ≡ memory.old.place }
 {
     takes_statements(memory);
-    exec_turn(memory, alloc, from, to, call, room, advice, statement)
+    exec_turn(memory, alloc, from, to, call, task)
 }
 
 // Reply: a child answers a statement.
@@ -159,14 +157,14 @@ pub(crate) fn kind_turn(
     ensures place { memory.new.place ≡ memory.old.place }
 {
     match kind {
-        Kind::Open { edge, root, depth } => opens(memory, alloc, from, *edge, *root, *depth),
+        Kind::Open {
+            edge,
+            root,
+            depth,
+            read_at,
+        } => opens(memory, alloc, from, *edge, *root, *depth, *read_at),
         Kind::Opened { edge, strength } => opened(memory, alloc, from, &to, *edge, *strength),
-        Kind::Exec {
-            call,
-            room,
-            advice,
-            statement,
-        } => executes(memory, alloc, from, &to, *call, *room, *advice, statement),
+        Kind::Exec { call, task } => executes(memory, alloc, from, &to, *call, task),
         Kind::Reply {
             call,
             weight,

@@ -14,6 +14,7 @@ ghost use Rattle.node_core.specs.Serves.{Serves};
 
 use crate::StampedTurn;
 use crate::calls::read_turn;
+use crate::checkpoints::checkpoint;
 use crate::giving_up::give_up_turn;
 use crate::laws::refused_calls_leave_all;
 use crate::messages::kind_turn;
@@ -78,6 +79,7 @@ fn take(memory: &mut Memory, alloc: Global, input: &Input) -> Result<StampedTurn
             stamped(memory, alloc, draft)
         }
         Input::Reco => recovery(memory, alloc),
+        Input::Checkpoint => checkpoint(memory, alloc),
     }
 }
 

@@ -4,6 +4,7 @@ use Rattle.std.specs.List.{AllByRecursion}
 use Rattle.node_rules.specs.Data.{Answer, Kind, Msg, Input}
 use Rattle.node_rules.specs.Data.answers
 use Rattle.node_rules.specs.Data.kinds
+use Rattle.node_rules.specs.Data.tasks
 use Rattle.node_rules.specs.Data.inputs
 use Rattle.node_rules.specs.NodeState.{NodeState}
 use Rattle.node_rules.specs.Turn.{kind_scn}
@@ -20,7 +21,7 @@ answer_mailed (answers.Found found) has = has
 answer_mailed (answers.Refused refusal) has = has
 
 kind_mailed : (kind : Kind) → HasBytes kind → KindMayBeMailed kind
-kind_mailed (kinds.Exec call room advice s) has = has.0
+kind_mailed (kinds.Exec call (tasks.Run room advice s)) has = has.0
 kind_mailed (kinds.Reply call weight count result) has = answer_mailed result has
 kind_mailed (kinds.Prepare site_below comment) has = has
 kind_mailed _ has = tt
@@ -41,3 +42,4 @@ room_of k (inputs.Message m) clock scns = less_max k.clock (max m.scn (kind_scn 
 room_of k (inputs.Call session statement) clock scns = clock
 room_of k (inputs.GiveUp session) clock scns = clock
 room_of k inputs.Reco clock scns = clock
+room_of k inputs.Checkpoint clock scns = clock

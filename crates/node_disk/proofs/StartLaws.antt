@@ -11,7 +11,8 @@ use Rattle.record_log.specs.Held.{HoldRecords, HoldWithOrWithout, GrowsByPlan, w
 use Rattle.node_rules.specs.Data.{RedoRecord, Place}
 use Rattle.node_rules.specs.Data.records
 use Rattle.node_rules.specs.NodeState.{Stored, NodeState}
-use Rattle.node_rules.specs.Records.{nothing_stored, applied, stored_by, with_record}
+use Rattle.read_only_tx.specs.Versions.{Versions, versions_from}
+use Rattle.node_rules.specs.Records.{nothing_stored, applied, stored_by, versions_read, versions_in, with_record}
 use Rattle.node_rules.specs.Turn.{start_of, kept_by}
 use Rattle.node_ready_laws.specs.Following.{MayFollow}
 use Rattle.node_ready_laws.specs.Ready.{IsReady, StartsAreReady}
@@ -59,15 +60,21 @@ had_started undo rs had = had_next undo rs (next_boot rs) had (boot_next undo rs
 -- ---- what the node keeps
 
 -- a node that starts keeps what it would with the record of the start behind the others
-kept_started : (s : Stored) (n : ℕ) → with_record (kept_by s) (records.Boot n) ≡ kept_by (applied s (records.Boot n))
+kept_started : (s : Stored) (vs : Versions) (n : ℕ) → with_record (kept_by s vs) (records.Boot n) ≡ kept_by (applied s (records.Boot n)) vs
 unfolding applied durable_after
-kept_started s n = refl
+kept_started s vs n = refl
+
+-- and it is no commit
+versions_started : (s : Stored) (vs : Versions) (rs : List RedoRecord) (n : ℕ) → versions_in s vs (rs ++ records.Boot n ∷ []) ≡ versions_in s vs rs
+versions_started s vs [] n = refl
+versions_started s vs (r ∷ rs) n = versions_started (applied s r) (versions_read s vs r) rs n
 
 pub started_so : (rs : List RedoRecord) (m : Memory) → kept_in m ≡ start_of rs → with_record (kept_in m) (records.Boot (m.boot + 1)) ≡ start_of (rs ++ next_boot rs ∷ [])
 unfolding start_of
 started_so rs m kept =
     ap (λ (k : NodeState). with_record k (records.Boot (k.stored.durable.boot + 1))) kept
-    ∙ (kept_started (stored_by nothing_stored rs) (last_boot rs + 1) ∙ ap kept_by (sym (stored_last nothing_stored rs (next_boot rs))))
+    ∙ (kept_started (stored_by nothing_stored rs) (versions_in nothing_stored (versions_from 0) rs) (last_boot rs + 1)
+    ∙ (λ i. kept_by (sym (stored_last nothing_stored rs (next_boot rs)) i) (sym (versions_started nothing_stored (versions_from 0) rs (last_boot rs + 1)) i)))
 
 -- the number of the last start
 pub boot_so : (rs : List RedoRecord) (m : Memory) → kept_in m ≡ start_of rs → m.boot ≡ last_boot rs

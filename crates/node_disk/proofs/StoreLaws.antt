@@ -35,6 +35,7 @@ applied_over s kept (records.Forced b d given) = refl
 applied_over s kept (records.Met b d mixed) = refl
 applied_over s kept (records.Forgot b) = refl
 applied_over s kept (records.Hidden b) = refl
+applied_over s kept (records.Image i) = refl
 
 -- the same where no record stands next
 pub next_over : (s : Stored) (kept : List KeptRow) (w : Option RedoRecord) → stored_next (with_rows s kept) w ≡ with_rows (stored_next s w) (stored_next (with_rows s kept) w).durable.kept
@@ -56,8 +57,10 @@ Stores k d = IsButForAcks (stored_next k.stored d.wrote) d.after.stored
 
 stores_on : (p : Place) (input : Input) {k : NodeState} {d : TurnDraft} → Step p input k d → Stores k d
 unfolding Stores
-stores_on p input (steps.Begins n s call rows fit none step) = stores_on p input step
-stores_on p input (steps.Pends n l given call has live code step) = stores_on p input step
+stores_on p input (steps.Begins n s read_at call begins fit none step) = stores_on p input step
+stores_on p input (steps.Counts_call n s call counts step) = stores_on p input step
+stores_on p input (steps.Goes_back x back goes step) = stores_on p input step
+stores_on p input (steps.Pends n l given call has live code writer step) = stores_on p input step
 stores_on p input (steps.Lets_reads_go l comment site_below live begins step) = stores_on p input step
 stores_on p input (steps.Counts_ack {k = k} {d = d} s from kept came counts step) =
     let noted = put_item kept_row_id k.stored.durable.kept (acked_by s from) in
@@ -88,6 +91,7 @@ stored_heard k (inputs.Message m) = refl
 stored_heard k (inputs.Call n s) = refl
 stored_heard k (inputs.GiveUp n) = refl
 stored_heard k inputs.Reco = refl
+stored_heard k inputs.Checkpoint = refl
 
 pub turns_store_their_records : TurnsStoreTheirRecords
 unfolding turn_of Stores

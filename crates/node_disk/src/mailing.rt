@@ -16,7 +16,7 @@ use msg_codec::{encode_msg, message_fits, messages_are_read};
 use sql_print::print_stmt;
 use sql_statement::Stmt;
 use std::alloc::{AllocError, Global};
-use wire_msg::{Kind, Msg, Msgs};
+use wire_msg::{Kind, Msg, Msgs, Task};
 
 // The most that four bytes count.
 const COUNT_LIMIT: usize = 4_294_967_295;
@@ -117,7 +117,10 @@ fn kind_fits(alloc: Global, kind: &Kind) -> Result<(), AllocError>
     ensures { OnOk result (KindFits kind.now) }
 {
     match kind {
-        Kind::Exec { statement, .. } => statement_fits(alloc, statement),
+        Kind::Exec {
+            task: Task::Run { statement, .. },
+            ..
+        } => statement_fits(alloc, statement),
         Kind::Reply { result: answer, .. } => answer_fits(answer),
         _ => Ok(()),
     }

@@ -58,7 +58,7 @@ pub(crate) fn unserved<D: Disk>(log: &RecordLog<D>) -> TurnErr
     TurnErr::NoMemory
 }
 
-// Fails where four bytes are too few to count the children or the changes of a record.
+// Fails where four bytes are too few to count the children or the changes of a record, and at an image, which has no bytes yet.
 fn counted(redo: &RedoRecord) -> Result<(), AppendErr>
     ensures few { OnOk result (HasFew redo.now) }
     ensures many { OnErr result (HasFew redo.now → ⊥) }
@@ -71,8 +71,8 @@ fn counted(redo: &RedoRecord) -> Result<(), AppendErr>
     }
 }
 
-// Appends this record, where there is one. Where there is none, or four bytes are too few to count its children or its changes, the
-// disk is not called.
+// Appends this record, where there is one. Where there is none, or four bytes are too few to count its children or its changes, or
+// it is an image, the disk is not called.
 #[tactic(auto, using(crate::proofs::WriteLaws::none_written, crate::proofs::WriteLaws::written_by, crate::proofs::TurnLaws::stand_still))]
 fn append<D: Disk>(log: &mut RecordLog<D>, wrote: &Option<RedoRecord>) -> Result<(), AppendErr>
     requires ready { IsReadyLog D.Disk log.old }

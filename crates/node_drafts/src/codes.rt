@@ -6,6 +6,9 @@ pub const NO_TABLE: u16 = 942;
 /// ORA-00955: a table or a synonym has this name already.
 pub const NAME_USED: u16 = 955;
 
+/// ORA-01453: a transaction has begun already.
+pub const IN_TRAN: u16 = 1453;
+
 /// ORA-02011: a link has this name already.
 pub const LINK_USED: u16 = 2011;
 
@@ -44,3 +47,9 @@ pub const SEVERAL_IN_DOUBT: u16 = 60007;
 
 /// DTX-08: the branch that a call came to is gone.
 pub const BRANCH_GONE: u16 = 60008;
+
+/// DTX-21: the transaction is READ ONLY.
+pub const IS_READ_ONLY: u16 = 60021;
+
+/// DTX-22: the transaction has no savepoint of this name.
+pub const NO_SAVEPOINT: u16 = 60022;

@@ -22,9 +22,9 @@ mod waiting;
 pub use answers::{commit_complete, ended, given_up_answer, no_answer, tran_refusal};
 pub use children::{edge_at, peer_of};
 pub use codes::{
-    BRANCH_GONE, LINK_USED, NAME_USED, NO_ANSWER, NO_NODE, NO_ROW, NO_TABLE, NOT_IN_DOUBT,
-    ONLY_ROLLBACK, SEVERAL_IN_DOUBT, TOO_MANY_LINKS, TRAN_COMMITTED, TRAN_IN_DOUBT,
-    TRAN_ROLLED_BACK, TREE_FULL,
+    BRANCH_GONE, IN_TRAN, IS_READ_ONLY, LINK_USED, NAME_USED, NO_ANSWER, NO_NODE, NO_ROW,
+    NO_SAVEPOINT, NO_TABLE, NOT_IN_DOUBT, ONLY_ROLLBACK, SEVERAL_IN_DOUBT, TOO_MANY_LINKS,
+    TRAN_COMMITTED, TRAN_IN_DOUBT, TRAN_ROLLED_BACK, TREE_FULL,
 };
 pub use commit::{passes, to_beyond};
 pub use draft::TurnDraft;
@@ -33,7 +33,7 @@ pub use kept::{on_ask_kept, on_commit_point_kept, on_prepare_kept};
 pub use posts::{post, to_each, to_one};
 pub use prepare::{abandon_says, drop_says, prepares, to_children};
 pub use records::{decided_record, sealed_record};
-pub use refusals::{needs_rollback, nothing_to_purge};
+pub use refusals::{is_read_only, needs_rollback, no_savepoint, nothing_to_purge};
 pub use replying::{
     gone_reply, heard_answer, is_gone, opened_says, replies, reply_fields, says_again,
 };

@@ -5,7 +5,10 @@ ghost use Rattle.tran_ids.specs.Texts.{local_text as local_text_of};
 ghost use Rattle.sql_check.specs.Refusals.{ora, dtx};
 ghost use Rattle.sql_check.specs.Words.{one};
 
-use crate::codes::{BRANCH_GONE, NO_ANSWER, NO_ROW, NOT_IN_DOUBT, ONLY_ROLLBACK, SEVERAL_IN_DOUBT};
+use crate::codes::{
+    BRANCH_GONE, IS_READ_ONLY, NO_ANSWER, NO_ROW, NO_SAVEPOINT, NOT_IN_DOUBT, ONLY_ROLLBACK,
+    SEVERAL_IN_DOUBT,
+};
 use dtx_values::{Bytes, Listing, Refusal};
 use std::alloc::{AllocError, Global};
 use tran_ids::{BranchId, local_text, put_decimal};
@@ -102,4 +105,21 @@ pub(crate) fn gone_behind(alloc: Global, link: &[u8]) -> Result<Refusal, AllocEr
     ensures { IfOk result (λ refusal. refusal ≡ dtx 8 (one link.now)) }
 {
     of_text(alloc, BRANCH_GONE, text_of(alloc, link)?)
+}
+
+/// DTX-21: the transaction is READ ONLY.
+pub fn is_read_only(alloc: Global) -> Refusal
+    ensures { result ≡ dtx 21 [] }
+{
+    Refusal {
+        code: IS_READ_ONLY,
+        args: Listing::new(alloc),
+    }
+}
+
+/// DTX-22: the transaction has no savepoint of this name.
+pub fn no_savepoint(alloc: Global, name: &[u8]) -> Result<Refusal, AllocError>
+    ensures { IfOk result (λ refusal. refusal ≡ dtx 22 (one name.now)) }
+{
+    of_text(alloc, NO_SAVEPOINT, text_of(alloc, name)?)
 }

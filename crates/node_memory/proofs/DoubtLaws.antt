@@ -1,9 +1,12 @@
 -- The branches in doubt as their records have them hold the same keys as those that are stored.
-use Rattle.std.proofs.Common.{◌≡◌, Bool, true, false, not, cond, List, [], ◌∷◌, ◌++◌, map, refl, sym, ap, ◌∙◌}
+use Rattle.std.proofs.Common.{◌≡◌, ℕ, zero, suc, ◌+◌, Bool, true, false, not, cond, if◌then◌else◌, List, [], ◌∷◌, map, refl, sym, ap, ◌∙◌}
 use Rattle.std.specs.Prelude.{filter, fold}
+use Rattle.std.specs.List.{insert, position_or_len}
 use Rattle.std.proofs.lemmas.List.Folds.{fold-map}
 use Rattle.tran_ids.specs.declared.branch.BranchId.{BranchId}
-use Rattle.tran_ids.specs.Branch.{same}
+use Rattle.tran_ids.specs.Branch.{same, branch_below, put_by_branch}
+use Rattle.tran_ids.proofs.BranchLemmas.{put_is_insert}
+use Rattle.row_store.proofs.OrderLemmas.{map_placed}
 use Rattle.tran_ids.specs.Listed.{drop_item}
 use Rattle.row_locks.specs.Locks.{Lock}
 use Rattle.row_store.specs.Store.{doubt_id}
@@ -25,9 +28,28 @@ module _ {A B : Type 0} (f : A → B) where
   map_filter q [] = refl
   map_filter q (x ∷ xs) = map_filter_if q x xs (q (f x)) refl (map_filter q xs)
 
-  map_push : (xs : List A) (x : A) → map f (xs ++ x ∷ []) ≡ map f xs ++ f x ∷ []
-  map_push [] x = refl
-  map_push (y ∷ ys) x = ap (λ zs. f y ∷ zs) (map_push ys x)
+  map_insert : (xs : List A) (i : ℕ) (x : A) → map f (insert xs i x) ≡ insert (map f xs) i (f x)
+  map_insert [] zero x = refl
+  map_insert [] (suc i) x = refl
+  map_insert (y ∷ ys) zero x = refl
+  map_insert (y ∷ ys) (suc i) x = ap (λ zs. f y ∷ zs) (map_insert ys i x)
+
+  place_if : (q : B → Bool) (x : A) (xs : List A) (here : Bool) → position_or_len (λ y. q (f y)) xs ≡ position_or_len q (map f xs)
+      → (if not here then 1 + position_or_len (λ y. q (f y)) xs else 0) ≡ (if not here then 1 + position_or_len q (map f xs) else 0)
+  place_if q x xs true rest = refl
+  place_if q x xs false rest = ap (λ n. 1 + n) rest
+
+  place_kept : (q : B → Bool) (xs : List A) → position_or_len (λ y. q (f y)) xs ≡ position_or_len q (map f xs)
+  place_kept q [] = refl
+  place_kept q (x ∷ xs) = place_if q x xs (q (f x)) (place_kept q xs)
+
+-- a record among others by references to them, in front of the first that it comes before
+pub entered : {A : Type 0} (now : A → Sealed) (doubts : List A) (x : A) (place : ℕ) → place ≡ position_or_len (λ y. branch_below (now x).me (now y).me) doubts
+    → map now (insert doubts place x) ≡ put_by_branch sealed_id (map now doubts) (now x)
+entered now doubts x place at =
+    map_insert now doubts place x
+    ∙ ap (λ n. insert (map now doubts) n (now x)) (at ∙ place_kept now (λ r. branch_below (now x).me r.me) doubts)
+    ∙ sym (put_is_insert sealed_id (map now doubts) (now x))
 
 -- a branch with its changes
 abbrev Held : Type 0
@@ -57,13 +79,15 @@ alike_after s doubts (records.Table t) alike = alike
 alike_after s doubts (records.Link l) alike = alike
 alike_after s doubts (records.Synonym y) alike = alike
 alike_after s doubts (records.Param p) alike = alike
-alike_after s doubts (records.Sealed r) alike = map_push by_record doubts r ∙ ap (λ hs. hs ++ by_record r ∷ []) alike ∙ sym (map_push by_doubt s.doubts (doubt_over s.rows r))
+alike_after s doubts (records.Sealed r) alike =
+    map_placed held_id by_record doubts r ∙ ap (λ hs. put_by_branch held_id hs (by_record r)) alike ∙ sym (map_placed held_id by_doubt s.doubts (doubt_over s.rows r))
 alike_after s doubts (records.Decided r) alike = alike
 alike_after s doubts (records.Ended b d) alike = left_alike doubts s.doubts b alike
 alike_after s doubts (records.Forced b d given) alike = left_alike doubts s.doubts b alike
 alike_after s doubts (records.Met b d mixed) alike = alike
 alike_after s doubts (records.Forgot b) alike = alike
 alike_after s doubts (records.Hidden b) alike = alike
+alike_after s doubts (records.Image i) alike = alike
 
 alike_by : (s : Stored) (doubts : List Sealed) (rs : List RedoRecord) → map by_record doubts ≡ map by_doubt s.doubts → map by_record (fold in_doubt_after doubts rs) ≡ map by_doubt (stored_by s rs).doubts
 unfolding stored_by

@@ -1,3 +1,4 @@
+mod VersionLaws
 mod PartLaws
 mod SealLaws
 mod ReplayLaws

@@ -3,8 +3,11 @@ use Rattle.std.proofs.Common.{◌≡◌, ℕ, zero, suc, ◌+◌, ◌<◌, List,
 use Rattle.std.proofs.lemmas.List.{take_more}
 use Rattle.node_rules.specs.Data.{RedoRecord}
 use Rattle.node_rules.specs.NodeState.{Stored}
-use Rattle.node_rules.specs.Records.{applied, stored_by}
+use Rattle.read_only_tx.specs.Versions.{Versions}
+use Rattle.node_rules.specs.Records.{applied, stored_by, versions_read, versions_in}
 use Rattle.node_ready_laws.specs.Following.{MayFollow, MayAllFollow}
+use Rattle.node_rules.specs.Data.records
+use Rattle.node_memory.specs.Versions.{versions_read_over}
 use Rattle.node_memory.specs.Room.{HasRoomFor, at_start, AllHaveRoom}
 
 pub stored_none : (s : Stored) → stored_by s [] ≡ s
@@ -18,6 +21,27 @@ stored_push s (x ∷ rs) r = stored_push (applied s x) rs r
 
 pub stored_more : (s : Stored) (rs : List RedoRecord) (i : ℕ) (r : RedoRecord) → i < length rs → slice_index_or rs i r ≡ r → stored_by s (take (i + 1) rs) ≡ applied (stored_by s (take i rs)) r
 stored_more s rs i r low is = ap (stored_by s) (take_more rs i r low ∙ ap (λ (x : RedoRecord). take i rs ++ x ∷ []) is) ∙ stored_push s (take i rs) r
+
+-- ---- the commits that are kept
+
+-- the rules' step is the one over the rows and the branches in doubt
+pub versions_read_is : (s : Stored) (vs : Versions) (r : RedoRecord) → versions_read_over s.rows s.doubts vs r ≡ versions_read s vs r
+versions_read_is s vs (records.Image i) = refl
+versions_read_is s vs _ = refl
+
+pub versions_none : (s : Stored) (vs : Versions) → versions_in s vs [] ≡ vs
+versions_none s vs = refl
+
+versions_push : (s : Stored) (vs : Versions) (rs : List RedoRecord) (r : RedoRecord) → versions_in s vs (rs ++ r ∷ []) ≡ versions_read (stored_by s rs) (versions_in s vs rs) r
+unfolding stored_by
+versions_push s vs [] r = refl
+versions_push s vs (x ∷ rs) r = versions_push (applied s x) (versions_read s vs x) rs r
+
+pub versions_more : (s : Stored) (vs : Versions) (rs : List RedoRecord) (i : ℕ) (r : RedoRecord) → i < length rs → slice_index_or rs i r ≡ r
+    → versions_in s vs (take (i + 1) rs) ≡ versions_read (stored_by s (take i rs)) (versions_in s vs (take i rs)) r
+versions_more s vs rs i r low is = ap (versions_in s vs) (take_more rs i r low ∙ ap (λ (x : RedoRecord). take i rs ++ x ∷ []) is) ∙ versions_push s vs (take i rs) r
+
+-- ---- each record may follow
 
 first_follows : (s : Stored) (rs : List RedoRecord) (i : ℕ) (r : RedoRecord) → i < length rs → slice_index_or rs i r ≡ r → MayAllFollow s (drop i rs) → MayFollow s r × MayAllFollow (applied s r) (drop (suc i) rs)
 unfolding MayAllFollow
@@ -51,4 +75,4 @@ room_then undo s rs i r low is room =
     let next : suc i ≡ i + 1 = omega arith in
     subst (λ (n : ℕ). AllHaveRoom undo (applied s r) (drop n rs)) next (first_has_room undo s rs i r low is room).1
 
-pub ruleset replays = (stored_none, stored_more, follows_now, follow_then, room_then)
+pub ruleset replays = (stored_none, versions_none)

@@ -1,11 +1,11 @@
 -- What a node keeps after the record by which a live branch leaves.
-use Rattle.std.proofs.Common.{◌≡◌, ℕ, Bool, true, false, not, cond, max, List, [], ◌∷◌, ◌++◌, refl, sym, ap, ◌∙◌}
+use Rattle.std.proofs.Common.{◌≡◌, ℕ, Bool, true, false, not, cond, max, List, [], ◌∷◌, refl, sym, ap, ◌∙◌}
 use Rattle.std.specs.Prelude.{filter}
 use Rattle.tran_ids.specs.declared.branch.BranchId.{BranchId}
-use Rattle.tran_ids.specs.Branch.{same}
+use Rattle.tran_ids.specs.Branch.{same, put_by_branch}
 use Rattle.tran_ids.specs.Listed.{drop_item}
 use Rattle.row_locks.specs.Locks.{Lock, is_held_by, without}
-use Rattle.row_store.specs.Store.{Contents, own_id, doubt_from, sealed, committed}
+use Rattle.row_store.specs.Store.{Contents, own_id, doubt_id, doubt_from, sealed, committed}
 use Rattle.row_store.specs.Tables.{apply_all}
 use Rattle.redo_record.specs.Durable.{durable_after, with_kept}
 use Rattle.redo_record.specs.Kept.{kept_after}
@@ -13,7 +13,8 @@ use Rattle.node_rules.specs.Data.{Sealed, Decided, KeptRow, Owned}
 use Rattle.node_rules.specs.Data.records
 use Rattle.node_rules.specs.NodeState.{NodeState, without_branch}
 use Rattle.node_rules.specs.Prepare.{own_changes}
-use Rattle.node_rules.specs.Records.{applied, with_doubt, with_record}
+use Rattle.read_only_tx.specs.Versions.{Versions, with_commit}
+use Rattle.node_rules.specs.Records.{applied, with_doubt, with_record, raised_to, top_by, commit_of, versions_by}
 use Rattle.node_memory.proofs.PartLaws.{contents_in}
 
 module _ {A : Type 0} (p : A → Bool) where
@@ -36,7 +37,7 @@ owns_dropped_twice os b = filter_twice (λ o. not (same (own_id o) b)) os
 
 -- the parts of memory before the branch is dropped
 abbrev pub with_parts : NodeState → Contents → List KeptRow → ℕ → NodeState
-with_parts k s ks scn = record k { stored = record k.stored { durable = with_kept k.stored.durable ks; rows = s.rows; doubts = s.doubts; scn = scn }; owns = s.owns }
+with_parts k s ks scn = record k { stored = record k.stored { durable = with_kept k.stored.durable ks; rows = s.rows; doubts = s.doubts; scn = scn; top = k.stored.top; generation = k.stored.generation }; owns = s.owns }
 
 -- when a branch has become sealed, by the steps of the code
 abbrev pub after_seal : NodeState → BranchId → Sealed → Contents → List KeptRow → ℕ → NodeState
@@ -54,8 +55,8 @@ seal_is k b r extents is own =
     let doubt = ap (λ m. doubt_from k.stored.rows m r.changes) is ∙ ap (doubt_from k.stored.rows b) own in
     let keys = ap (λ m. with_doubt (without (without k.locks b) m) m r.changes) is ∙ ap (λ ls. with_doubt ls b r.changes) (without_twice k.locks b) in
     ap (with_owns (after_seal k b r (sealed (contents_in k extents) b) (kept_after k.stored.durable.kept (records.Sealed r)) (max k.stored.scn r.scn))) (owns_dropped_twice k.owns b)
-    ∙ sym (ap (λ d. record done { stored = record done.stored { doubts = k.stored.doubts ++ d ∷ [] } }) doubt
-    ∙ ap (λ ls. record done { stored = record done.stored { doubts = k.stored.doubts ++ doubt_from k.stored.rows b (own_changes k b) ∷ [] }; locks = ls }) keys)
+    ∙ sym (ap (λ d. record done { stored = record done.stored { doubts = put_by_branch doubt_id k.stored.doubts d } }) doubt
+    ∙ ap (λ ls. record done { stored = record done.stored { doubts = put_by_branch doubt_id k.stored.doubts (doubt_from k.stored.rows b (own_changes k b)) }; locks = ls }) keys)
 
 -- a branch that becomes sealed
 pub sealed_taken : (k m : NodeState) (b : BranchId) (r : Sealed) (s : Contents) (extents : ℕ) (ks : List KeptRow) (scn : ℕ) (locks : List Lock) → r.me ≡ b → r.changes ≡ own_changes k b
@@ -69,21 +70,34 @@ sealed_taken k m b r s extents ks scn locks me own kept store number is now =
     ∙ ap (after_seal k b r (sealed (contents_in k extents) b) (kept_after k.stored.durable.kept (records.Sealed r))) number
     ∙ seal_is k b r extents me own
 
+-- when a branch has decided, by the steps of the code
+abbrev pub after_decision : NodeState → BranchId → Contents → List KeptRow → ℕ → ℕ → Versions → NodeState
+after_decision k b s ks scn top vs = record (without_branch (with_parts k s ks scn) b) { stored = record (with_parts k s ks scn).stored { top = top }; versions = vs }
+
 decision_is : (k : NodeState) (b : BranchId) (r : Decided) (extents : ℕ) → r.changes ≡ own_changes k b
-    → without_branch (with_parts k (committed (contents_in k extents) b) (kept_after k.stored.durable.kept (records.Decided r)) (max k.stored.scn r.scn)) b ≡ with_record (without_branch k b) (records.Decided r)
+    → after_decision k b (committed (contents_in k extents) b) (kept_after k.stored.durable.kept (records.Decided r)) (max k.stored.scn r.scn) (raised_to k.stored.top r.scn r.changes)
+    (with_commit k.stored.rows k.versions r.scn r.changes) ≡ with_record (without_branch k b) (records.Decided r)
 unfolding applied durable_after
 decision_is k b r extents own =
     let done = with_record (without_branch k b) (records.Decided r) in
-    ap (with_owns (without_branch (with_parts k (committed (contents_in k extents) b) (kept_after k.stored.durable.kept (records.Decided r)) (max k.stored.scn r.scn)) b)) (owns_dropped_twice k.owns b)
+    ap
+    (with_owns
+    (after_decision k b (committed (contents_in k extents) b) (kept_after k.stored.durable.kept (records.Decided r)) (max k.stored.scn r.scn) (raised_to k.stored.top r.scn r.changes)
+    (with_commit k.stored.rows k.versions r.scn r.changes))) (owns_dropped_twice k.owns b)
     ∙ sym (ap (λ cs. record done { stored = record done.stored { rows = apply_all k.stored.rows cs } }) own)
 
 -- a branch that decides
-pub decision_taken : (k m : NodeState) (b : BranchId) (r : Decided) (s : Contents) (extents : ℕ) (ks : List KeptRow) (scn : ℕ) → r.changes ≡ own_changes k b
+pub decision_taken : (k m : NodeState) (b : BranchId) (r : Decided) (s : Contents) (extents : ℕ) (ks : List KeptRow) (scn top : ℕ) (vs : Versions) → r.changes ≡ own_changes k b
     → ks ≡ kept_after k.stored.durable.kept (records.Decided r) → s ≡ committed (contents_in k extents) b → scn ≡ max k.stored.scn r.scn
-    → m ≡ without_branch (with_parts k s ks scn) b → m ≡ with_record (without_branch k b) (records.Decided r)
-decision_taken k m b r s extents ks scn own kept store number is =
+    → top ≡ top_by k.stored.top (commit_of k.stored.doubts (records.Decided r)) → vs ≡ versions_by k.stored.rows k.versions (commit_of k.stored.doubts (records.Decided r))
+    → m ≡ after_decision k b s ks scn top vs → m ≡ with_record (without_branch k b) (records.Decided r)
+decision_taken k m b r s extents ks scn top vs own kept store number highest newest is =
+    let done = committed (contents_in k extents) b in
+    let rows = kept_after k.stored.durable.kept (records.Decided r) in
     is
-    ∙ ap (λ t. without_branch (with_parts k t ks scn) b) store
-    ∙ ap (λ x. without_branch (with_parts k (committed (contents_in k extents) b) x scn) b) kept
-    ∙ ap (λ n. without_branch (with_parts k (committed (contents_in k extents) b) (kept_after k.stored.durable.kept (records.Decided r)) n) b) number
+    ∙ ap (λ t. after_decision k b t ks scn top vs) store
+    ∙ ap (λ x. after_decision k b done x scn top vs) kept
+    ∙ ap (λ n. after_decision k b done rows n top vs) number
+    ∙ ap (λ n. after_decision k b done rows (max k.stored.scn r.scn) n vs) highest
+    ∙ ap (after_decision k b done rows (max k.stored.scn r.scn) (raised_to k.stored.top r.scn r.changes)) newest
     ∙ decision_is k b r extents own

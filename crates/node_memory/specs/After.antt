@@ -6,6 +6,7 @@ use Rattle.node_rules.specs.Data.{RedoRecord}
 use Rattle.node_rules.specs.Data.records
 use Rattle.redo_record.specs.declared.record.Param.{Param}
 use Rattle.redo_record.specs.declared.record.Param.TheVariants as params
+use Rattle.read_only_tx.specs.Versions.{Versions}
 use Rattle.node_rules.specs.NodeState.{Stored, NodeState}
 use Rattle.node_rules.specs.Records.{rows_after, doubts_after}
 
@@ -41,6 +42,6 @@ catalog_after c _ = c
 abbrev pub store_after : Contents → RedoRecord → Contents
 store_after s r = record s { rows = rows_after s.rows s.doubts r; doubts = doubts_after s.rows s.doubts r }
 
--- what a node keeps with something else stored
-abbrev pub with_stored : NodeState → Stored → NodeState
-with_stored k s = record k { stored = s }
+-- what a node keeps with something else stored, and these commits
+abbrev pub with_stored : NodeState → Stored → Versions → NodeState
+with_stored k s vs = record k { stored = s; versions = vs }

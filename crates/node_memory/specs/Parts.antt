@@ -2,6 +2,7 @@
 use Rattle.std.specs.Prelude.{◌≡◌}
 use Rattle.node_rules.specs.NodeState.{Stored, NodeState}
 use Rattle.node_memory.specs.declared.memory.Memory.{Memory}
+use Rattle.node_memory.specs.Versions.{versions_as}
 
 -- what its records give
 abbrev pub stored_in : Memory → Stored
@@ -18,6 +19,8 @@ stored_in m = record {
   rows = m.store.rows;
   doubts = m.store.doubts;
   scn = m.scn;
+  top = m.top;
+  generation = m.generation;
 }
 
 -- and what a stop loses
@@ -29,6 +32,7 @@ kept_in m = record {
   works = m.works;
   locks = m.locks;
   clock = m.clock;
+  versions = versions_as m.versions;
   opens = m.opens;
   sessions = m.sessions;
 }

@@ -6,6 +6,8 @@ ghost use Rattle.node_memory.specs.Parts.{kept_in};
 ghost use Rattle.node_memory.specs.Leaving.{IsOwnDecision};
 
 use crate::Memory;
+use crate::parts::change_top;
+use crate::versions::version_of;
 use redo_record::RedoRecord;
 use std::alloc::{AllocError, Global};
 use tran_ids::BranchId;
@@ -27,9 +29,13 @@ impl Memory {
         let RedoRecord::Decided(decided) = redo else {
             unreachable!();
         };
+        let version = version_of(alloc, &self.store, redo)?;
+        self.versions.reserve()?;
         self.kept.apply(alloc, redo)?;
+        change_top(&mut self.top, &self.store, redo);
         self.store.commit(branch);
         self.scn.meet(decided.scn);
+        self.versions.keep(version);
         self.drop_branch(branch);
         Ok(())
     }

@@ -1,5 +1,7 @@
 //! The branches in doubt, as their records have them.
-ghost use Rattle.std.specs.Prelude.{◌≡◌, OnOk, IfOk, map, fold};
+ghost use Rattle.std.specs.Prelude.{◌≡◌, ◌≤◌, OnOk, IfOk, map, fold, length};
+ghost use Rattle.std.specs.List.{position_or_len};
+ghost use Rattle.tran_ids.specs.Branch.{branch_below, put_by_branch};
 ghost use Rattle.tran_ids.specs.Listed.{drop_item};
 ghost use Rattle.node_memory.specs.Doubts.{sealed_id, in_doubt_after, in_doubt_by, with_keys_of};
 
@@ -24,14 +26,33 @@ fn note<'a>(doubts: &mut Vec<&'a Sealed>, item: &'a RedoRecord) -> Result<(), Al
     ensures { OnOk result (map (λ r. r.now) doubts.new.items ≡ in_doubt_after (map (λ r. r.now) doubts.old.items) item.now) }
 {
     match item {
-        RedoRecord::Sealed(sealed) => {
-            doubts.push(sealed)?;
-        }
+        RedoRecord::Sealed(sealed) => enter(doubts, sealed)?,
         RedoRecord::Ended { me, .. } => leave(doubts, me),
         RedoRecord::Forced { me, .. } => leave(doubts, me),
         _ => {}
     }
     Ok(())
+}
+
+// It stands in front of the first that it comes before.
+fn enter<'a>(doubts: &mut Vec<&'a Sealed>, sealed: &'a Sealed) -> Result<(), AllocError>
+    ensures { OnOk result (map (λ r. r.now) doubts.new.items ≡ put_by_branch sealed_id (map (λ r. r.now) doubts.old.items) sealed.now) }
+{
+    let place = place_among(doubts.as_slice(), &sealed.me);
+    doubts.insert(place, sealed)?;
+    Ok(())
+}
+
+fn place_among(doubts: &[&Sealed], branch: &BranchId) -> usize
+    ensures first { result ≡ position_or_len (λ r. branch_below branch.now r.now.me) doubts.now }
+    ensures within { result ≤ length doubts.now }
+{
+    for (place, other) in doubts.iter().enumerate() {
+        if branch.is_before(&other.me) {
+            return place;
+        }
+    }
+    doubts.len()
 }
 
 fn leave(doubts: &mut Vec<&Sealed>, branch: &BranchId)

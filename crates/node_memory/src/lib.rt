@@ -21,6 +21,8 @@ mod parts;
 mod records;
 mod sealing;
 mod start;
+mod versions;
 
 pub use branches::{BranchStatus, LiveBranch};
 pub use memory::Memory;
+pub use versions::Versions;

@@ -1,6 +1,7 @@
 //! All that a node keeps from turn to turn.
 ghost use Rattle.std.specs.Prelude.{◌≡◌};
 
+use crate::versions::Versions;
 use catalog::Catalog;
 use link_session::Opens;
 use node_state::{Lives, Sessions, Works};
@@ -25,6 +26,10 @@ pub struct Memory {
     pub store: Store,
     /// The greatest SCN of the records, except those that users gave.
     pub scn: Clock,
+    /// The greatest SCN of a commit that changed rows.
+    pub top: Clock,
+    /// The number of the newest image, and 0 before any.
+    pub generation: u64,
     /// The live branches.
     pub lives: Lives,
     /// The calls of the live branches.
@@ -33,6 +38,8 @@ pub struct Memory {
     pub locks: Locks,
     /// The node's clock.
     pub clock: Clock,
+    /// The newest commits, behind which READ ONLY transactions can look.
+    pub versions: Versions,
     /// The Opens that were answered since the start.
     pub opens: Opens,
     /// The client sessions.
@@ -51,10 +58,13 @@ impl Drop for Memory {
             kept,
             store,
             scn: _scn,
+            top: _top,
+            generation: _generation,
             lives,
             works,
             locks,
             clock: _clock,
+            versions,
             opens,
             sessions,
         } = self;
@@ -65,6 +75,7 @@ impl Drop for Memory {
         drop(lives);
         drop(works);
         drop(locks);
+        drop(versions);
         drop(opens);
         drop(sessions);
     }

@@ -1,18 +1,21 @@
 //! What one more record makes of each part of memory.
 ghost use Rattle.std.specs.Prelude.{◌≡◌, OnOk, OnErr, false, fold};
 ghost use Rattle.catalog.specs.Catalog.{is_used, is_link_used, with_table, with_link, with_synonym};
-ghost use Rattle.node_rules.specs.Records.{raised_by, forced_scn, scn_after, take_changed, with_doubt, locks_after};
+ghost use Rattle.node_rules.specs.Records.{raised_by, forced_scn, scn_after, commit_of, raised_to, top_by, versions_by, generation_after, take_changed, with_doubt, locks_after};
 ghost use Rattle.redo_record.specs.declared.record.RedoRecord.TheVariants as records;
 ghost use Rattle.node_memory.specs.After.{boot_after, strength_set, strength_after, catalog_set, catalog_after, store_after};
 ghost use Rattle.node_memory.specs.Room.{HasRoomFor};
+ghost use Rattle.node_memory.specs.Versions.{versions_as, versions_read_over};
 ghost use Rattle.node_ready_laws.specs.Following.{MayBeListed, MayBeStored};
 
+use crate::versions::{Versions, commit_in, version_of};
 use catalog::{CatErr, Catalog};
 use dtx_values::{Change, Duplicate, Link, Synonym, Table};
 use redo_record::{Decision, Param, RedoRecord};
 use row_locks::Locks;
 use row_store::Store;
 use std::alloc::{AllocError, Global};
+use std::mem;
 use tran_ids::{BranchId, Clock};
 
 /// The number of the start.
@@ -167,6 +170,7 @@ pub(crate) fn change_scn(scn: &mut Clock, redo: &RedoRecord)
             ..
         } => raise_forced(scn, *decision, *given),
         RedoRecord::Met { decision, .. } => raise_by(scn, *decision),
+        RedoRecord::Image(image) => scn.meet(image.clock),
         _ => {}
     }
 }
@@ -185,6 +189,76 @@ fn raise_forced(scn: &mut Clock, decision: Decision, given: bool)
 {
     if !given {
         raise_by(scn, decision);
+    }
+}
+
+/// The greatest SCN of a commit that changed rows, where these are the rows before the record.
+pub(crate) fn change_top(top: &mut Clock, store: &Store, redo: &RedoRecord)
+    ensures { top.new ≡ top_by top.old (commit_of store.now.doubts redo.now) }
+{
+    if let Some(commit) = commit_in(store, redo) {
+        raise_top(top, commit.scn, commit.changes);
+    }
+}
+
+#[tactic(auto, using(crate::proofs::VersionLaws::none_raised, crate::proofs::VersionLaws::some_raised))]
+fn raise_top(top: &mut Clock, scn: u64, changes: &[Change])
+    ensures { top.new ≡ raised_to top.old scn changes.now }
+{
+    if !changes.is_empty() {
+        top.meet(scn);
+    }
+}
+
+/// The number of the newest image.
+pub(crate) fn change_generation(generation: &mut u64, redo: &RedoRecord)
+    ensures { generation.new ≡ generation_after generation.old redo.now }
+{
+    if let RedoRecord::Image(image) = redo {
+        *generation = image.generation;
+    }
+}
+
+/// The commits that are kept, where these are the rows before the record. Fails where memory runs out.
+#[tactic(auto, using(crate::proofs::VersionLaws::versions_so))]
+pub(crate) fn add_version(
+    versions: &mut Versions,
+    alloc: Global,
+    store: &Store,
+    redo: &RedoRecord,
+) -> Result<(), AllocError>
+    ensures { OnOk result (versions_as versions.new ≡ versions_by store.now.rows (versions_as versions.old) (commit_of store.now.doubts redo.now)) }
+{
+    let version = version_of(alloc, store, redo)?;
+    match versions.reserve() {
+        Err(error) => {
+            drop(version);
+            Err(error)
+        }
+        Ok(()) => {
+            versions.keep(version);
+            Ok(())
+        }
+    }
+}
+
+/// The same in a start: of the commits before an image only the greatest SCN is known.
+#[tactic(auto, using(crate::proofs::VersionLaws::versions_read_so))]
+pub(crate) fn read_version(
+    versions: &mut Versions,
+    alloc: Global,
+    store: &Store,
+    redo: &RedoRecord,
+) -> Result<(), AllocError>
+    ensures { OnOk result (versions_as versions.new ≡ versions_read_over store.now.rows store.now.doubts (versions_as versions.old) redo.now) }
+{
+    match redo {
+        RedoRecord::Image(image) => {
+            let from = Versions::from(alloc, image.top);
+            drop(mem::replace(versions, from));
+            Ok(())
+        }
+        _ => add_version(versions, alloc, store, redo),
     }
 }
 

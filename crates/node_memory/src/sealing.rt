@@ -14,7 +14,8 @@ use tran_ids::BranchId;
 
 impl Memory {
     /// A live branch becomes sealed: its record has what it changed, which is held back from now on, and the keys of that are
-    /// in doubt. The undo that it has is that of its changes over the committed rows, and stays where it is. Fails where memory runs out, and the node may not be used then: some parts have the record, and some have not.
+    /// in doubt. The undo that it has is that of its changes over the committed rows, and stays where it is. Fails where memory
+    /// runs out, and the node may not be used then: some parts have the record, and some have not.
     pub fn seal(
         &mut self,
         alloc: Global,

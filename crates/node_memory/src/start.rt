@@ -1,6 +1,8 @@
 //! What a node keeps after a start.
 ghost use Rattle.std.specs.Prelude.{◌≡◌, ◌≤◌, [], OnOk, IfOk};
-ghost use Rattle.node_rules.specs.Records.{nothing_stored, stored_by};
+ghost use Rattle.read_only_tx.specs.Versions.{versions_from};
+ghost use Rattle.node_rules.specs.Records.{nothing_stored, stored_by, versions_in};
+ghost use Rattle.node_memory.specs.Versions.{versions_as};
 ghost use Rattle.node_rules.specs.Turn.{kept_by, start_of};
 ghost use Rattle.node_memory.specs.Parts.{stored_in, kept_in};
 ghost use Rattle.node_memory.specs.After.{with_stored};
@@ -9,6 +11,8 @@ ghost use Rattle.node_ready_laws.specs.Following.{MayAllFollow};
 
 use crate::Memory;
 use crate::doubts::{hold_all, in_doubt};
+use crate::parts::read_version;
+use crate::versions::Versions;
 use catalog::Catalog;
 use link_session::Opens;
 use node_state::{Lives, Sessions, Works};
@@ -22,7 +26,7 @@ impl Memory {
     /// A node of this place before any record. Fails where memory runs out.
     pub(crate) fn new(alloc: Global, place: Place) -> Result<Memory, AllocError>
         requires { place.undo ≤ 1024 }
-        ensures kept { IfOk result (λ memory. kept_in memory ≡ kept_by nothing_stored) }
+        ensures kept { IfOk result (λ memory. kept_in memory ≡ kept_by nothing_stored (versions_from 0)) }
         ensures place { IfOk result (λ memory. memory.place ≡ place) }
     {
         let sessions = Sessions::new(alloc)?;
@@ -35,10 +39,13 @@ impl Memory {
             catalog: Catalog::new(alloc),
             kept: KeptRows::new(alloc),
             scn: Clock::new(),
+            top: Clock::new(),
+            generation: 0,
             lives: Lives::new(alloc),
             works: Works::new(alloc),
             locks: Locks::new(alloc),
             clock: Clock::new(),
+            versions: Versions::from(alloc, 0),
             opens: Opens::new(alloc),
             sessions,
         })
@@ -69,7 +76,7 @@ impl Memory {
 
     // A node that has no record yet starts with these.
     fn start(&mut self, alloc: Global, records: &[RedoRecord]) -> Result<(), AllocError>
-        requires none { kept_in self.old ≡ kept_by nothing_stored }
+        requires none { kept_in self.old ≡ kept_by nothing_stored (versions_from 0) }
         requires follow { MayAllFollow nothing_stored records.now }
         requires room { AllHaveRoom self.old.place.undo nothing_stored records.now }
         ensures kept { OnOk result (kept_in self.new ≡ start_of records.now) }
@@ -89,10 +96,11 @@ impl Memory {
         requires idle { self.old.store.owns ≡ [] }
         requires follow { MayAllFollow (stored_in self.old) records.now }
         requires room { AllHaveRoom self.old.place.undo (stored_in self.old) records.now }
-        ensures kept { OnOk result (kept_in self.new ≡ with_stored (kept_in self.old) (stored_by (stored_in self.old) records.now)) }
+        ensures kept { OnOk result (kept_in self.new ≡ with_stored (kept_in self.old) (stored_by (stored_in self.old) records.now) (versions_in (stored_in self.old) (versions_as self.old.versions) records.now)) }
         ensures place { self.new.place ≡ self.old.place }
     {
         for item in records {
+            read_version(&mut self.versions, alloc, &self.store, item)?;
             self.apply(alloc, item)?;
         }
         Ok(())

@@ -1,6 +1,6 @@
 -- A turn passes places of the branch that its input is about alone: each step writes the records of that branch, and says Ready
 -- for no other.
-use Rattle.std.proofs.Common.{◌≡◌, ℕ, ◌+◌, ◌-◌, Bool, if◌then◌else◌, List, [], ◌∷◌, ◌++◌, length, map, flat_map, fold, Option, Some, None, refl, sym, ap, subst, ◌∙◌}
+use Rattle.std.proofs.Common.{◌≡◌, ℕ, ◌+◌, Bool, if◌then◌else◌, List, [], ◌∷◌, ◌++◌, length, map, flat_map, fold, Option, Some, None, sym, ap, subst, ◌∙◌}
 use Rattle.std.specs.Prelude.{IfSome}
 use Rattle.std.specs.List.{AllByRecursion}
 use Rattle.std.proofs.lemmas.Bool.{cond_both}
@@ -22,6 +22,9 @@ use Rattle.node_rules.specs.Data.records
 use Rattle.node_rules.specs.Data.kinds
 use Rattle.node_rules.specs.Data.inputs
 use Rattle.node_rules.specs.Data.stmts
+use Rattle.node_rules.specs.Data.dones
+use Rattle.node_rules.specs.declared.work.Errand.{Errand}
+use Rattle.node_rules.specs.declared.work.Errand.TheVariants as errands
 use Rattle.node_rules.specs.Data.acts
 use Rattle.node_rules.specs.declared.session.PendingCall.TheVariants as pending
 use Rattle.node_rules.specs.declared.session.Session.{Session}
@@ -30,14 +33,14 @@ use Rattle.node_rules.specs.NodeState.{NodeState, TurnDraft, Branch, to_each, to
 use Rattle.node_rules.specs.Points.{is_ready}
 use Rattle.node_rules.specs.Sessions.{session_at, with_call}
 use Rattle.node_rules.specs.Names.{passed_on}
-use Rattle.node_rules.specs.Statement.{ran, answer_of_run, after_run}
-use Rattle.node_rules.specs.Calls.{answer_says, exec_to, with_edge, hears_reply, heard_answer}
+use Rattle.node_rules.specs.Statement.{ran, answer_of_run}
+use Rattle.node_rules.specs.Calls.{answer_says, branch_ran, exec_to, less_room, with_edge, hears_reply, heard_answer}
 use Rattle.node_rules.specs.Prepare.{prepares, to_children}
 use Rattle.node_rules.specs.Commit.{passes_commit, rollback_to, passes}
 use Rattle.node_rules.specs.Recovery.{askings}
 use Rattle.node_rules.specs.Turn.{heard, draft_of, turn_of}
 use Rattle.node_rules.proofs.Steps as steps
-use Rattle.node_rules.proofs.Steps.{Step, Says, Acting, Collects, Doing, Makes, IsOfRows, HasRoot}
+use Rattle.node_rules.proofs.Steps.{Step, Says, Acting, Collects, Doing, Makes, BeginsBy, IsOfRows, IsCounted, HasRoot}
 use Rattle.node_rules.proofs.StandLemmas.{call_set}
 use Rattle.node_rules.proofs.TurnLemmas.{step_of}
 use Rattle.node_points.specs.Passing.{ready_sender, branch_of, turns, concerned, TurnsAreOfTheirBranch}
@@ -144,20 +147,20 @@ module _ (o : Option BranchId) where
   answer_so x a None = tt
   answer_so x a (Some parent) = (tt, tt)
 
-  exec_so : (ss : List Session) (x : Branch) (i : ℕ) (s : Stmt) (given : ℕ) (peer : Option BranchId) → AllSaidFor o (exec_to ss x i s given peer)
-  exec_so ss x i s given None = tt
-  exec_so ss x i s given (Some peer) = (tt, tt)
+  exec_so : (ss : List Session) (x : Branch) (i : ℕ) (e : Errand) (peer : Option BranchId) → AllSaidFor o (exec_to ss x i e peer)
+  exec_so ss x i e None = tt
+  exec_so ss x i e (Some peer) = (tt, tt)
 
   -- ---- messages of a turn that changes nothing
 
   says_so : (k : NodeState) (input : Input) (says : List Post) → Says k input says → AllSaidFor o says
-  says_so k input says (steps.Gone_replies to from call given advice s came gone) = (tt, tt)
+  says_so k input says (steps.Gone_replies to from call task came gone) = (tt, tt)
   says_so k input says (steps.Gone_aborts to from site_below comment came gone) = (tt, tt)
   says_so k input says (steps.Gone_rolls_back to from came gone) = (tt, tt)
   says_so k input says (steps.Gone_acks to from n came gone) = (tt, tt)
   says_so k input says (steps.Gone_forgets to from came gone) = (tt, tt)
-  says_so k input says (steps.Replies_again x to call given advice s t came live last answered) = (tt, tt)
-  says_so k input says (steps.Opened_again to parent edge root depth opening came found) = (tt, tt)
+  says_so k input says (steps.Replies_again x to call task t came live last answered) = (tt, tt)
+  says_so k input says (steps.Opened_again to parent edge root depth read_at opening came found) = (tt, tt)
   says_so k input says (steps.Prepared_again s from site_below comment came kept asked) = (tt, tt)
   says_so k input says (steps.Knows_commit s from n came kept is) = (tt, tt)
   says_so k input says (steps.Knows_rollback s from came kept is) = (tt, tt)
@@ -177,7 +180,7 @@ module _ (o : Option BranchId) where
 
   module _ (input : Input) (to_it : ToIt input) where
     collects_of : {k : NodeState} {l : Live} {comment : List ℕ} {site_below : Bool} → CommitOfIt k input → Collects k input l comment site_below → o ≡ Some l.me
-    collects_of {l = l} commit (steps.By_commit n given call has code is) = commit n given l.me call has
+    collects_of {l = l} commit (steps.By_commit n given call has code writer is) = commit n given l.me call has
     collects_of commit (steps.By_prepare from site_below came working) = to_it _ _ _ came
 
     acting_of : {k : NodeState} {l : Live} {site_below : Bool} {a : Act} → CommitOfIt k input → Acting k input l site_below a → o ≡ Some l.me
@@ -209,10 +212,17 @@ module _ (o : Option BranchId) where
     made_of (steps.Makes_link l free) = tt
     made_of (steps.Makes_synonym y free) = tt
     made_of (steps.Sets_recovery on) = tt
+    made_of (steps.Sets_strength strength) = tt
 
-    -- a statement of rows is no COMMIT
-    no_commit : (s : Stmt) (given : Option (List ℕ)) → IsOfRows s → s ≡ stmts.Commit given → ⊥
-    no_commit s given rows is = subst IsOfRows is rows
+    -- a statement that begins a transaction is no COMMIT
+    no_commit : {clock : ℕ} {s : Stmt} {read_at : Option ℕ} (given : Option (List ℕ)) → BeginsBy clock s read_at → s ≡ stmts.Commit given → ⊥
+    no_commit given (steps.By_rows s rows) is = subst IsOfRows is rows
+    no_commit given (steps.By_savepoint name) is = absurd cc
+    no_commit given steps.By_read_only is = absurd cc
+
+    -- nor is one that counts
+    none_counted : (s : Stmt) (given : Option (List ℕ)) → IsCounted s → s ≡ stmts.Commit given → ⊥
+    none_counted s given counts is = subst IsCounted is counts
 
     -- a session that has this root has it while its COMMIT is pending
     still_root : (k : NodeState) (n m : ℕ) (b c : BranchId) → HasRoot k n b → n ≡ m → (session_at (with_call k.sessions n pending.Commit) m).root ≡ Some c → b ≡ c
@@ -225,9 +235,12 @@ module _ (o : Option BranchId) where
     -- ---- steps
 
     done_on : (p : Place) {k : NodeState} {d : TurnDraft} → CommitOfIt k input → Step p input k d → DoneFor o d
-    done_on p commit (steps.Begins n s call rows fit none step) =
-        done_on p (λ m given b other has. absurd (no_commit s given rows (let it : inputs.Call n (Some s) ≡ inputs.Call m (Some (stmts.Commit given)) = sym call ∙ other in cc))) step
-    done_on p commit (steps.Pends {k = k} n l given call has live code step) =
+    done_on p commit (steps.Begins n s read_at call begins fit none step) =
+        done_on p (λ m given b other has. absurd (no_commit given begins (let it : inputs.Call n (Some s) ≡ inputs.Call m (Some (stmts.Commit given)) = sym call ∙ other in cc))) step
+    done_on p commit (steps.Counts_call n s call counts step) =
+        done_on p (λ m given b other has. absurd (none_counted s given counts (let it : inputs.Call n (Some s) ≡ inputs.Call m (Some (stmts.Commit given)) = sym call ∙ other in cc))) step
+    done_on p commit (steps.Goes_back x back goes step) = done_on p commit step
+    done_on p commit (steps.Pends {k = k} n l given call has live code writer step) =
         done_on p (λ m other b called root.
         let it : inputs.Call n (Some (stmts.Commit given)) ≡ inputs.Call m (Some (stmts.Commit other)) = sym call ∙ called in
         let is : n ≡ m = cc in
@@ -237,17 +250,19 @@ module _ (o : Option BranchId) where
     done_on p commit steps.Rests = (tt, tt)
     done_on p commit (steps.Sends {k = k} says why) = (tt, says_so k input says why)
     done_on p commit (steps.Runs {k = k} x s given t asks way) =
-        (tt, answer_so (record x { live = after_run x.live (ran p k x.live.me s t) }) (answer_of_run (ran p k x.live.me s t)) x.live.parent)
+        (tt, answer_so (branch_ran k.sessions x t (ran p k x.live.me s t)) (answer_of_run (ran p k x.live.me s t)) x.live.parent)
     done_on p commit (steps.Goes_nowhere x s given r asks way) = (tt, answer_so x (answers.Refused r) x.live.parent)
-    done_on p commit (steps.Calls {k = k} x s given i table asks way) = (tt, exec_so k.sessions x i (passed_on s table) given (peer_of x.live i))
+    done_on p commit (steps.Calls {k = k} x s given i table asks way) = (tt, exec_so k.sessions x i (errands.Statement (passed_on s table) given) (peer_of x.live i))
     done_on p commit (steps.Opens x s given node link table asks way) = (tt, (tt, tt))
     done_on p commit (steps.Goes_on {k = k} x from strength g link opened) =
         let y : Branch = with_edge x (new_edge from link strength) in
-        (tt, exec_so k.sessions y (length x.live.edges + 1) g.statement (g.room - 1) (peer_of y.live (length x.live.edges + 1)))
+        (tt, exec_so k.sessions y (length x.live.edges + 1) (less_room g.errand) (peer_of y.live (length x.live.edges + 1)))
     done_on p commit (steps.Hears_reply x weight count a i e answers) =
         let y : Branch = hears_reply x i weight count e in
         (tt, answer_so y (heard_answer y.live e.link a) x.live.parent)
-    done_on p commit (steps.Opens_branch to parent edge root depth came new) = (tt, (tt, tt))
+    done_on p commit (steps.Backs {k = k} x step from i calls is) = (tt, exec_so k.sessions x i (errands.GoBack step) (peer_of x.live i))
+    done_on p commit (steps.Is_back x step from calls is) = (tt, answer_so x (answers.Did dones.RolledBack 0) x.live.parent)
+    done_on p commit (steps.Opens_branch to parent edge root depth read_at came new) = (tt, (tt, tt))
     done_on p commit (steps.Acts l site_below acts.Rest why) = (tt, tt)
     done_on p commit (steps.Acts l site_below acts.AskDown why) = (tt, prepares_so l.me l.comment (path_of site_below (step l)) 1 l.edges)
     done_on p commit (steps.Acts l site_below acts.SayReady why) = (tt, to_one_so l.me kinds.Ready (acting_of commit why) l.parent)
@@ -275,7 +290,10 @@ module _ (o : Option BranchId) where
     done_on p commit (steps.Forces_rollback n id b call named) = (tt, tt)
     done_on p commit (steps.Hides n mixed id s call found) = (tt, tt)
     done_on p commit (steps.Advises n a call) = (tt, tt)
-    done_on p commit (steps.Rolls_back n x call has live) = (tt, to_each_so x.live.me kinds.Rollback tt (children_of x.live))
+    done_on p commit (steps.Sets_read_only n call) = (tt, tt)
+    done_on p commit (steps.Sets_savepoint n x name call has code live) = (tt, tt)
+    done_on p commit (steps.Images is) = (tt, tt)
+    done_on p commit (steps.Leaves n s d x call ends has live) = (tt, to_each_so x.live.me kinds.Rollback tt (children_of x.live))
     done_on p commit (steps.Gives_up n x gives has waits live) = (tt, tt)
     done_on p commit (steps.Gives_up_commit n b (Some l) gives has waits live) = (tt, to_each_so l.me kinds.Rollback tt (children_of l))
     done_on p commit (steps.Gives_up_commit n b None gives has waits none) = (tt, tt)
@@ -312,6 +330,9 @@ message_of_it k (inputs.GiveUp n) from to kind came =
 message_of_it k inputs.Reco from to kind came =
     let it : inputs.Reco ≡ inputs.Message (record { from = from; to = to; scn = came.scn; kind = kind }) = came.is in
     absurd cc
+message_of_it k inputs.Checkpoint from to kind came =
+    let it : inputs.Checkpoint ≡ inputs.Message (record { from = from; to = to; scn = came.scn; kind = kind }) = came.is in
+    absurd cc
 
 commit_of_it : (k : NodeState) (input : Input) → CommitOfIt (concerned k input) (heard k input) input
 commit_of_it k (inputs.Message m) n given b call has = absurd cc
@@ -321,6 +342,7 @@ commit_of_it k (inputs.Call m s) n given b call has =
     subst (λ j. (session_at k.sessions j).root ≡ Some b) (sym is) has
 commit_of_it k (inputs.GiveUp m) n given b call has = absurd cc
 commit_of_it k inputs.Reco n given b call has = absurd cc
+commit_of_it k inputs.Checkpoint n given b call has = absurd cc
 
 pub turns_are_of_their_branch : TurnsAreOfTheirBranch
 unfolding turn_of

@@ -1,5 +1,5 @@
 -- The places that a turn passes, as they stand in memory, and what has to be known of its branch.
-use Rattle.std.specs.Prelude.{◌≡◌, ◌++◌, Bool, if◌then◌else◌, List, [], ◌∷◌, option_to_list, option_map, Option, Some, None}
+use Rattle.std.specs.Prelude.{◌≡◌, ◌++◌, if◌then◌else◌, List, [], ◌∷◌, option_to_list, option_map, Option, Some, None}
 use Rattle.crash_points.specs.Points.{numbers_at}
 use Rattle.crash_points.specs.declared.place.TurnPlace.TheVariants as places
 use Rattle.node_rules.specs.Data.{BranchId, RedoRecord, Msg, Live, KeptRow, Place, Input}

@@ -1,11 +1,12 @@
 -- Nodes that differ in which rows are hidden alone do the same about each call of a client but a purge, about a call that is given
 -- up, and when they recover.
 use Rattle.std.proofs.Common.{◌≡◌, ℕ, ◌+◌, ◌++◌, ◌&&◌, Bool, true, false, true≢false, if◌then◌else◌, List, [], ◌∷◌, filter, flat_map, fold, map, not, unwrap_or, Option, Some, None, Result, Ok, Err, refl, sym, ap, subst, ◌∙◌}
+use Rattle.std.specs.Prelude.{is_some}
 use Rattle.reco.specs.Asks.{to_one, put_asking, asks_live, asks_kept, acks_again, missing, recovers}
 use Rattle.force_cmds.specs.Named.{named_among}
 use Rattle.force_cmds.specs.declared.id_names.IdNames.TheVariants as id_names
 use Rattle.prepare_phase.specs.Acts.{first_act}
-use Rattle.node_rules.specs.Data.{Answer, BranchId, Decision, Done, Input, KeptRow, Live, Place, Post, RedoRecord, Refusal, Stmt}
+use Rattle.node_rules.specs.Data.{Answer, BranchId, Decision, Done, Input, KeptRow, Live, Msg, Place, Post, RedoRecord, Refusal, Stmt}
 use Rattle.node_rules.specs.declared.session.PendingCall.{PendingCall}
 use Rattle.node_rules.specs.declared.session.PendingCall.TheVariants as pending
 use Rattle.node_rules.specs.Data.decisions
@@ -15,7 +16,7 @@ use Rattle.node_rules.specs.Data.kinds
 use Rattle.node_rules.specs.Data.params
 use Rattle.node_rules.specs.Data.records
 use Rattle.node_rules.specs.Data.stmts
-use Rattle.node_rules.specs.Client.{refuses, begun_by, begun, root_by, root_at, statement_by, statement_call, commit_by, commit_call, rollback_by, writes, is_used, is_link, call_turn, read_turn, given_up_code, commit_given_up, statement_given_up, give_up_by}
+use Rattle.node_rules.specs.Client.{refuses, begun_by, begun, root_by, root_at, statement_by, statement_call, commit_by, commit_call, rollback_by, writes, is_used, is_link, call_turn, read_turn, given_up_code, commit_given_up, statement_given_up, give_up_by, commit_at, counted, is_write, read_only_by, savepoint_by, savepoint_call, back_to_savepoint, back_by, back_call}
 use Rattle.node_rules.specs.Commit.{beyond}
 use Rattle.node_rules.specs.Force.{is_named_by, branch_to_force, one_named, forces, force_commit, force_rollback}
 use Rattle.node_rules.specs.NodeState.{NodeState, Branch, ending, branch_at, live_at, kept_row_at, kept_row_id, with_work}
@@ -24,9 +25,13 @@ use Rattle.node_rules.specs.Recovery.{Asking, recovery}
 use Rattle.node_rules.specs.Sessions.{session_at, with_call, commit_ended, commit_answer, tran_refusal}
 use Rattle.node_rules.specs.Turn.{clock_raised_by, draft_of, turn_of}
 use Rattle.node_rules.specs.Words.{item_at}
-use Rattle.node_purge_laws.specs.PurgeLaws.{row_as, RowsLike, rows_of, with_rows, ActsLike, is_purge, PurgesChangeNothingElse}
+use Rattle.node_rules.specs.Calls.{statement_at}
+use Rattle.node_rules.specs.Marks.{savepoint_at}
+use Rattle.node_rules.specs.Refusals.{dtx}
+use Rattle.node_purge_laws.specs.PurgeLaws.{row_as, RowsLike, rows_of, with_rows, IsLike, ActsLike, is_purge, PurgesChangeNothingElse}
 use Rattle.node_purge_laws.proofs.RowLikeLemmas.{OneLike, FoundLike, IsBlind, blind_by, drop_one, id_same, found_like}
-use Rattle.node_purge_laws.proofs.LikeLemmas.{DraftsLike, all_acked_same, beyond_same, sessions_like, recorded, rests, act_like, statement_like, acts_like, kind_like, stand_like}
+use Rattle.node_purge_laws.proofs.LikeLemmas.{DraftsLike, ActsSame, all_acked_same, beyond_same, sessions_like, recorded, rests, act_like, statement_like, acts_like, acts_same, kind_like, stand_like, back_like}
+use Rattle.node_purge_laws.proofs.ImageLikeLemmas.{DraftsAlike, drafts_alike, checkpoint_alike}
 
 -- ---- what does not see rows
 
@@ -55,19 +60,45 @@ module _ (k : NodeState) (ks : List KeptRow) (like : RowsLike (rows_of k) ks) wh
   statement_by_like : (p : Place) (n : ℕ) (s : Stmt) (code : Option ℕ) (o : Option Branch) → DraftsLike (statement_by p k n s code o) (statement_by p other n s code o)
   statement_by_like p n s code None = rests k ks like
   statement_by_like p n s (Some c) (Some x) = ends_like n _
-  statement_by_like p n s None (Some x) = statement_like k ks like p x s 0
+  statement_by_like p n s None (Some x) = allowed_like (is_some x.live.read_at && is_write s)
+    where
+      allowed_like : (q : Bool) → DraftsLike (if q then refuses k n (dtx 21 []) else statement_at p k x s 0) (if q then refuses other n (dtx 21 []) else statement_at p other x s 0)
+      allowed_like true = ends_like n _
+      allowed_like false = statement_like k ks like p x s 0
 
   statement_call_like : (p : Place) (n : ℕ) (s : Stmt) → DraftsLike (statement_call p k n s) (statement_call p other n s)
   statement_call_like p n s =
       subst (λ o. DraftsLike (statement_call p k n s) (statement_by p other n s (session_at k.sessions n).code o)) (sym (root_same (session_at k.sessions n).root))
       (statement_by_like p n s (session_at k.sessions n).code (root_at k n))
 
+  commit_at_like : (n : ℕ) (comment : List ℕ) (x : Branch) (o : Option ℕ) → DraftsLike (commit_at k n comment x o) (commit_at other n comment x o)
+  commit_at_like n comment x (Some scn) = record { wrote = refl; says = refl; ended = refl; after = record { same = refl; rows = like } }
+  commit_at_like n comment x None =
+      let l : Live = with_comment x.live comment in
+      act_like (without_read_keys (record k { sessions = with_call k.sessions n pending.Commit }) l.me) ks like (collecting l true) true (first_act (collecting l true) true)
+
   commit_by_like : (n : ℕ) (comment : List ℕ) (code : Option ℕ) (o : Option Branch) → DraftsLike (commit_by k n comment code o) (commit_by other n comment code o)
   commit_by_like n comment code None = ends_like n _
   commit_by_like n comment (Some c) (Some x) = ends_like n _
-  commit_by_like n comment None (Some x) =
-      let l : Live = with_comment x.live comment in
-      act_like (without_read_keys (record k { sessions = with_call k.sessions n pending.Commit }) l.me) ks like (collecting l true) true (first_act (collecting l true) true)
+  commit_by_like n comment None (Some x) = commit_at_like n comment x x.live.read_at
+
+  savepoint_by_like : (n : ℕ) (name : List ℕ) (code : Option ℕ) (o : Option Branch) → DraftsLike (savepoint_by k n name code o) (savepoint_by other n name code o)
+  savepoint_by_like n name code None = rests k ks like
+  savepoint_by_like n name (Some c) (Some x) = ends_like n _
+  savepoint_by_like n name None (Some x) = record { wrote = refl; says = refl; ended = refl; after = record { same = refl; rows = like } }
+
+  to_savepoint_like : (n : ℕ) (name : List ℕ) (x : Branch) (o : Option ℕ) → DraftsLike (back_to_savepoint k n name x o) (back_to_savepoint other n name x o)
+  to_savepoint_like n name x None = ends_like n _
+  to_savepoint_like n name x (Some step) = back_like k ks like x step
+
+  back_by_like : (n : ℕ) (name : List ℕ) (code : Option ℕ) (o : Option Branch) → DraftsLike (back_by k n name code o) (back_by other n name code o)
+  back_by_like n name code None = ends_like n _
+  back_by_like n name (Some c) (Some x) = ends_like n _
+  back_by_like n name None (Some x) = to_savepoint_like n name x (savepoint_at x.work.marks name)
+
+  read_only_like : (p : Place) (n : ℕ) (o : Option BranchId) → DraftsLike (read_only_by p k n o) (read_only_by p other n o)
+  read_only_like p n (Some root) = ends_like n _
+  read_only_like p n None = record { wrote = refl; says = refl; ended = refl; after = record { same = refl; rows = like } }
 
   rollback_by_like : (n : ℕ) (o : Option Branch) → DraftsLike (rollback_by k n o) (rollback_by other n o)
   rollback_by_like n None = ends_like n _
@@ -79,13 +110,16 @@ module _ (k : NodeState) (ks : List KeptRow) (like : RowsLike (rows_of k) ks) wh
 -- ---- statements of a client
 
 module _ (k : NodeState) (ks : List KeptRow) (like : RowsLike (rows_of k) ks) (p : Place) where
-  begun_same : (n : ℕ) (o : Option BranchId) → begun_by p (with_rows k ks) n o ≡ with_rows (begun_by p k n o) ks
-  begun_same n None = refl
-  begun_same n (Some root) = refl
+  begun_by_same : (n : ℕ) (o : Option BranchId) → begun_by p (with_rows k ks) n None o ≡ with_rows (begun_by p k n None o) ks
+  begun_by_same n None = refl
+  begun_by_same n (Some root) = refl
+
+  begun_same : (n : ℕ) → begun p (with_rows k ks) n ≡ with_rows (begun p k n) ks
+  begun_same n = ap (λ z. counted z n) (begun_by_same n (session_at k.sessions n).root)
 
   rows_call_like : (n : ℕ) (s : Stmt) → DraftsLike (statement_call p (begun p k n) n s) (statement_call p (begun p (with_rows k ks) n) n s)
   rows_call_like n s =
-      subst (λ z. DraftsLike (statement_call p (begun p k n) n s) (statement_call p z n s)) (sym (begun_same n (session_at k.sessions n).root)) (statement_call_like (begun p k n) ks like p n s)
+      subst (λ z. DraftsLike (statement_call p (begun p k n) n s) (statement_call p z n s)) (sym (begun_same n)) (statement_call_like (begun p k n) ks like p n s)
 
   filter_like : (test : KeptRow → Bool) → IsBlind test → (xs ys : List KeptRow) → RowsLike xs ys → RowsLike (filter test xs) (filter test ys)
   filter_like test blind [] [] like = tt
@@ -136,6 +170,17 @@ module _ (k : NodeState) (ks : List KeptRow) (like : RowsLike (rows_of k) ks) (p
       subst (λ o. DraftsLike (call_turn p k n (stmts.RollbackForce id)) (force_rollback (with_rows k ks) n o)) (sym (force_same id)) (force_rollback_like n (branch_to_force p.names (rows_of k) id))
   call_like n (stmts.Advise a) plain = record { wrote = refl; says = refl; ended = refl; after = record { same = refl; rows = like } }
   call_like n (stmts.Recovery on) plain = writes_like k ks like n (records.Param (params.Recovery on)) dones.SystemAltered
+  call_like n (stmts.SetStrength strength) plain = writes_like k ks like n (records.Param (params.Strength strength)) dones.SystemAltered
+  call_like n stmts.SetReadOnly plain = read_only_like k ks like p n (session_at k.sessions n).root
+  call_like n (stmts.Savepoint name) plain =
+      let j : NodeState = begun p k n in
+      subst (λ z. DraftsLike (savepoint_call j n name) (savepoint_call z n name)) (sym (begun_same n))
+      (subst (λ o. DraftsLike (savepoint_call j n name) (savepoint_by (with_rows j ks) n name (session_at j.sessions n).code o)) (sym (root_same j ks like (session_at j.sessions n).root))
+      (savepoint_by_like j ks like n name (session_at j.sessions n).code (root_at j n)))
+  call_like n (stmts.RollbackTo name) plain =
+      let j : NodeState = counted k n in
+      subst (λ o. DraftsLike (back_call j n name) (back_by (with_rows j ks) n name (session_at j.sessions n).code o)) (sym (root_same j ks like (session_at j.sessions n).root))
+      (back_by_like j ks like n name (session_at j.sessions n).code (root_at j n))
   call_like n (stmts.PurgeMixed id) plain = absurd (true≢false plain)
   call_like n (stmts.PurgeLost id) plain = absurd (true≢false plain)
 
@@ -201,17 +246,30 @@ module _ (k : NodeState) (ks : List KeptRow) (like : RowsLike (rows_of k) ks) wh
     after = record { same = refl; rows = like };
   }
 
-  input_like : (p : Place) (input : Input) → is_purge input ≡ false → DraftsLike (draft_of p k input) (draft_of p (with_rows k ks) input)
-  input_like p (inputs.Call n o) plain = read_like k ks like p n o plain
-  input_like p (inputs.GiveUp n) plain = give_up_like n (session_at k.sessions n).root (session_at k.sessions n).call
-  input_like p (inputs.Message m) plain = kind_like p (clock_raised_by k m) ks like m.from m.to m.kind (stand_like (clock_raised_by k m) ks like m.to)
-  input_like p inputs.Reco plain = recovery_like
+  message_like : (p : Place) (m : Msg) → DraftsLike (draft_of p k (inputs.Message m)) (draft_of p (with_rows k ks) (inputs.Message m))
+  message_like p m = kind_like p (clock_raised_by k m) ks like m.from m.to m.kind (stand_like (clock_raised_by k m) ks like m.to)
+
+  input_like : (p : Place) (input : Input) → is_purge input ≡ false → DraftsAlike (draft_of p k input) (draft_of p (with_rows k ks) input)
+  input_like p (inputs.Call n o) plain = drafts_alike (read_like k ks like p n o plain)
+  input_like p (inputs.GiveUp n) plain = drafts_alike (give_up_like n (session_at k.sessions n).root (session_at k.sessions n).call)
+  input_like p (inputs.Message m) plain = drafts_alike (message_like p m)
+  input_like p inputs.Reco plain = drafts_alike recovery_like
+  input_like p inputs.Checkpoint plain = checkpoint_alike k ks like
 
 -- ---- turns
 
 turn_like : (p : Place) (k : NodeState) (ks : List KeptRow) → RowsLike (rows_of k) ks → (input : Input) → is_purge input ≡ false → ActsLike (turn_of p k input) (turn_of p (with_rows k ks) input)
 unfolding turn_of
-turn_like p k ks like input plain = acts_like (draft_of p k input) (draft_of p (with_rows k ks) input) (input_like k ks like p input plain)
+turn_like p k ks like input plain = (let same = input_like k ks like p input plain in acts_like (draft_of p k input) (draft_of p (with_rows k ks) input) same.wrote same.says same.ended same.after)
+
+turn_same : (p : Place) (k : NodeState) (ks : List KeptRow) → RowsLike (rows_of k) ks → (m : Msg) → ActsSame (turn_of p k (inputs.Message m)) (turn_of p (with_rows k ks) (inputs.Message m))
+unfolding turn_of
+turn_same p k ks like m = acts_same (draft_of p k (inputs.Message m)) (draft_of p (with_rows k ks) (inputs.Message m)) (message_like k ks like p m)
+
+-- with a message both write the very same record
+pub message_same : (p : Place) (k other : NodeState) → IsLike k other → (m : Msg) → ActsSame (turn_of p k (inputs.Message m)) (turn_of p other (inputs.Message m))
+message_same p k other like m =
+    subst (λ z. ActsSame (turn_of p k (inputs.Message m)) (turn_of p z (inputs.Message m))) (sym like.same) (turn_same p k (rows_of other) like.rows m)
 
 pub purges_change_nothing_else : PurgesChangeNothingElse
 purges_change_nothing_else p k other like input plain =

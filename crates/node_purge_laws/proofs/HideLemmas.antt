@@ -10,8 +10,9 @@ use Rattle.node_rules.specs.Force.{may_purge, hides, purge}
 use Rattle.node_rules.specs.NodeState.{NodeState, TurnOutput}
 use Rattle.node_rules.specs.Records.{applied, with_record}
 use Rattle.node_rules.specs.Turn.{turn_of}
-use Rattle.node_purge_laws.specs.PurgeLaws.{RowsLike, rows_of, IsLike, ActsLike, PurgesHideAlone, ShownByTurn, shown, PurgesChangeNothingShown}
-use Rattle.node_purge_laws.proofs.CallLikeLemmas.{purges_change_nothing_else}
+use Rattle.node_purge_laws.specs.PurgeLaws.{RowsLike, rows_of, IsLike, PurgesHideAlone, ShownByTurn, shown, PurgesChangeNothingShown}
+use Rattle.node_purge_laws.proofs.CallLikeLemmas.{message_same}
+use Rattle.node_purge_laws.proofs.LikeLemmas.{ActsSame}
 use Rattle.node_purge_laws.proofs.RowLikeLemmas.{OneLike}
 
 pub rows_same : (xs : List KeptRow) → RowsLike xs xs
@@ -42,16 +43,16 @@ pub purges_hide_alone : PurgesHideAlone
 unfolding turn_of
 purges_hide_alone p k n id = (purge_like k n true id, purge_like k n false id)
 
-one_shown : (o other : TurnOutput) (rest more : List ShownByTurn) → ActsLike o other → rest ≡ more
+one_shown : (o other : TurnOutput) (rest more : List ShownByTurn) → ActsSame o other → rest ≡ more
     → (record { wrote = other.wrote; sent = other.sent; ended = other.ended }) ∷ more ≡ (record { wrote = o.wrote; sent = o.sent; ended = o.ended }) ∷ rest
-one_shown o other rest more acts same = (let wrote = acts.wrote in let sent = acts.sent in let ended = acts.ended in cc)
+one_shown o other rest more acts same = (let wrote = acts.wrote in let sent = acts.like.sent in let ended = acts.like.ended in cc)
 
 shown_like : (p : Place) (k other : NodeState) → IsLike k other → (ms : List Msg) → shown p other ms ≡ shown p k ms
 shown_like p k other like [] = refl
 shown_like p k other like (m ∷ ms) =
-    let acts : ActsLike (turn_of p k (inputs.Message m)) (turn_of p other (inputs.Message m)) = purges_change_nothing_else p k other like (inputs.Message m) refl in
+    let acts : ActsSame (turn_of p k (inputs.Message m)) (turn_of p other (inputs.Message m)) = message_same p k other like m in
     one_shown (turn_of p k (inputs.Message m)) (turn_of p other (inputs.Message m)) _ _ acts
-    (sym (shown_like p (turn_of p k (inputs.Message m)).after (turn_of p other (inputs.Message m)).after acts.after ms))
+    (sym (shown_like p (turn_of p k (inputs.Message m)).after (turn_of p other (inputs.Message m)).after acts.like.after ms))
 
 pub purges_change_nothing_shown : PurgesChangeNothingShown
 purges_change_nothing_shown p k n id ms =

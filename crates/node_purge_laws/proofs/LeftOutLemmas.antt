@@ -1,6 +1,7 @@
 -- A lawful run without its purges is lawful, has the same book, and ends the same calls with the same answers.
-use Rattle.std.proofs.Common.{◌≡◌, ℕ, ◌+◌, ◌||◌, not, Bool, true, false, true≢false, if◌then◌else◌, List, [], ◌∷◌, ◌++◌, unwrap_or, Option, Some, None, inl, inr, refl, sym, ap, subst, subst₂, ◌∙◌, append-nil}
+use Rattle.std.proofs.Common.{◌≡◌, ℕ, ◌+◌, ◌||◌, not, Bool, true, false, true≢false, if◌then◌else◌, List, [], ◌∷◌, ◌++◌, map, unwrap_or, Option, Some, None, inl, inr, refl, sym, ap, subst, subst₂, ◌∙◌, append-nil}
 use Rattle.std.specs.Prelude.{◌⊎◌, find}
+use Rattle.std.specs.List.{list_any}
 use Rattle.std.specs.Option.{option_to_list}
 use Rattle.node_rules.specs.Data.{BranchId, Input, KeptRow, Place, RedoRecord}
 use Rattle.node_rules.specs.Data.inputs
@@ -20,9 +21,9 @@ use Rattle.run_rules.specs.Entries.{entries_of}
 use Rattle.run_rules.specs.Facts.{Facts, first_facts, place_at, flat, node_at, records_at, served, outcome_at, kept_after, taken, facts_after, facts_of}
 use Rattle.run_rules.specs.Lawful.{IsPending, Comes, IsOwed, MayHappen, MayStop, MayBeLost, IsLawful, History, IsLawfulRun}
 use Rattle.run_rules.specs.Trail.{ended_by}
-use Rattle.node_purge_laws.specs.PurgeLaws.{IsLike, is_purge}
+use Rattle.node_purge_laws.specs.PurgeLaws.{IsLike, but_hidden, written, is_purge}
 use Rattle.node_purge_laws.specs.PurgeRunLaws.{HidesAlone, DoesAlike}
-use Rattle.node_purge_laws.specs.LeftOutLaws.{is_purge_turn, but_purges, calls_ended, all_ended, IsSameWithoutPurges, EveryPurgeChangesNothing}
+use Rattle.node_purge_laws.specs.LeftOutLaws.{is_purge_turn, but_purges, happened, is_image, has_image, writes_image, calls_ended, all_ended, IsSameWithoutPurges, EveryPurgeChangesNothing}
 use Rattle.node_purge_laws.proofs.HideLemmas.{rows_same}
 use Rattle.node_purge_laws.proofs.PurgeRunLemmas.{sees_none, purges_go_unseen}
 use Rattle.node_purge_laws.proofs.StartLikeLemmas.{like_turned, like_on, NodeLike, Fewer, fewer_same, fewer_with, fewer_hidden, fewer_boots, start_like, Pairwise, pairs_same, pairs_set, pairs_left, set_twice, node_there, disk_there}
@@ -66,6 +67,80 @@ no_entry n book w (inr hidden) = ap (λ x. book ++ entries_of n x) hidden.1 ∙ 
 fewer_written : {rs more : List RedoRecord} (w : Option RedoRecord) → HidesOrNot w → Fewer rs more → Fewer (rs ++ option_to_list w) more
 fewer_written {rs} {more} w (inl none) few = subst (λ x. Fewer (rs ++ option_to_list x) more) (sym none) (subst (λ xs. Fewer xs more) (sym (append-nil rs)) few)
 fewer_written {rs} {more} w (inr hidden) few = subst (λ x. Fewer (rs ++ option_to_list x) more) (sym hidden.1) (fewer_hidden few hidden.0)
+
+-- an image has no entry
+entry_same : (n : ℕ) (r : RedoRecord) → entries_of n (Some (but_hidden r)) ≡ entries_of n (Some r)
+entry_same n (records.Boot m) = refl
+entry_same n (records.Table t) = refl
+entry_same n (records.Link l) = refl
+entry_same n (records.Synonym y) = refl
+entry_same n (records.Param q) = refl
+entry_same n (records.Sealed r) = refl
+entry_same n (records.Decided r) = refl
+entry_same n (records.Ended b d) = refl
+entry_same n (records.Forced b d given) = refl
+entry_same n (records.Met b d mixed) = refl
+entry_same n (records.Forgot b) = refl
+entry_same n (records.Hidden b) = refl
+entry_same n (records.Image i) = refl
+
+written_entries : (n : ℕ) (w : Option RedoRecord) → entries_of n (written w) ≡ entries_of n w
+written_entries n None = refl
+written_entries n (Some r) = entry_same n r
+
+entries_alike : (n : ℕ) (w v : Option RedoRecord) → written v ≡ written w → entries_of n v ≡ entries_of n w
+entries_alike n w v same = sym (written_entries n v) ∙ (ap (entries_of n) same ∙ written_entries n w)
+
+-- ---- records that are no images
+
+image_same : (r : RedoRecord) → is_image (but_hidden r) ≡ is_image r
+image_same (records.Boot m) = refl
+image_same (records.Table t) = refl
+image_same (records.Link l) = refl
+image_same (records.Synonym y) = refl
+image_same (records.Param q) = refl
+image_same (records.Sealed r) = refl
+image_same (records.Decided r) = refl
+image_same (records.Ended b d) = refl
+image_same (records.Forced b d given) = refl
+image_same (records.Met b d mixed) = refl
+image_same (records.Forgot b) = refl
+image_same (records.Hidden b) = refl
+image_same (records.Image i) = refl
+
+plain_record : (r : RedoRecord) → is_image r ≡ false → but_hidden r ≡ r
+plain_record (records.Boot m) none = refl
+plain_record (records.Table t) none = refl
+plain_record (records.Link l) none = refl
+plain_record (records.Synonym y) none = refl
+plain_record (records.Param q) none = refl
+plain_record (records.Sealed r) none = refl
+plain_record (records.Decided r) none = refl
+plain_record (records.Ended b d) none = refl
+plain_record (records.Forced b d given) none = refl
+plain_record (records.Met b d mixed) none = refl
+plain_record (records.Forgot b) none = refl
+plain_record (records.Hidden b) none = refl
+plain_record (records.Image i) none = absurd (true≢false none)
+
+record_exact : (q r : RedoRecord) → is_image r ≡ false → but_hidden q ≡ but_hidden r → q ≡ r
+record_exact q r none same =
+    let other : is_image q ≡ false = sym (image_same q) ∙ (ap is_image same ∙ (image_same r ∙ none)) in
+    sym (plain_record q other) ∙ (same ∙ plain_record r none)
+
+written_exact : (v w : Option RedoRecord) → has_image w ≡ false → written v ≡ written w → v ≡ w
+written_exact None None none same = refl
+written_exact None (Some r) none same = absurd cc
+written_exact (Some q) None none same = absurd cc
+written_exact (Some q) (Some r) none same = (let is : but_hidden q ≡ but_hidden r = cc in ap Some (record_exact q r none is))
+
+neither_left : (a b : Bool) → (a || b) ≡ false → a ≡ false
+neither_left true b none = absurd (true≢false none)
+neither_left false b none = refl
+
+neither_right : (a b : Bool) → (a || b) ≡ false → b ≡ false
+neither_right true b none = absurd (true≢false none)
+neither_right false b none = none
 
 -- ---- facts that differ in purges alone
 
@@ -111,7 +186,9 @@ module _ (places : List Place) (asked : List Command) (f : Facts) (ns : List (Op
   comes_too k o like n (inputs.GiveUp s) None comes = (comes.0, subst (λ ss. IsPending (session_at ss s).call) (sessions_are like) comes.1)
   comes_too k o like n (inputs.GiveUp s) (Some t) comes = absurd comes
   comes_too k o like n inputs.Reco None comes = tt
+  comes_too k o like n inputs.Checkpoint None comes = tt
   comes_too k o like n inputs.Reco (Some t) comes = absurd comes
+  comes_too k o like n inputs.Checkpoint (Some t) comes = absurd comes
 
   served_like : (p : Place) (input : Input) (cut : Bool) (x y : Option NodeState) (k o : NodeState) → x ≡ Some k → y ≡ Some o → IsLike (turn_of p k input).after (turn_of p o input).after
       → NodeLike (kept_after cut (served p input x)) (kept_after cut (served p input y))
@@ -133,7 +210,11 @@ module _ (places : List Place) (asked : List Command) (f : Facts) (ns : List (Op
     alike : DoesAlike p u may.0 it.0
     alike = (sees_none places asked f no_trail (happenings.Turn u) may may.0 may.1.up).1 plain it.0 it.2
 
-    turn_may : MayHappen places asked g (happenings.Turn u)
+    -- the turn with what the other node writes
+    abbrev there : Turn
+    there = record u { wrote = alike.wrote }
+
+    turn_may : MayHappen places asked g (happenings.Turn there)
     turn_may = (
       it.0,
       record {
@@ -144,66 +225,115 @@ module _ (places : List Place) (asked : List Command) (f : Facts) (ns : List (Op
       },
     )
 
-    turn_alike : AreAlike (facts_after places asked f (happenings.Turn u)) (facts_after places asked g (happenings.Turn u)).nodes (facts_after places asked g (happenings.Turn u)).records
+    turn_alike : AreAlike (facts_after places asked f (happenings.Turn u)) (facts_after places asked g (happenings.Turn there)).nodes (facts_after places asked g (happenings.Turn there)).records
     unfolding facts_after
     turn_alike = record {
       nodes = pairs_set NodeLike f.nodes ns u.node _ _ now.nodes (served_like p u.input u.cut (node_at f u.node) (node_at g u.node) may.0 it.0 may.1.up it.1 alike.after);
-      disks = pairs_set Fewer f.records ds u.node _ _ now.disks (fewer_with (disk_fewer u.node) (option_to_list u.wrote));
+      disks = pairs_set Fewer f.records ds u.node _ _ now.disks (fewer_with (disk_fewer u.node) u.wrote alike.wrote alike.alike);
     }
 
-    turn_ends : calls_ended places g (happenings.Turn u) ≡ calls_ended places f (happenings.Turn u)
+    turn_after : facts_after places asked g (happenings.Turn there) ≡ other (facts_after places asked f (happenings.Turn u)) (facts_after places asked g (happenings.Turn there)).nodes (facts_after places asked g (happenings.Turn there)).records
+    unfolding facts_after
+    turn_after =
+        let ns1 = (facts_after places asked g (happenings.Turn there)).nodes in
+        let ds1 = (facts_after places asked g (happenings.Turn there)).records in
+        ap (λ es. record (facts_after places asked f (happenings.Turn u)) { nodes = ns1; records = ds1; book = f.book ++ es }) (entries_alike u.node u.wrote alike.wrote alike.alike)
+
+    turn_ends : calls_ended places g (happenings.Turn there) ≡ calls_ended places f (happenings.Turn u)
     turn_ends = ended_like p u.input (is_purge u.input || u.cut) (node_at f u.node) (node_at g u.node) may.0 it.0 may.1.up it.1 alike.ended
 
   -- ---- any happening but a purge
 
-  may_too : (h : Happening) → is_purge_turn h ≡ false → MayHappen places asked f h → MayHappen places asked g h
-  may_too (happenings.Begun c) plain may = (record { told = may.0.told; upright = may.0.upright }, may.1, may.2)
-  may_too (happenings.Turn u) plain may = turn_may u plain may
-  may_too (happenings.Cut a b) plain may = (record { told = may.0.told; upright = may.0.upright }, may.1, may.2)
-  may_too (happenings.Join a b) plain may = (record { told = may.0.told; upright = may.0.upright }, may.1, may.2)
-  may_too (happenings.Lost k) plain may = by f.losses_to_report may
-    where
-      by : (js : List ℕ) → MayBeLost f k js → MayBeLost g k js
-      by [] lost = (lost.0, lost.1, record { sent = lost.2.sent; flying = lost.2.flying })
-      by (j ∷ js) lost = lost
-  may_too (happenings.Stopped n) plain may = (may.0, by f.node_to_stop may.1)
-    where
-      by : (m : Option ℕ) → MayStop f n m → MayStop g n m
-      by None stop = stop
-      by (Some m) stop = stop
-  may_too (happenings.Started n boot) plain may = record {
-    settled = record { told = may.settled.told; upright = may.settled.upright };
-    there = may.there;
-    down = down_there (node_at f n) (node_at g n) (node_like n) may.down;
-    next = may.next ∙ ap (λ m. m + 1) (sym (fewer_boots (disk_fewer n)));
+  lost_by : (k : ℕ) (js : List ℕ) → MayBeLost f k js → MayBeLost g k js
+  lost_by k [] lost = (lost.0, lost.1, record { sent = lost.2.sent; flying = lost.2.flying })
+  lost_by k (j ∷ js) lost = lost
+
+  stop_by : (n : ℕ) (m : Option ℕ) → MayStop f n m → MayStop g n m
+  stop_by n None stop = stop
+  stop_by n (Some m) stop = stop
+
+  -- what happens instead, and the facts after it
+  record Instead (h : Happening) : Type 0 where
+    there : Happening
+    same : happened there ≡ happened h
+    exact : writes_image h ≡ false → there ≡ h
+    may : MayHappen places asked g there
+    alike : AreAlike (facts_after places asked f h) (facts_after places asked g there).nodes (facts_after places asked g there).records
+    after : facts_after places asked g there ≡ other (facts_after places asked f h) (facts_after places asked g there).nodes (facts_after places asked g there).records
+    ends : calls_ended places g there ≡ calls_ended places f h
+
+  instead_of : (h : Happening) → is_purge_turn h ≡ false → MayHappen places asked f h → Instead h
+  unfolding facts_after
+  instead_of (happenings.Turn u) plain may = record {
+    there = happenings.Turn (there u plain may);
+    same = ap (λ w. happenings.Turn (record u { wrote = w })) (alike u plain may).alike;
+    exact = λ none. ap (λ w. happenings.Turn (record u { wrote = w })) (written_exact (alike u plain may).wrote u.wrote none (alike u plain may).alike);
+    may = turn_may u plain may;
+    alike = turn_alike u plain may;
+    after = turn_after u plain may;
+    ends = turn_ends u plain may;
   }
-
-  alike_too : (h : Happening) → is_purge_turn h ≡ false → MayHappen places asked f h → AreAlike (facts_after places asked f h) (facts_after places asked g h).nodes (facts_after places asked g h).records
-  unfolding facts_after
-  alike_too (happenings.Turn u) plain may = turn_alike u plain may
-  alike_too (happenings.Stopped n) plain may = record { nodes = pairs_set NodeLike f.nodes ns n None None now.nodes tt; disks = now.disks }
-  alike_too (happenings.Started n boot) plain may =
-      let few = fewer_with (disk_fewer n) (records.Boot boot ∷ []) in
-      record { nodes = pairs_set NodeLike f.nodes ns n _ _ now.nodes (start_like few); disks = pairs_set Fewer f.records ds n _ _ now.disks few }
-  alike_too (happenings.Begun c) plain may = record { nodes = now.nodes; disks = now.disks }
-  alike_too (happenings.Cut a b) plain may = record { nodes = now.nodes; disks = now.disks }
-  alike_too (happenings.Join a b) plain may = record { nodes = now.nodes; disks = now.disks }
-  alike_too (happenings.Lost k) plain may = record { nodes = now.nodes; disks = now.disks }
-
-  -- nothing else differs
-  after_too : (h : Happening) → facts_after places asked g h ≡ other (facts_after places asked f h) (facts_after places asked g h).nodes (facts_after places asked g h).records
-  unfolding facts_after
-  after_too (happenings.Turn u) = refl
-  after_too (happenings.Stopped n) = refl
-  after_too (happenings.Started n boot) = refl
-  after_too (happenings.Begun c) = refl
-  after_too (happenings.Cut a b) = refl
-  after_too (happenings.Join a b) = refl
-  after_too (happenings.Lost k) = refl
-
-  ends_too : (h : Happening) → is_purge_turn h ≡ false → MayHappen places asked f h → calls_ended places g h ≡ calls_ended places f h
-  ends_too (happenings.Turn u) plain may = turn_ends u plain may
-  ends_too _ plain may = refl
+  instead_of (happenings.Begun c) plain may = record {
+    there = happenings.Begun c;
+    same = refl;
+    exact = λ none. refl;
+    may = (record { told = may.0.told; upright = may.0.upright }, may.1, may.2);
+    alike = record { nodes = now.nodes; disks = now.disks };
+    after = refl;
+    ends = refl;
+  }
+  instead_of (happenings.Cut a b) plain may = record {
+    there = happenings.Cut a b;
+    same = refl;
+    exact = λ none. refl;
+    may = (record { told = may.0.told; upright = may.0.upright }, may.1, may.2);
+    alike = record { nodes = now.nodes; disks = now.disks };
+    after = refl;
+    ends = refl;
+  }
+  instead_of (happenings.Join a b) plain may = record {
+    there = happenings.Join a b;
+    same = refl;
+    exact = λ none. refl;
+    may = (record { told = may.0.told; upright = may.0.upright }, may.1, may.2);
+    alike = record { nodes = now.nodes; disks = now.disks };
+    after = refl;
+    ends = refl;
+  }
+  instead_of (happenings.Lost k) plain may = record {
+    there = happenings.Lost k;
+    same = refl;
+    exact = λ none. refl;
+    may = lost_by k f.losses_to_report may;
+    alike = record { nodes = now.nodes; disks = now.disks };
+    after = refl;
+    ends = refl;
+  }
+  instead_of (happenings.Stopped n) plain may = record {
+    there = happenings.Stopped n;
+    same = refl;
+    exact = λ none. refl;
+    may = (may.0, stop_by n f.node_to_stop may.1);
+    alike = record { nodes = pairs_set NodeLike f.nodes ns n None None now.nodes tt; disks = now.disks };
+    after = refl;
+    ends = refl;
+  }
+  instead_of (happenings.Started n boot) plain may =
+      let few = fewer_with (disk_fewer n) (Some (records.Boot boot)) (Some (records.Boot boot)) refl in
+      record {
+        there = happenings.Started n boot;
+        same = refl;
+        exact = λ none. refl;
+        may = record {
+          settled = record { told = may.settled.told; upright = may.settled.upright };
+          there = may.there;
+          down = down_there (node_at f n) (node_at g n) (node_like n) may.down;
+          next = may.next ∙ ap (λ m. m + 1) (sym (fewer_boots (disk_fewer n)));
+        };
+        alike = record { nodes = pairs_set NodeLike f.nodes ns n _ _ now.nodes (start_like few); disks = pairs_set Fewer f.records ds n _ _ now.disks few };
+        after = refl;
+        ends = refl;
+      }
 
   -- ---- a purge
 
@@ -274,49 +404,64 @@ unstopped f ns ds = record f { nodes = ns; records = ds; node_to_stop = None }
 -- ---- happening by happening
 
 module _ (places : List Place) (asked : List Command) where
-  -- The second run goes on as the first does.
-  record GoOnAlike (f g : Facts) (hs js : List Happening) : Type 0 where
-    lawful : IsLawful places asked g js
-    booked : (facts_of places asked g js).book ≡ (facts_of places asked f hs).book
-    ended : all_ended places asked g js ≡ all_ended places asked f hs
+  -- The second run goes on as the first does, without purges.
+  record GoOnAlike (f g : Facts) (hs : List Happening) : Type 0 where
+    rest : List Happening
+    same : map happened rest ≡ map happened (but_purges hs)
+    exact : list_any writes_image hs ≡ false → rest ≡ but_purges hs
+    lawful : IsLawful places asked g rest
+    booked : (facts_of places asked g rest).book ≡ (facts_of places asked f hs).book
+    ended : all_ended places asked g rest ≡ all_ended places asked f hs
 
   abbrev Goes : List Happening → Type 0
-  Goes hs = (f : Facts) (ns : List (Option NodeState)) (ds : List (List RedoRecord)) → AreAlike f ns ds → IsLawful places asked f hs → GoOnAlike f (other f ns ds) hs (but_purges hs)
+  Goes hs = (f : Facts) (ns : List (Option NodeState)) (ds : List (List RedoRecord)) → AreAlike f ns ds → IsLawful places asked f hs → GoOnAlike f (other f ns ds) hs
 
   abbrev Stops : List Happening → Type 0
-  Stops hs = (f : Facts) (ns : List (Option NodeState)) (ds : List (List RedoRecord)) (n : ℕ) → IsToStop f ns ds n → IsLawful places asked f hs → GoOnAlike f (unstopped f ns ds) hs (but_purges hs)
+  Stops hs = (f : Facts) (ns : List (Option NodeState)) (ds : List (List RedoRecord)) (n : ℕ) → IsToStop f ns ds n → IsLawful places asked f hs → GoOnAlike f (unstopped f ns ds) hs
 
-  one_more : (f g : Facts) (h : Happening) (hs js : List Happening) → MayHappen places asked g h → calls_ended places g h ≡ calls_ended places f h
-      → GoOnAlike (facts_after places asked f h) (facts_after places asked g h) hs js → GoOnAlike f g (h ∷ hs) (h ∷ js)
+  one_more : (f g : Facts) (h j : Happening) (hs : List Happening) → is_purge_turn h ≡ false → happened j ≡ happened h → (writes_image h ≡ false → j ≡ h) → MayHappen places asked g j → calls_ended places g j ≡ calls_ended places f h
+      → GoOnAlike (facts_after places asked f h) (facts_after places asked g j) hs → GoOnAlike f g (h ∷ hs)
   unfolding IsLawful facts_of
-  one_more f g h hs js may ends rest = record {
-    lawful = (may, rest.lawful);
-    booked = rest.booked;
-    ended = ap (λ xs. xs ++ all_ended places asked (facts_after places asked g h) js) ends ∙ ap (λ xs. calls_ended places f h ++ xs) rest.ended;
+  one_more f g h j hs plain is exact may ends more = record {
+    rest = j ∷ more.rest;
+    same =
+        ap (λ x. x ∷ map happened more.rest) is
+        ∙ (ap (λ xs. happened h ∷ xs) more.same ∙ ap (λ q. map happened (if not q then h ∷ but_purges hs else but_purges hs)) (sym plain));
+    exact = λ none.
+        ap (λ x. x ∷ more.rest) (exact (neither_left (writes_image h) (list_any writes_image hs) none))
+        ∙ (ap (λ xs. h ∷ xs) (more.exact (neither_right (writes_image h) (list_any writes_image hs) none)) ∙ ap (λ q. if not q then h ∷ but_purges hs else but_purges hs) (sym plain));
+    lawful = (may, more.lawful);
+    booked = more.booked;
+    ended = ap (λ xs. xs ++ all_ended places asked (facts_after places asked g j) more.rest) ends ∙ ap (λ xs. calls_ended places f h ++ xs) more.ended;
   }
 
   -- a purge is left out
-  one_less : (f g : Facts) (u : Turn) (hs js : List Happening) → is_purge u.input ≡ true → GoOnAlike (facts_after places asked f (happenings.Turn u)) g hs js → GoOnAlike f g (happenings.Turn u ∷ hs) js
+  one_less : (f g : Facts) (u : Turn) (hs : List Happening) → is_purge u.input ≡ true → GoOnAlike (facts_after places asked f (happenings.Turn u)) g hs → GoOnAlike f g (happenings.Turn u ∷ hs)
   unfolding facts_of
-  one_less f g u hs js purges rest = record {
-    lawful = rest.lawful;
-    booked = rest.booked;
-    ended = rest.ended ∙ ap (λ q. (if q || u.cut then [] else ended_by (outcome_at places f u)) ++ all_ended places asked (facts_after places asked f (happenings.Turn u)) hs) (sym purges);
+  one_less f g u hs purges more = record {
+    rest = more.rest;
+    same = more.same ∙ ap (λ q. map happened (if not q then happenings.Turn u ∷ but_purges hs else but_purges hs)) (sym purges);
+    exact = λ none.
+        more.exact (neither_right (writes_image (happenings.Turn u)) (list_any writes_image hs) none)
+        ∙ ap (λ q. if not q then happenings.Turn u ∷ but_purges hs else but_purges hs) (sym purges);
+    lawful = more.lawful;
+    booked = more.booked;
+    ended = more.ended ∙ ap (λ q. (if q || u.cut then [] else ended_by (outcome_at places f u)) ++ all_ended places asked (facts_after places asked f (happenings.Turn u)) hs) (sym purges);
   }
 
   module _ (hs : List Happening) (goes : Goes hs) (stops : Stops hs) (f : Facts) (ns : List (Option NodeState)) (ds : List (List RedoRecord)) (now : AreAlike f ns ds) where
     purge_less : (u : Turn) → is_purge u.input ≡ true → MayHappen places asked f (happenings.Turn u) → IsLawful places asked (facts_after places asked f (happenings.Turn u)) hs
-        → GoOnAlike f (other f ns ds) (happenings.Turn u ∷ hs) (but_purges hs)
+        → GoOnAlike f (other f ns ds) (happenings.Turn u ∷ hs)
     unfolding facts_after
-    purge_less u purges may lawful = one_less f (other f ns ds) u hs (but_purges hs) purges (by u.cut refl)
+    purge_less u purges may lawful = one_less f (other f ns ds) u hs purges (by u.cut refl)
       where
-        by : (q : Bool) → u.cut ≡ q → GoOnAlike (facts_after places asked f (happenings.Turn u)) (other f ns ds) hs (but_purges hs)
+        by : (q : Bool) → u.cut ≡ q → GoOnAlike (facts_after places asked f (happenings.Turn u)) (other f ns ds) hs
         by false uncut =
-            subst (λ x. GoOnAlike (facts_after places asked f (happenings.Turn u)) x hs (but_purges hs))
+            subst (λ x. GoOnAlike (facts_after places asked f (happenings.Turn u)) x hs)
             (sym (skipped places asked f ns ds now u purges may (if u.cut then Some u.node else None) (ap (λ q. if q then Some u.node else None) uncut)))
             (goes (facts_after places asked f (happenings.Turn u)) ns ds (skipped_alike places asked f ns ds now u purges may uncut) lawful)
         by true cut =
-            subst (λ x. GoOnAlike (facts_after places asked f (happenings.Turn u)) x hs (but_purges hs)) (sym (skipped places asked f ns ds now u purges may None refl))
+            subst (λ x. GoOnAlike (facts_after places asked f (happenings.Turn u)) x hs) (sym (skipped places asked f ns ds now u purges may None refl))
             (stops (facts_after places asked f (happenings.Turn u)) ns ds u.node
             (record {
               stop = ap (λ q. if q then Some u.node else None) cut;
@@ -326,19 +471,18 @@ module _ (places : List Place) (asked : List Command) where
             })
             lawful)
 
-    left_out : (h : Happening) → is_purge_turn h ≡ true → MayHappen places asked f h → IsLawful places asked (facts_after places asked f h) hs → GoOnAlike f (other f ns ds) (h ∷ hs) (but_purges hs)
+    left_out : (h : Happening) → is_purge_turn h ≡ true → MayHappen places asked f h → IsLawful places asked (facts_after places asked f h) hs → GoOnAlike f (other f ns ds) (h ∷ hs)
     left_out (happenings.Turn u) purges may lawful = purge_less u purges may lawful
     left_out _ purges may lawful = absurd cc
 
-    goes_by : (h : Happening) (q : Bool) → is_purge_turn h ≡ q → MayHappen places asked f h → IsLawful places asked (facts_after places asked f h) hs
-        → GoOnAlike f (other f ns ds) (h ∷ hs) (if not q then h ∷ but_purges hs else but_purges hs)
+    goes_by : (h : Happening) (q : Bool) → is_purge_turn h ≡ q → MayHappen places asked f h → IsLawful places asked (facts_after places asked f h) hs → GoOnAlike f (other f ns ds) (h ∷ hs)
     goes_by h true purges may lawful = left_out h purges may lawful
     goes_by h false plain may lawful =
         let g : Facts = other f ns ds in
-        let after : Facts = facts_after places asked g h in
-        one_more f g h hs (but_purges hs) (may_too places asked f ns ds now h plain may) (ends_too places asked f ns ds now h plain may)
-        (subst (λ x. GoOnAlike (facts_after places asked f h) x hs (but_purges hs)) (sym (after_too places asked f ns ds now h))
-        (goes (facts_after places asked f h) after.nodes after.records (alike_too places asked f ns ds now h plain may) lawful))
+        let one : Instead places asked f ns ds now h = instead_of places asked f ns ds now h plain may in
+        let after : Facts = facts_after places asked g one.there in
+        one_more f g h one.there hs plain one.same one.exact one.may one.ends
+        (subst (λ x. GoOnAlike (facts_after places asked f h) x hs) (sym one.after) (goes (facts_after places asked f h) after.nodes after.records one.alike lawful))
 
   goes_more : (h : Happening) (hs : List Happening) → Goes hs → Stops hs → Goes (h ∷ hs)
   unfolding IsLawful
@@ -348,7 +492,7 @@ module _ (places : List Place) (asked : List Command) where
   unfolding IsLawful facts_after
   stops_more (happenings.Stopped m) hs goes f ns ds n now lawful =
       let at : n ≡ m = (subst (MayStop f m) now.stop lawful.0.1).1 in
-      one_more f (unstopped f ns ds) (happenings.Stopped m) hs (but_purges hs) (lawful.0.0, now.told) refl
+      one_more f (unstopped f ns ds) (happenings.Stopped m) (happenings.Stopped m) hs refl refl (λ none. refl) (lawful.0.0, now.told) refl
       (goes (facts_after places asked f (happenings.Stopped m)) (set_numbered ns m None) ds
       (record { nodes = subst (λ i. Pairwise NodeLike (set_numbered f.nodes i None) (set_numbered ns i None)) at now.nodes; disks = now.disks }) lawful.1)
   stops_more (happenings.Begun c) hs goes f ns ds n now lawful = (let none = lawful.0.0.upright in let some = now.stop in absurd (cc (none, some)))
@@ -360,7 +504,7 @@ module _ (places : List Place) (asked : List Command) where
 
   all_go : (hs : List Happening) → Goes hs × Stops hs
   unfolding IsLawful facts_of
-  all_go [] = (λ f ns ds now lawful. record { lawful = tt; booked = refl; ended = refl }, λ f ns ds n now lawful. record { lawful = tt; booked = refl; ended = refl })
+  all_go [] = (λ f ns ds now lawful. record { rest = []; same = refl; exact = λ none. refl; lawful = tt; booked = refl; ended = refl }, λ f ns ds n now lawful. record { rest = []; same = refl; exact = λ none. refl; lawful = tt; booked = refl; ended = refl })
   all_go (h ∷ hs) = (goes_more h hs (all_go hs).0 (all_go hs).1, stops_more h hs (all_go hs).0)
 
 -- ---- every run
@@ -376,7 +520,7 @@ same_without : (t : History) → IsLawfulRun t → IsSameWithoutPurges t
 same_without t whole =
     let f : Facts = first_facts t.places in
     let same = (all_go t.places t.commands t.trace).0 f f.nodes f.records (first_alike f) whole in
-    record { lawful = same.lawful; booked = same.booked; answered = same.ended }
+    record { rest = same.rest; same = same.same; exact = same.exact; lawful = same.lawful; booked = same.booked; answered = same.ended }
 
 pub every_purge_changes_nothing : EveryPurgeChangesNothing
 every_purge_changes_nothing t whole = record { unseen = purges_go_unseen t whole; left_out = same_without t whole }

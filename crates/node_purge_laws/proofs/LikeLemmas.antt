@@ -1,10 +1,12 @@
 -- Nodes that differ in which rows are hidden alone do the same about each message.
 use Rattle.std.proofs.Common.{◌≡◌, ℕ, ◌+◌, ◌==◌, ◌&&◌, Bool, true, false, if◌then◌else◌, List, [], ◌∷◌, ◌++◌, map, filter, not, is_none, Option, Some, None, refl, sym, ap, subst, subst₂, ◌∙◌}
+use Rattle.std.specs.Prelude.{is_some}
 use Rattle.std.specs.List.{list_all, list_any}
 use Rattle.session_tree.specs.Live.{is_branch, next_edge}
 use Rattle.reco.specs.declared.told.Told.{Told}
 use Rattle.reco.specs.declared.told.Told.TheVariants as tolds
 use Rattle.redo_record.specs.Durable.{durable_after}
+use Rattle.redo_record.specs.Kept.{kept_after}
 use Rattle.commit_forget.specs.declared.next.Next.{Next}
 use Rattle.commit_forget.specs.declared.next.Next.TheVariants as nexts
 use Rattle.prepare_phase.specs.Acts.{first_act, answer_act, is_first_answer}
@@ -14,11 +16,14 @@ use Rattle.session_tree.specs.Tree.{step}
 use Rattle.link_session.specs.Opens.{opening_of}
 use Rattle.reco.specs.Asks.{to_each, to_one}
 use Rattle.reco.specs.Told.{live_told}
-use Rattle.node_rules.specs.Data.{Advice, Answer, Stmt, Table, TableRef, BranchId, Decision, RedoRecord, Durable, KeptRow, Live, Kind, Place, Vote, Phase, Act, Edge, Opening, Admit, Beyond, Post, Kid}
+use Rattle.node_rules.specs.Data.{Answer, Stmt, Table, TableRef, BranchId, Decision, RedoRecord, Durable, KeptRow, Live, Kind, Place, Vote, Phase, Act, Edge, Opening, Admit, Beyond, Post, Kid, Task}
 use Rattle.node_rules.specs.declared.work.Going.{Going}
 use Rattle.node_rules.specs.declared.work.Waits.{Waits}
+use Rattle.node_rules.specs.declared.work.Errand.{Errand}
+use Rattle.node_rules.specs.declared.work.Errand.TheVariants as errands
 use Rattle.node_rules.specs.declared.work.Waits.TheVariants as waiting
 use Rattle.node_rules.specs.declared.session.Session.{Session}
+use Rattle.node_rules.specs.Data.answers
 use Rattle.node_rules.specs.Data.decisions
 use Rattle.node_rules.specs.Data.kinds
 use Rattle.node_rules.specs.Data.records
@@ -27,16 +32,19 @@ use Rattle.node_rules.specs.Data.votes
 use Rattle.node_rules.specs.Data.phases
 use Rattle.node_rules.specs.Data.acts
 use Rattle.node_rules.specs.Data.admits
-use Rattle.node_rules.specs.NodeState.{NodeState, TurnDraft, Branch, nothing, saying, post, branch_at, kept_row_at, kept_row_id, with_kept_row, without_branch}
+use Rattle.node_rules.specs.NodeState.{NodeState, TurnDraft, TurnOutput, Branch, nothing, saying, post, branch_at, kept_row_at, kept_row_id, with_kept_row, without_branch}
 use Rattle.node_rules.specs.Records.{applied, with_record}
-use Rattle.node_rules.specs.Names.{Named, A_table, Behind, Unknown, Way, Runs_here, Over, Through, Nowhere_to, way_of, way_named, named_by, ref_named, table_named, table_of, ref_of}
+use Rattle.node_rules.specs.Refusals.{dtx}
+use Rattle.node_rules.specs.Names.{Named, A_table, Behind, Unknown, Way, Runs_here, Over, Through, Nowhere_to, way_of, way_named, named_by, ref_named, table_named, table_of, ref_of, is_write}
 use Rattle.node_rules.specs.Statement.{ran}
-use Rattle.node_rules.specs.Calls.{goes, statement_at, open_by, opened_waits, opened_going, takes_call, exec_by, admit, reply_by, reply_of, gone_reply}
+use Rattle.node_rules.specs.Calls.{goes, statement_at, open_by, opened_waits, opened_going, takes_call, exec_by, admit, reply_by, reply_of, gone_reply, backs_to, goes_back, task_at, hears_reply, back_heard, errand_heard, going_heard}
 use Rattle.node_rules.specs.Prepare.{drops, act_turn, sealed_record, decided_record, without_read_keys, collecting, with_comment, prepare_in, answer_in, commit_point_in, voted, commit_point_act}
 use Rattle.node_rules.specs.Commit.{beyond, parent_beyond, kid_beyond, next_on_decision, next_on_ack, next_on_forgotten, known_decision, decision_at, knows_commit, all_acked, passes, passes_commit, rollback_to, next_turn, on_decision, ack_counts, acked_by, counts_ack, on_ack, on_forgotten, commit_point_known, is_asked_again}
 use Rattle.node_rules.specs.Recovery.{on_ask_told, ask_answer}
 use Rattle.node_rules.specs.Turn.{BranchStatus, Is_live, Is_kept, Is_gone, kept_or_gone, live_or, status_of, kind_turn, stamped, output_of}
-use Rattle.node_purge_laws.specs.PurgeLaws.{row_as, RowsLike, rows_of, with_rows, IsLike, ActsLike}
+use Rattle.node_rules.specs.Data.tasks
+use Rattle.node_rules.specs.Marks.{node_back, branch_back, next_back}
+use Rattle.node_purge_laws.specs.PurgeLaws.{row_as, RowsLike, rows_of, with_rows, IsLike, written, ActsLike}
 use Rattle.node_purge_laws.proofs.RowLikeLemmas.{FoundLike, found_like, put_like, kept_like}
 
 -- ---- one row, hidden or not
@@ -106,7 +114,7 @@ module _ (d : Durable) (ks : List KeptRow) where
 
   way_same : (p : Place) (l : Live) (given : ℕ) (s : Stmt) → way_of p e l given s ≡ way_of p d l given s
   unfolding way_of
-  way_same p l given s = way_named_same p l given (named_by e (ref_of s)) ∙ ap (way_named p d l given) (named_same (ref_of s) (ref_of s).link)
+  way_same p l given s = ap (λ (w : Way). if is_some l.read_at && is_write s then Nowhere_to (dtx 21 []) else w) (way_named_same p l given (named_by e (ref_of s)) ∙ ap (way_named p d l given) (named_same (ref_of s) (ref_of s).link))
 
 -- ---- drafts
 
@@ -122,7 +130,7 @@ sessions_like ss like = record { same = ap (λ (z : NodeState). record z { sessi
 
 module _ (k : NodeState) (ks : List KeptRow) (like : RowsLike (rows_of k) ks) where
   pub recorded : (r : RedoRecord) → IsLike (with_record k r) (with_record (with_rows k ks) r)
-  unfolding applied durable_after
+  unfolding applied durable_after kept_after
   recorded (records.Boot n) = record { same = refl; rows = like }
   recorded (records.Table t) = record { same = refl; rows = like }
   recorded (records.Link l) = record { same = refl; rows = like }
@@ -136,6 +144,7 @@ module _ (k : NodeState) (ks : List KeptRow) (like : RowsLike (rows_of k) ks) wh
   recorded (records.Met b d mixed) = record { same = refl; rows = kept_like (rows_of k) ks (records.Met b d mixed) like }
   recorded (records.Forgot b) = record { same = refl; rows = kept_like (rows_of k) ks (records.Forgot b) like }
   recorded (records.Hidden b) = record { same = refl; rows = kept_like (rows_of k) ks (records.Hidden b) like }
+  recorded (records.Image i) = record { same = refl; rows = like }
 
 module _ (k : NodeState) (ks : List KeptRow) (like : RowsLike (rows_of k) ks) where
   abbrev other : NodeState
@@ -184,9 +193,9 @@ module _ (k : NodeState) (ks : List KeptRow) (like : RowsLike (rows_of k) ks) wh
 
   -- ---- statements
 
-  open_like : (p : Place) (parent : BranchId) (edge : ℕ) (root : BranchId) (depth : ℕ) (o : Option Opening) → So (λ z. open_by p z parent edge root depth o)
-  open_like p parent edge root depth (Some o) = record { wrote = refl; says = refl; ended = refl; after = record { same = refl; rows = like } }
-  open_like p parent edge root depth None = record { wrote = refl; says = refl; ended = refl; after = record { same = refl; rows = like } }
+  open_like : (p : Place) (parent : BranchId) (edge : ℕ) (root : BranchId) (depth : ℕ) (read_at : Option ℕ) (o : Option Opening) → So (λ z. open_by p z parent edge root depth read_at o)
+  open_like p parent edge root depth read_at (Some o) = record { wrote = refl; says = refl; ended = refl; after = record { same = refl; rows = like } }
+  open_like p parent edge root depth read_at None = record { wrote = refl; says = refl; ended = refl; after = record { same = refl; rows = like } }
 
   waits_like : (x : Branch) (from : BranchId) (strength : ℕ) (g : Going) (w : Waits) → So (λ z. opened_waits z x from strength g w)
   waits_like x from strength g (waiting.ForReply i) = rests
@@ -195,10 +204,6 @@ module _ (k : NodeState) (ks : List KeptRow) (like : RowsLike (rows_of k) ks) wh
   going_like : (x : Branch) (from : BranchId) (edge strength : ℕ) (o : Option Going) → So (λ z. opened_going z x from edge strength o)
   going_like x from edge strength None = rests
   going_like x from edge strength (Some g) = either (edge == next_edge x.live) (λ z. opened_waits z x from strength g g.waits) nothing (waits_like x from strength g g.waits) rests
-
-  reply_like : (x : Branch) (weight : Option ℕ) (count : ℕ) (a : Answer) (o : Option (ℕ × Edge)) → So (λ z. reply_by z x weight count a o)
-  reply_like x weight count a None = rests
-  reply_like x weight count a (Some ie) = record { wrote = refl; says = refl; ended = refl; after = record { same = refl; rows = like } }
 
   goes_like : (p : Place) (x : Branch) (s : Stmt) (given : ℕ) (w : Way) → So (λ z. goes p z x s given w)
   unfolding ran
@@ -211,10 +216,44 @@ module _ (k : NodeState) (ks : List KeptRow) (like : RowsLike (rows_of k) ks) wh
   statement_like p x s given =
       subst (λ w. DraftsLike (statement_at p k x s given) (goes p other x s given w)) (sym (way_same k.stored.durable ks p x.live given s)) (goes_like p x s given (way_of p k.stored.durable x.live given s))
 
-  exec_like : (p : Place) (x : Branch) (from : BranchId) (call given : ℕ) (advice : Option Advice) (s : Stmt) (a : Admit) → So (λ z. exec_by p z x from call given advice s a)
-  exec_like p x from call given advice s admits.Ignore = rests
-  exec_like p x from call given advice s admits.Again = record { wrote = refl; says = refl; ended = refl; after = record { same = refl; rows = like } }
-  exec_like p x from call given advice s admits.Run = statement_like p (takes_call x call advice) s given
+  -- the children of a branch go back, whichever is called next
+  from_like : (x : Branch) (step : ℕ) (next : Option ℕ) → So (λ z. backs_to z x step next)
+  from_like x step None = record { wrote = refl; says = refl; ended = refl; after = record { same = refl; rows = like } }
+  from_like x step (Some i) = record { wrote = refl; says = refl; ended = refl; after = record { same = refl; rows = like } }
+
+  -- a branch goes back, whichever child it calls first
+  backs_like : (x : Branch) (step : ℕ) (next : Option ℕ) → So (λ z. backs_to (node_back z x step) (branch_back z x step) step next)
+  backs_like x step None = record { wrote = refl; says = refl; ended = refl; after = record { same = refl; rows = like } }
+  backs_like x step (Some i) = record { wrote = refl; says = refl; ended = refl; after = record { same = refl; rows = like } }
+
+  pub back_like : (x : Branch) (step : ℕ) → So (λ z. goes_back z x step)
+  back_like x step = backs_like x step (next_back (branch_back k x step).work step 1)
+
+  -- a Reply is heard, whatever is under way
+  back_heard_like : (x : Branch) (step i : ℕ) (link : List ℕ) (a : Answer) → So (λ z. back_heard z x step i link a)
+  back_heard_like x step i link (answers.Refused r) = record { wrote = refl; says = refl; ended = refl; after = record { same = refl; rows = like } }
+  back_heard_like x step i link a = from_like x step (next_back x.work step (i + 1))
+
+  going_heard_like : (x : Branch) (i : ℕ) (link : List ℕ) (a : Answer) (o : Option Going) → So (λ z. going_heard z x i link a o)
+  going_heard_like x i link a None = rests
+  going_heard_like x i link a (Some g) = by g.errand
+    where
+      by : (e : Errand) → So (λ z. errand_heard z x i link a e)
+      by (errands.Statement s given) = record { wrote = refl; says = refl; ended = refl; after = record { same = refl; rows = like } }
+      by (errands.GoBack step) = back_heard_like x step i link a
+
+  reply_like : (x : Branch) (weight : Option ℕ) (count : ℕ) (a : Answer) (o : Option (ℕ × Edge)) → So (λ z. reply_by z x weight count a o)
+  reply_like x weight count a None = rests
+  reply_like x weight count a (Some ie) = going_heard_like (hears_reply x ie.0 weight count ie.1) ie.0 ie.1.link a x.work.going
+
+  task_like : (p : Place) (x : Branch) (t : Task) → So (λ z. task_at p z x t)
+  task_like p x (tasks.Run given advice s) = statement_like p x s given
+  task_like p x (tasks.GoBack keep) = back_like x keep
+
+  exec_like : (p : Place) (x : Branch) (from : BranchId) (call : ℕ) (t : Task) (a : Admit) → So (λ z. exec_by p z x from call t a)
+  exec_like p x from call t admits.Ignore = rests
+  exec_like p x from call t admits.Again = record { wrote = refl; says = refl; ended = refl; after = record { same = refl; rows = like } }
+  exec_like p x from call t admits.Run = task_like p (takes_call x call t) t
 
 -- it begins its collect where it works
 prepare_like : (k : NodeState) (ks : List KeptRow) → RowsLike (rows_of k) ks → (l : Live) (below : Bool) (comment : List ℕ) (phase : Phase) → DraftsLike (prepare_in k l below comment phase) (prepare_in (with_rows k ks) l below comment phase)
@@ -277,13 +316,13 @@ module _ (p : Place) (k : NodeState) (ks : List KeptRow) (like : RowsLike (rows_
   KindLike kind a b = DraftsLike (kind_turn p k from to kind a) (kind_turn p (with_rows k ks) from to kind b)
 
   pub kind_like : (kind : Kind) {a b : BranchStatus} → StandsLike a b → KindLike kind a b
-  kind_like (kinds.Open edge root depth) stands = open_like k ks like p from edge root depth (opening_of k.opens from edge)
+  kind_like (kinds.Open edge root depth read_at) stands = open_like k ks like p from edge root depth read_at (opening_of k.opens from edge)
   kind_like (kinds.Opened edge strength) (Both_live x) = going_like k ks like x from edge strength x.work.going
   kind_like (kinds.Opened edge strength) (Both_kept s h) = rests k ks like
   kind_like (kinds.Opened edge strength) Both_gone = rests k ks like
-  kind_like (kinds.Exec call given advice s) (Both_live x) = exec_like k ks like p x from call given advice s (admit x.work.came call)
-  kind_like (kinds.Exec call given advice s) (Both_kept y h) = rests k ks like
-  kind_like (kinds.Exec call given advice s) Both_gone = said k ks like (gone_reply to from call)
+  kind_like (kinds.Exec call task) (Both_live x) = exec_like k ks like p x from call task (admit x.work.came call)
+  kind_like (kinds.Exec call task) (Both_kept y h) = rests k ks like
+  kind_like (kinds.Exec call task) Both_gone = said k ks like (gone_reply to from call)
   kind_like (kinds.Reply call weight count a) (Both_live x) = reply_like k ks like x weight count a (reply_of x from call)
   kind_like (kinds.Reply call weight count a) (Both_kept s h) = rests k ks like
   kind_like (kinds.Reply call weight count a) Both_gone = rests k ks like
@@ -346,10 +385,18 @@ stand_like k ks like b = live_stand (branch_at k b) (kept_row_at k b) (item_at k
 clock_same : {k other : NodeState} → IsLike k other → k.clock ≡ other.clock
 clock_same like = sym (ap (λ (z : NodeState). z.clock) like.same)
 
-pub acts_like : (d e : TurnDraft) → DraftsLike d e → ActsLike (output_of d) (output_of e)
-acts_like d e like = record {
-  wrote = like.wrote;
-  sent = subst₂ (λ c ps. map (stamped d.after.clock) d.says ≡ map (stamped c) ps) (clock_same like.after) like.says refl;
-  ended = like.ended;
-  after = like.after;
+-- Turns that write the very same record, too.
+pub record ActsSame (o other : TurnOutput) : Type 0 where
+  pub wrote : o.wrote ≡ other.wrote
+  pub like : ActsLike o other
+
+pub acts_like : (d e : TurnDraft) → written d.wrote ≡ written e.wrote → d.says ≡ e.says → d.ended ≡ e.ended → IsLike d.after e.after → ActsLike (output_of d) (output_of e)
+acts_like d e wrote says ended after = record {
+  wrote = wrote;
+  sent = subst₂ (λ c ps. map (stamped d.after.clock) d.says ≡ map (stamped c) ps) (clock_same after) says refl;
+  ended = ended;
+  after = after;
 }
+
+pub acts_same : (d e : TurnDraft) → DraftsLike d e → ActsSame (output_of d) (output_of e)
+acts_same d e like = record { wrote = like.wrote; like = acts_like d e (ap written like.wrote) like.says like.ended like.after }

@@ -1,7 +1,7 @@
 -- In every lawful run a purge hides a row alone, and each other turn is what it would be at a node with other rows hidden.
-use Rattle.std.proofs.Common.{◌≡◌, ℕ, Bool, true, false, List, [], map, Option, Some, None, inl, inr, refl, ap, ◌∙◌}
+use Rattle.std.proofs.Common.{◌≡◌, ℕ, Bool, true, false, List, [], map, Option, Some, None, inl, inr, refl, sym, ap, ◌∙◌}
 use Rattle.std.specs.Prelude.{find}
-use Rattle.node_rules.specs.Data.{Input, KeptRow, Place}
+use Rattle.node_rules.specs.Data.{Input, KeptRow, Place, RedoRecord}
 use Rattle.node_rules.specs.Data.inputs
 use Rattle.node_rules.specs.Data.stmts
 use Rattle.node_rules.specs.Force.{may_purge, hides, purge}
@@ -13,7 +13,7 @@ use Rattle.run_rules.specs.Data.happenings
 use Rattle.run_rules.specs.Facts.{Facts, first_facts, place_at}
 use Rattle.run_rules.specs.Lawful.{IsOwed, MayHappen, History, IsLawfulRun}
 use Rattle.run_base_laws.proofs.LawfulLemmas.{lawful_each, turn_of_node}
-use Rattle.node_purge_laws.specs.PurgeLaws.{IsLike, ActsLike, is_purge}
+use Rattle.node_purge_laws.specs.PurgeLaws.{IsLike, ActsLike, written, is_purge}
 use Rattle.node_purge_laws.specs.PurgeRunLaws.{SeesNoPurge, PurgesGoUnseen}
 use Rattle.node_purge_laws.proofs.CallLikeLemmas.{purges_change_nothing_else}
 use Rattle.node_purge_laws.proofs.HideLemmas.{purges_hide_alone}
@@ -45,9 +45,18 @@ sends_none p u k false none owed = owed.1 ∙ none
 
 -- ---- any other turn
 
-owes_alike : (p : Place) (u : Turn) (k other : NodeState) (cut : Bool) → ActsLike (turn_of p k u.input) (turn_of p other u.input) → IsOwed p k u.input u.wrote u.sent cut → IsOwed p other u.input u.wrote u.sent cut
-owes_alike p u k other false acts owed = (owed.0 ∙ acts.wrote, owed.1 ∙ acts.sent)
-owes_alike p u k other true acts owed = (elim owed.0 [ inl none ↦ inl none | inr is ↦ inr (is ∙ acts.wrote) ], owed.1)
+-- what the other node owes
+record OwesAlike (p : Place) (u : Turn) (other : NodeState) (cut : Bool) : Type 0 where
+  wrote : Option RedoRecord
+  alike : written wrote ≡ written u.wrote
+  owed : IsOwed p other u.input wrote u.sent cut
+
+owes_alike : (p : Place) (u : Turn) (k other : NodeState) (cut : Bool) → ActsLike (turn_of p k u.input) (turn_of p other u.input) → IsOwed p k u.input u.wrote u.sent cut → OwesAlike p u other cut
+owes_alike p u k other false acts owed = record { wrote = (turn_of p other u.input).wrote; alike = sym (ap written owed.0 ∙ acts.wrote); owed = (refl, owed.1 ∙ acts.sent) }
+owes_alike p u k other true acts owed = elim owed.0 [
+  | inl none ↦ record { wrote = None; alike = ap written (sym none); owed = (inl refl, owed.1) }
+  | inr is ↦ record { wrote = (turn_of p other u.input).wrote; alike = sym (ap written is ∙ acts.wrote); owed = (inr refl, owed.1) }
+]
 
 -- ---- each happening
 
@@ -56,7 +65,10 @@ sees_none places asked f tr (happenings.Turn u) may = λ k up.
     (let owed = (turn_of_node places f u k asked may up).owed in
     let p : Place = place_at places u.node in (
       λ is. record { sent = sends_none p u k u.cut (silent p k u.input is) owed; after = hides_alone p k u.input is },
-      λ plain other like. (let acts = purges_change_nothing_else p k other like u.input plain in record { owed = owes_alike p u k other u.cut acts owed; ended = acts.ended; after = acts.after }),
+      λ plain other like.
+          (let acts = purges_change_nothing_else p k other like u.input plain in
+          let owes = owes_alike p u k other u.cut acts owed in
+          record { wrote = owes.wrote; alike = owes.alike; owed = owes.owed; ended = acts.ended; after = acts.after }),
     ))
 sees_none places asked f tr _ may = tt
 

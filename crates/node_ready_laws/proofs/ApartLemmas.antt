@@ -7,7 +7,7 @@ use Rattle.tran_ids.proofs.BranchLemmas.{equal_from_same, same_from_equal}
 use Rattle.redo_record.specs.Kept.{add_kept, keep_decided}
 use Rattle.redo_record.specs.Rows.{has_neighbors}
 use Rattle.node_rules.specs.Data.{BranchId, KeptRow, Live, Doubt}
-use Rattle.node_rules.specs.Words.{same, is_item_of, item_at, put_item, drop_item}
+use Rattle.node_rules.specs.Words.{same, is_item_of, item_at, put_item, drop_item, put_by_branch}
 use Rattle.node_rules.specs.NodeState.{live_id, kept_row_id, doubt_id}
 use Rattle.node_ready_laws.specs.Ids.{last_seq, IsGiven, IsUnkept, IdsAreApart}
 use Rattle.node_ready_laws.proofs.ListLemmas.{all_last, all_weaker, all_found, all_put, all_dropped, all_left, all_placed, none_of, not_found, new_id}
@@ -101,17 +101,17 @@ module _ (boot : ℕ) (seqs : List ℕ) (opened : ℕ) (lives : List Live) (kept
     decided = cond_both (has_neighbors s) (add_kept kept s) kept (λ ks. IdsAreApart boot seqs opened (drop_item live_id lives s.me) ks doubts) (λ some. gets_row) (λ none. left s.me)
 
     -- a sealed one is in doubt too
-    pub sealed : (d : Doubt) → d.branch ≡ s.me → IdsAreApart boot seqs opened (drop_item live_id lives s.me) (add_kept kept s) (doubts ++ d ∷ [])
+    pub sealed : (d : Doubt) → d.branch ≡ s.me → IdsAreApart boot seqs opened (drop_item live_id lives s.me) (add_kept kept s) (put_by_branch doubt_id doubts d)
     sealed d one = record {
       sessions = gets_row.sessions;
       live_given = gets_row.live_given;
       kept_given = gets_row.kept_given;
-      doubts_given = all_last (λ x. IsGiven boot seqs opened x.branch) doubts d now.doubts_given (subst (IsGiven boot seqs opened) (sym one) given);
-      free = all_weaker (λ l. IsUnkept kept doubts l.me × (same l.me s.me ≡ false)) (λ l. IsUnkept (add_kept kept s) (doubts ++ d ∷ []) l.me)
+      doubts_given = all_placed (λ x. IsGiven boot seqs opened x.branch) doubt_id doubts d now.doubts_given (subst (IsGiven boot seqs opened) (sym one) given);
+      free = all_weaker (λ l. IsUnkept kept doubts l.me × (same l.me s.me ≡ false)) (λ l. IsUnkept (add_kept kept s) (put_by_branch doubt_id doubts d) l.me)
           (λ l is. (
             row_free l.me is.0.0 is.1,
-            not_found doubt_id l.me (doubts ++ d ∷ [])
-                (all_last (λ x. same x.branch l.me ≡ false) doubts d (none_of doubt_id l.me doubts is.0.1) (subst (λ b. same b l.me ≡ false) (sym one) (other_way l.me s.me is.1))),
+            not_found doubt_id l.me (put_by_branch doubt_id doubts d)
+                (all_placed (λ x. same x.branch l.me ≡ false) doubt_id doubts d (none_of doubt_id l.me doubts is.0.1) (subst (λ b. same b l.me ≡ false) (sym one) (other_way l.me s.me is.1))),
           ))
           (drop_item live_id lives s.me) (all_left (λ l. IsUnkept kept doubts l.me) live_id lives s.me now.free);
     }

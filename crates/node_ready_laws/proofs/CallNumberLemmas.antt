@@ -11,7 +11,7 @@ use Rattle.node_rules.specs.NodeState.{NodeState, TurnDraft, Branch, work_id, wo
 use Rattle.node_rules.specs.Calls.{next_call}
 use Rattle.node_rules.specs.Turn.{heard, turn_of}
 use Rattle.node_rules.proofs.Steps as steps
-use Rattle.node_rules.proofs.Steps.{Step, Asked}
+use Rattle.node_rules.proofs.Steps.{Step, Asked, Goes_to, Calls_back}
 use Rattle.node_rules.proofs.TurnLemmas.{step_of}
 use Rattle.node_ready_laws.specs.Numbers.{CallsRiseByOne}
 use Rattle.node_ready_laws.proofs.ListLemmas.{all_append, all_weaker, all_found, all_put, all_dropped}
@@ -66,8 +66,12 @@ module _ (n : ℕ) (k : NodeState) (all : WorksBelow n k.works) where
   branch_below x is = branch_by x (live_at k x.live.me) is
 
   asked_below : {input : Input} {x : Branch} {s : Stmt} {given : ℕ} → Asked k input x s given → Below n x.work.calls
-  asked_below (steps.By_call m x s call rows has code live) = branch_below x live
+  asked_below (steps.By_call m x s call rows has code live may) = branch_below x live
   asked_below (steps.By_exec x from call given advice s came live runs) = branch_below x live
+
+  goes_below : {input : Input} {x : Branch} {step : ℕ} → Goes_to k input x step → Below n x.work.calls
+  goes_below (steps.By_rollback_to m x name step call has code live set) = branch_below x live
+  goes_below (steps.By_back x from call keep came live runs) = branch_below x live
 
   more : WorksBelow (n + 1) k.works
   more = works_higher n k.works all
@@ -83,9 +87,16 @@ module _ (n : ℕ) (k : NodeState) (all : WorksBelow n k.works) where
   left : (b : BranchId) → WorksBelow (n + 1) (drop_item work_id k.works b)
   left b = all_dropped (λ x. Below (n + 1) x.calls) work_id k.works b more
 
+-- a branch whose children are to go back
+calling_below : (n : ℕ) (k : NodeState) → WorksBelow n k.works → {input : Input} {x : Branch} {step from : ℕ} → Calls_back k input x step from → Below n x.work.calls
+calling_below n k all (steps.Has_gone j x step goes is) = goes_below n j (subst (λ i. WorksBelow n i.works) is all) goes
+calling_below n k all (steps.Has_heard x weight count a i e g step answered going errand done) = branch_below n k all x answered.live
+
 calls_on : (p : Place) (input : Input) (n : ℕ) {k : NodeState} {d : TurnDraft} → Step p input k d → WorksBelow n k.works → WorksBelow (n + 1) d.after.works
-calls_on p input n (steps.Begins m s call rows fit none step) all = calls_on p input n step all
-calls_on p input n (steps.Pends m l given call has live code step) all = calls_on p input n step all
+calls_on p input n (steps.Begins m s read_at call begins fit none step) all = calls_on p input n step all
+calls_on p input n (steps.Counts_call m s call counts step) all = calls_on p input n step all
+calls_on p input n (steps.Goes_back x step goes next) all = calls_on p input n next all
+calls_on p input n (steps.Pends m l given call has live code writer step) all = calls_on p input n step all
 calls_on p input n (steps.Lets_reads_go l comment site_below live begins step) all = calls_on p input n step all
 calls_on p input n (steps.Counts_ack s from kept came counts step) all = calls_on p input n step all
 calls_on p input n (steps.Runs {k = k} x s given t asked way) all = same_calls n k all _ (asked_below n k all asked)
@@ -95,6 +106,8 @@ calls_on p input n (steps.Opens {k = k} x s given node link table asked way) all
 calls_on p input n (steps.Goes_on {k = k} x from strength g link opened) all =
     one_more n k all _ (called_below n (record x.work { calls = x.work.calls ++ 0 ∷ [] }) _ (all_append (λ c. c ≤ n) x.work.calls (0 ∷ []) (branch_below n k all x opened.live) (omega arith, tt)))
 calls_on p input n (steps.Hears_reply {k = k} x weight count a i e answered) all = same_calls n k all _ (branch_below n k all x answered.live)
+calls_on p input n (steps.Backs {k = k} x step from i calls next) all = one_more n k all _ (called_below n x.work i (calling_below n k all calls))
+calls_on p input n (steps.Is_back {k = k} x step from calls none) all = same_calls n k all _ (calling_below n k all calls)
 calls_on p input n (steps.Acts {k = k} l site_below acts.Rest why) all = more n k all
 calls_on p input n (steps.Acts {k = k} l site_below acts.AskDown why) all = more n k all
 calls_on p input n (steps.Acts {k = k} l site_below acts.SayReady why) all = more n k all
@@ -113,7 +126,8 @@ calls_on p input n (steps.Does {k = k} s from nexts.SayAck kept why) all = more 
 calls_on p input n (steps.Does {k = k} s from (nexts.End d) kept why) all = more n k all
 calls_on p input n (steps.Does {k = k} s from (nexts.Meet d mixed) kept why) all = more n k all
 calls_on p input n (steps.Does {k = k} s from nexts.Forget kept why) all = more n k all
-calls_on p input n (steps.Rolls_back {k = k} m x call has live) all = left n k all x.live.me
+calls_on p input n (steps.Leaves {k = k} m s d x call ends has live) all = left n k all x.live.me
+calls_on p input n (steps.Sets_savepoint {k = k} m x name call has code live) all = same_calls n k all _ (branch_below n k all x live)
 calls_on p input n (steps.Gives_up {k = k} m x gives has calls live) all = same_calls n k all _ (branch_below n k all x live)
 calls_on p input n (steps.Gives_up_commit {k = k} m b (Some l) gives has calls live) all = left n k all l.me
 calls_on p input n (steps.Gives_up_commit {k = k} m b None gives has calls live) all = more n k all

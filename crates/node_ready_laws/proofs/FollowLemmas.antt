@@ -13,14 +13,15 @@ use Rattle.node_rules.specs.Words.{same_text, put_item}
 use Rattle.node_rules.specs.NodeState.{NodeState, Stored, TurnDraft, kept_row_id}
 use Rattle.node_rules.specs.Commit.{acked_by}
 use Rattle.node_rules.specs.Prepare.{own_changes, sealed_record, decided_record}
-use Rattle.node_rules.specs.Sessions.{with_call}
+use Rattle.node_rules.specs.Sessions.{with_call, session_at}
 use Rattle.node_rules.specs.Inputs.{IsCall}
 use Rattle.node_rules.specs.Turn.{heard, turn_of}
 use Rattle.node_rules.proofs.Steps as steps
 use Rattle.node_rules.proofs.Steps.{Step, Makes}
 use Rattle.node_rules.proofs.StepLemmas.{IsLive, acting_live}
-use Rattle.node_rules.proofs.SessionLemmas.{seqs, call_seqs}
+use Rattle.node_rules.proofs.SessionLemmas.{seqs, call_seqs, counted_seqs}
 use Rattle.node_rules.proofs.TurnLemmas.{step_of}
+use Rattle.node_rules.specs.Client.{counted}
 use Rattle.node_ready_laws.specs.Rows.{IsChangeAt, AreChangesAt, HasRows, BringsWhole}
 use Rattle.node_ready_laws.specs.Names.{BringsNamed}
 use Rattle.node_ready_laws.specs.Ids.{HasOwnIds}
@@ -31,6 +32,7 @@ use Rattle.node_ready_laws.proofs.RanLemmas.{own_there}
 use Rattle.node_ready_laws.proofs.GivenLemmas.{boot_given}
 use Rattle.node_ready_laws.proofs.ApartLemmas.{live_given, live_free}
 use Rattle.node_ready_laws.proofs.IdStepLemmas.{still, begun_ids, with_ack, ids_heard}
+use Rattle.node_ready_laws.proofs.RowStepLemmas.{back}
 
 or_left : (a b : Bool) → (a || b) ≡ false → a ≡ false
 or_left true b is = absurd cc
@@ -61,6 +63,7 @@ module _ (k : NodeState) (now : HasRows k) where
   made_next whole named call (steps.Makes_link l free) = (record { listed = free; stored = tt }, subst BringsNamed call named)
   made_next whole named call (steps.Makes_synonym y free) = (record { listed = free; stored = tt }, subst BringsNamed call named)
   made_next whole named call (steps.Sets_recovery on) = (record { listed = tt; stored = tt }, tt)
+  made_next whole named call (steps.Sets_strength strength) = (record { listed = tt; stored = tt }, tt)
 
   module _ (ids : HasOwnIds k) (l : Live) (live : IsLive k l.me) where
     of_start : l.me.boot ≤ k.stored.durable.boot
@@ -98,8 +101,10 @@ unnoted s kept (Some r) is = rows_do_not_matter (with_rows s kept) s.durable.kep
 -- ---- steps
 
 next_on : (p : Place) (input : Input) → BringsWhole input → BringsNamed input → {k : NodeState} {d : TurnDraft} → Step p input k d → HasRows k → HasOwnIds k → IfSome d.wrote (IsNext k.stored)
-next_on p input whole named (steps.Begins {k = k} n s call rows fit none step) now ids = next_on p input whole named step now (begun_ids k ids p n fit)
-next_on p input whole named (steps.Pends {k = k} n l given call has live code step) now ids = next_on p input whole named step now (still k ids (with_call k.sessions n pending.Commit) (call_seqs k.sessions n pending.Commit))
+next_on p input whole named (steps.Begins {k = k} n s read_at call begins fit none step) now ids = next_on p input whole named step now (begun_ids k ids p n read_at fit)
+next_on p input whole named (steps.Counts_call {k = k} n s call counts step) now ids = next_on p input whole named step now (still k ids (counted k n).sessions (counted_seqs k.sessions n (session_at k.sessions n).root))
+next_on p input whole named (steps.Goes_back {k = k} x step goes next) now ids = next_on p input whole named next (back k now x step) ids
+next_on p input whole named (steps.Pends {k = k} n l given call has live code writer step) now ids = next_on p input whole named step now (still k ids (with_call k.sessions n pending.Commit) (call_seqs k.sessions n pending.Commit))
 next_on p input whole named (steps.Lets_reads_go l comment site_below live begins step) now ids = next_on p input whole named step now ids
 next_on p input whole named (steps.Counts_ack {k = k} {d = d} s from kept came counts step) now ids = unnoted k.stored (put_item kept_row_id k.stored.durable.kept (acked_by s from)) d.wrote (next_on p input whole named step now (with_ack k ids s from kept))
 next_on p input whole named (steps.Acts {k = k} l site_below acts.Seal why) now ids = sealed_next k now ids l (acting_live why) None
@@ -123,6 +128,7 @@ next_on p input whole named (steps.Forces_given n id m b call forces) now ids = 
 next_on p input whole named (steps.Forces_commit n id b call forces) now ids = (record { listed = tt; stored = tt }, tt)
 next_on p input whole named (steps.Forces_rollback n id b call forces) now ids = (record { listed = tt; stored = tt }, tt)
 next_on p input whole named (steps.Hides n mixed id s call found) now ids = (record { listed = tt; stored = tt }, tt)
+next_on p input whole named (steps.Images checkpoint) now ids = (record { listed = tt; stored = tt }, tt)
 next_on p input whole named (steps.Gives_up_commit n b (Some l) gives has calls live) now ids = tt
 next_on p input whole named (steps.Gives_up_commit n b None gives has calls live) now ids = tt
 next_on p input whole named _ now ids = tt
@@ -133,6 +139,7 @@ heard_next k (inputs.Message m) w now next = next now
 heard_next k (inputs.Call n s) w now next = next now
 heard_next k (inputs.GiveUp n) w now next = next now
 heard_next k inputs.Reco w now next = next now
+heard_next k inputs.Checkpoint w now next = next now
 
 pub records_follow : RecordsFollow
 unfolding turn_of

@@ -23,15 +23,16 @@ use Rattle.node_rules.specs.Statement.{ran, after_run}
 use Rattle.node_rules.specs.Calls.{with_edge, hears_reply, heard_sessions, next_child, opens_branch}
 use Rattle.node_rules.specs.Prepare.{is_alone, ready, own_changes, sealed_of, decided_of, sealed_record, decided_record}
 use Rattle.node_rules.specs.Commit.{acked_by}
-use Rattle.node_rules.specs.Client.{new_root, begun_by}
+use Rattle.node_rules.specs.Client.{new_root, begun_by, counted}
 use Rattle.node_rules.specs.Inputs.{IsSession}
 use Rattle.node_rules.specs.Turn.{heard, turn_of, start_of}
 use Rattle.node_rules.proofs.Steps as steps
 use Rattle.node_rules.proofs.Steps.{Step, IsKept}
 use Rattle.node_rules.proofs.StandLemmas.{live_so}
-use Rattle.node_rules.proofs.StepLemmas.{IsLive, asked_live, acting_live, made_so}
-use Rattle.node_rules.proofs.SessionLemmas.{seqs, session_seq, set_seqs, call_seqs, needs_seqs, ended_seqs, pends_seqs, answered_seqs, heard_seqs, decided_seqs, abandoned_seqs, ended_if_seqs, still_seqs}
+use Rattle.node_rules.proofs.StepLemmas.{IsLive, asked_live, acting_live, made_so, calling_back_live}
+use Rattle.node_rules.proofs.SessionLemmas.{seqs, session_seq, set_seqs, call_seqs, needs_seqs, ended_seqs, pends_seqs, answered_seqs, heard_seqs, decided_seqs, abandoned_seqs, ended_if_seqs, still_seqs, counted_seqs}
 use Rattle.node_rules.proofs.TurnLemmas.{step_of}
+use Rattle.node_rules.specs.Images.{image_at}
 use Rattle.node_ready_laws.specs.Ids.{last_seq, IsGiven, Before_start, In_session, Over_link, IsUnkept, IdsAreApart, HasOwnIds, IdsStay, NoIdsAtFirst, LivesAreFree, NewIdsAreNew}
 use Rattle.node_ready_laws.proofs.ListLemmas.{all_put, all_found, new_id}
 use Rattle.node_ready_laws.proofs.GivenLemmas.{seqs_rise, seq_set}
@@ -98,21 +99,21 @@ module _ (k : NodeState) (now : HasOwnIds k) where
   child_is_new p (Over_link same_start high given) = omega (arith, given)
 
   -- the root of a session, of the next number
-  pub begun_ids : (p : Place) (n : ℕ) → IsSession n → HasOwnIds (begun_by p k n None)
-  begun_ids p n fit =
+  pub begun_ids : (p : Place) (n : ℕ) (read_at : Option ℕ) → IsSession n → HasOwnIds (begun_by p k n read_at None)
+  begun_ids p n read_at fit =
       let root : BranchId = new_root p k n in
       let set : seqs (with_root k.sessions n root) ≡ set_numbered (seqs k.sessions) n root.seq = set_seqs k.sessions n _ in
       let was : (session_at k.sessions n).seq ≡ last_seq (seqs k.sessions) n = session_seq k.sessions n in
-      subst (λ ms. IdsAreApart k.stored.durable.boot ms (length k.opens) (begun_by p k n None).lives k.stored.durable.kept k.stored.doubts) (sym set)
+      subst (λ ms. IdsAreApart k.stored.durable.boot ms (length k.opens) (begun_by p k n read_at None).lives k.stored.durable.kept k.stored.doubts) (sym set)
       (grown k.stored.durable.boot (seqs k.sessions) (length k.opens) k.lives k.stored.durable.kept k.stored.doubts now (set_numbered (seqs k.sessions) n root.seq) (length k.opens) _
       (set_length (seqs k.sessions) n root.seq ∙ now.sessions) (seqs_rise (seqs k.sessions) n root.seq (omega (arith, was))) (omega arith) (root_is_new p n fit.1)
       (In_session refl fit.1 (let is : last_seq (set_numbered (seqs k.sessions) n root.seq) n ≡ root.seq = seq_set (seqs k.sessions) n root.seq fit now.sessions in omega (arith, is))))
 
   -- a branch that is opened over a link, of the next session above 64
-  opened_ids : (p : Place) (parent : BranchId) (edge : ℕ) (root : BranchId) (depth : ℕ) → HasOwnIds (opens_branch p k parent edge root depth)
-  opened_ids p parent edge root depth =
-      let more : length (opens_branch p k parent edge root depth).opens ≡ length k.opens + 1 = length-append k.opens _ in
-      grown k.stored.durable.boot (seqs k.sessions) (length k.opens) k.lives k.stored.durable.kept k.stored.doubts now (seqs k.sessions) (length (opens_branch p k parent edge root depth).opens) _
+  opened_ids : (p : Place) (parent : BranchId) (edge : ℕ) (root : BranchId) (depth : ℕ) (read_at : Option ℕ) → HasOwnIds (opens_branch p k parent edge root depth read_at)
+  opened_ids p parent edge root depth read_at =
+      let more : length (opens_branch p k parent edge root depth read_at).opens ≡ length k.opens + 1 = length-append k.opens _ in
+      grown k.stored.durable.boot (seqs k.sessions) (length k.opens) k.lives k.stored.durable.kept k.stored.doubts now (seqs k.sessions) (length (opens_branch p k parent edge root depth read_at).opens) _
       now.sessions (λ n. omega arith) (omega (arith, more)) (child_is_new p) (Over_link refl (omega arith) (omega (arith, more)))
 
   new_ids : (p : Place) → ((live_at k (next_child p k) ≡ None) × IsUnkept k.stored.durable.kept k.stored.doubts (next_child p k)) × ((n : ℕ) → IsSession n → (live_at k (new_root p k n) ≡ None) × IsUnkept k.stored.durable.kept k.stored.doubts (new_root p k n))
@@ -123,8 +124,10 @@ module _ (k : NodeState) (now : HasOwnIds k) where
 
 -- each step leaves them so
 pub ids_on : (p : Place) (input : Input) {k : NodeState} {d : TurnDraft} → Step p input k d → HasOwnIds k → HasOwnIds d.after
-ids_on p input (steps.Begins {k = k} n s call rows fit none step) now = ids_on p input step (begun_ids k now p n fit)
-ids_on p input (steps.Pends {k = k} n l given call has live code step) now = ids_on p input step (still k now (with_call k.sessions n pending.Commit) (call_seqs k.sessions n pending.Commit))
+ids_on p input (steps.Begins {k = k} n s read_at call begins fit none step) now = ids_on p input step (begun_ids k now p n read_at fit)
+ids_on p input (steps.Counts_call {k = k} n s call counts step) now = ids_on p input step (still k now (counted k n).sessions (counted_seqs k.sessions n (session_at k.sessions n).root))
+ids_on p input (steps.Goes_back x step goes next) now = ids_on p input next now
+ids_on p input (steps.Pends {k = k} n l given call has live code writer step) now = ids_on p input step (still k now (with_call k.sessions n pending.Commit) (call_seqs k.sessions n pending.Commit))
 ids_on p input (steps.Lets_reads_go l comment site_below live begins step) now = ids_on p input step now
 ids_on p input (steps.Counts_ack {k = k} s from kept came counts step) now = ids_on p input step (with_ack k now s from kept)
 ids_on p input (steps.Runs {k = k} x s given t asked way) now =
@@ -140,7 +143,9 @@ ids_on p input (steps.Hears_reply {k = k} x weight count a i e answered) now =
     let l : Live = (hears_reply x i weight count e).live in
     let ss : List Session = heard_sessions k.sessions l a in
     with_changed k now _ (answered_seqs ss l x.live.parent ∙ heard_seqs k.sessions l a) l (x.live, live_so k x.live.me x answered.live)
-ids_on p input (steps.Opens_branch {k = k} to parent edge root depth came new) now = opened_ids k now p parent edge root depth
+ids_on p input (steps.Backs {k = k} x step from i calls next) now = with_changed k now _ (pends_seqs k.sessions x.live) x.live (calling_back_live calls)
+ids_on p input (steps.Is_back {k = k} x step from calls none) now = with_changed k now _ (answered_seqs k.sessions x.live x.live.parent) x.live (calling_back_live calls)
+ids_on p input (steps.Opens_branch {k = k} to parent edge root depth read_at came new) now = opened_ids k now p parent edge root depth read_at
 ids_on p input (steps.Acts {k = k} l site_below acts.Rest why) now = with_changed k now k.sessions refl l (acting_live why)
 ids_on p input (steps.Acts {k = k} l site_below acts.AskDown why) now = with_changed k now k.sessions refl l (acting_live why)
 ids_on p input (steps.Acts {k = k} l site_below acts.SayReady why) now = with_changed k now k.sessions refl (ready l) (acting_live why)
@@ -159,13 +164,15 @@ ids_on p input (steps.Does s from nexts.Rest kept why) now = now
 ids_on p input (steps.Does s from nexts.AckToward kept why) now = now
 ids_on p input (steps.Does s from nexts.SayForgotten kept why) now = now
 ids_on p input (steps.Does s from nexts.SayAck kept why) now = now
-ids_on p input (steps.Makes_record {k = k} n s r d call makes) now = recorded k now k.sessions refl r (made_so AddsNone (λ t. tt) (λ l. tt) (λ y. tt) (λ on. tt) makes)
+ids_on p input (steps.Makes_record {k = k} n s r d call makes) now = recorded k now k.sessions refl r (made_so AddsNone (λ t. tt) (λ l. tt) (λ y. tt) (λ setting. tt) makes)
 ids_on p input (steps.Forces_given {k = k} n id m b call named) now = recorded k now _ (ended_seqs k.sessions b) (records.Forced b (decisions.Commit m) true) tt
 ids_on p input (steps.Forces_commit {k = k} n id b call named) now = recorded k now _ (ended_seqs k.sessions b) (records.Forced b (decisions.Commit (k.clock + 1)) false) tt
 ids_on p input (steps.Forces_rollback {k = k} n id b call named) now = recorded k now _ (ended_seqs k.sessions b) (records.Forced b decisions.Rollback false) tt
 ids_on p input (steps.Hides {k = k} n mixed id s call found) now = recorded k now k.sessions refl (records.Hidden s.me) tt
 ids_on p input (steps.Advises {k = k} n a call) now = still k now _ (still_seqs k.sessions n (record (session_at k.sessions n) { advice = a }) refl)
-ids_on p input (steps.Rolls_back {k = k} n x call has live) now = without_live k now _ (still_seqs k.sessions n (no_transaction (session_at k.sessions n)) refl) x.live.me
+ids_on p input (steps.Leaves {k = k} n s d x call ends has live) now = without_live k now _ (still_seqs k.sessions n (no_transaction (session_at k.sessions n)) refl) x.live.me
+ids_on p input (steps.Sets_savepoint {k = k} n x name call has code live) now = with_changed k now k.sessions refl x.live (x.live, live_so k x.live.me x live)
+ids_on p input (steps.Images {k = k} checkpoint) now = recorded k now k.sessions refl (records.Image (image_at k.stored k.clock)) tt
 ids_on p input (steps.Gives_up {k = k} n x gives has calls live) now =
     with_changed k now _ (needs_seqs (with_call k.sessions n pending.NoCall) n (dtx 3 []).code ∙ call_seqs k.sessions n pending.NoCall) x.live (x.live, live_so k x.live.me x live)
 ids_on p input (steps.Gives_up_commit {k = k} n b (Some l) gives has calls live) now = without_live k now _ (ended_seqs k.sessions l.me) l.me

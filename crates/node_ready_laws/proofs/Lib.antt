@@ -1,6 +1,7 @@
 pub mod ListLemmas
 pub mod TableLemmas
 pub mod RecordLemmas
+pub mod VersionLemmas
 pub mod RanLemmas
 pub mod RowStepLemmas
 pub mod NumberLemmas

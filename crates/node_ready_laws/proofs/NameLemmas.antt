@@ -68,6 +68,7 @@ names_after d (records.Forced b o given) is now = now
 names_after d (records.Met b o mixed) is now = now
 names_after d (records.Forgot b) is now = now
 names_after d (records.Hidden b) is now = now
+names_after d (records.Image i) is now = now
 
 -- a record that a client's statement makes
 pub makes_names : {input : Input} {k : NodeState} {n : ℕ} {s : Stmt} {r : RedoRecord} {d : Done} → BringsNamed input → IsCall input n s → Makes k s r d → KeepsNames r
@@ -75,13 +76,16 @@ makes_names named call (steps.Makes_table t free) = tt
 makes_names named call (steps.Makes_link l free) = subst BringsNamed call named
 makes_names named call (steps.Makes_synonym y free) = subst BringsNamed call named
 makes_names named call (steps.Sets_recovery on) = tt
+makes_names named call (steps.Sets_strength strength) = tt
 
 -- ---- steps
 
 names_on : (p : Place) (input : Input) → BringsNamed input → {k : NodeState} {d : TurnDraft} → Step p input k d → HasNames k → HasNames d.after
 unfolding applied durable_after
-names_on p input named (steps.Begins n s call rows fit none step) now = names_on p input named step now
-names_on p input named (steps.Pends n l given call has live code step) now = names_on p input named step now
+names_on p input named (steps.Begins n s read_at call begins fit none step) now = names_on p input named step now
+names_on p input named (steps.Counts_call n s call counts step) now = names_on p input named step now
+names_on p input named (steps.Goes_back x step goes next) now = names_on p input named next now
+names_on p input named (steps.Pends n l given call has live code writer step) now = names_on p input named step now
 names_on p input named (steps.Lets_reads_go l comment site_below live begins step) now = names_on p input named step now
 names_on p input named (steps.Counts_ack s from kept came counts step) now = names_on p input named step now
 names_on p input named (steps.Makes_record {k = k} n s r d call makes) now = names_after k.stored.durable r (makes_names named call makes) now

@@ -18,8 +18,10 @@ abbrev Rises : NodeState → NodeState → Type 0
 Rises k x = (x.clock ≤ k.clock + 1) × (length x.opens ≤ length k.opens + 1)
 
 rises_on : (p : Place) (input : Input) {k : NodeState} {d : TurnDraft} → Step p input k d → Rises k d.after
-rises_on p input (steps.Begins n s call rows fit none step) = rises_on p input step
-rises_on p input (steps.Pends n l given call has live code step) = rises_on p input step
+rises_on p input (steps.Begins n s read_at call begins fit none step) = rises_on p input step
+rises_on p input (steps.Counts_call n s call counts step) = rises_on p input step
+rises_on p input (steps.Goes_back x step goes next) = rises_on p input next
+rises_on p input (steps.Pends n l given call has live code writer step) = rises_on p input step
 rises_on p input (steps.Lets_reads_go l comment site_below live begins step) = rises_on p input step
 rises_on p input (steps.Counts_ack s from kept came counts step) = rises_on p input step
 rises_on p input (steps.Acts l site_below acts.Rest why) = (omega arith, omega arith)
@@ -40,7 +42,7 @@ rises_on p input (steps.Does s from (nexts.Meet d mixed) kept why) = (omega arit
 rises_on p input (steps.Does s from nexts.Forget kept why) = (omega arith, omega arith)
 rises_on p input (steps.Gives_up_commit n b (Some l) gives has calls live) = (omega arith, omega arith)
 rises_on p input (steps.Gives_up_commit n b None gives has calls live) = (omega arith, omega arith)
-rises_on p input (steps.Opens_branch {k = k} to parent edge root depth came new) = (omega arith, omega (arith, length-append k.opens (new_opening p k parent edge ∷ [])))
+rises_on p input (steps.Opens_branch {k = k} to parent edge root depth read_at came new) = (omega arith, omega (arith, length-append k.opens (new_opening p k parent edge ∷ [])))
 rises_on p input _ = (omega arith, omega arith)
 
 opens_heard : (k : NodeState) (input : Input) → (heard k input).opens ≡ k.opens
@@ -48,6 +50,7 @@ opens_heard k (inputs.Message m) = refl
 opens_heard k (inputs.Call n s) = refl
 opens_heard k (inputs.GiveUp n) = refl
 opens_heard k inputs.Reco = refl
+opens_heard k inputs.Checkpoint = refl
 
 pub clocks_rise_by_one : ClocksRiseByOne
 unfolding turn_of

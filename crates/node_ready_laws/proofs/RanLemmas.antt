@@ -6,7 +6,7 @@ use Rattle.node_rules.specs.Data.{Value, Change, Table, Refusal, Done, BranchId,
 use Rattle.node_rules.specs.Words.{item_at}
 use Rattle.node_rules.specs.Rows.{rows_of_table, changes_of, set_over}
 use Rattle.node_rules.specs.NodeState.{NodeState, own_id, sets_of, sets_at}
-use Rattle.node_rules.specs.Statement.{StmtOutcome, Refuses, Reads, Writes, view, ground_of, ran, owns_after}
+use Rattle.node_rules.specs.Statement.{StmtOutcome, Refuses, Reads, Writes, view, ground_of, ran, owns_after, rows_read, reads_at}
 use Rattle.sql_check.specs.Checks.{checked}
 use Rattle.sql_check.specs.Refusals.{else_refuse}
 use Rattle.sql_eval.specs.declared.meant.Meant.{Meant}
@@ -16,10 +16,11 @@ use Rattle.sql_eval.specs.Laws.{has_one_key, AreRowsOf, IsChangeOf}
 use Rattle.sql_eval.proofs.RowLaws.{rows_stay, changes_are_of_table}
 use Rattle.sql_eval.proofs.TableLaws.{whole_tables_have_one_key}
 use Rattle.row_locks.specs.Locks.{keys_held}
-use Rattle.stmt_run.specs.Run.{StmtContext, in_doubt_refusal, locked_refusal, space_refusal, ran_within, ran_meant, ran_locked, ran_checked, ran_over}
-use Rattle.node_ready_laws.specs.Rows.{table_named, IsChangeAt, AreChangesAt, HasRows}
+use Rattle.stmt_run.specs.Run.{StmtContext, in_doubt_refusal, locked_refusal, space_refusal, ran_within, ran_meant, ran_locked, ran_checked, ran_over, too_old_refusal}
+use Rattle.node_ready_laws.specs.Rows.{table_named, IsChangeAt, AreChangesAt, HasRows, AreRows}
 use Rattle.node_ready_laws.proofs.ListLemmas.{all_append, all_weaker, all_found, all_put}
 use Rattle.node_ready_laws.proofs.TableLemmas.{named_changes}
+use Rattle.node_ready_laws.proofs.VersionLemmas.{rows_at_scn}
 
 -- what a run changes is such
 abbrev Changes : (Change → Type 0) → StmtOutcome → Type 0
@@ -42,7 +43,7 @@ module _ (P : Change → Type 0) (g : StmtContext) (s : Stmt) (t : Table) where
 
   accepted : (o : Option Refusal) → checked s t ≡ o → (checked s t ≡ None → (d : Done) (n : ℕ) (cs : List Change) → meant_over s t g.view ≡ meants.Changes d n cs → AllByRecursion P cs) → Changes P (ran_checked g s t o)
   accepted (Some r) is new = tt
-  accepted None is new = locked (else_refuse (in_doubt_refusal g t (examined s t g.view (keys_held g.locks t.name))) (locked_refusal g t (written s t g.view))) (new is)
+  accepted None is new = locked (else_refuse (too_old_refusal g) (else_refuse (in_doubt_refusal g t (examined s t g.view (keys_held g.locks t.name))) (locked_refusal g t (written s t g.view)))) (new is)
 
   over : has_one_key t ≡ true → AreRowsOf t g.view → ((c : Change) → IsChangeOf t c → P c) → Changes P (ran_over g s t)
   unfolding ran_over
@@ -62,6 +63,12 @@ module _ (k : NodeState) (now : HasRows k) (b : BranchId) where
   pub own_there : AreChangesAt k.stored.durable.tables (changes_of (sets_at k.owns b))
   own_there = own_by (item_at own_id k.owns b) refl
 
+module _ (k : NodeState) (now : HasRows k) where
+  -- what a branch reads are rows of their tables, also at an SCN
+  pub read_rows : (read_at : Option ℕ) → AreRows k.stored.durable.tables (rows_read k read_at) k.owns k.stored.doubts k.versions.kept
+  read_rows None = now
+  read_rows (Some scn) = rows_at_scn k.stored.durable.tables k.stored.rows k.owns k.stored.doubts k.versions scn now
+
 module _ (k : NodeState) (now : HasRows k) (b : BranchId) (t : Table) (there : table_named k.stored.durable.tables t.name ≡ Some t) where
   own : AreChangesAt k.stored.durable.tables (changes_of (sets_at k.owns b))
   own = own_there k now b
@@ -71,7 +78,7 @@ module _ (k : NodeState) (now : HasRows k) (b : BranchId) (t : Table) (there : t
   one_key = whole_tables_have_one_key t (all_found _ _ k.stored.durable.tables t now.whole there)
 
   pub seen : AreRowsOf t (view k b t.name)
-  seen = rows_stay t _ (changes_of (sets_at k.owns b)) (all_found (λ x. AreRowsOf x (rows_of_table k.stored.rows x.name)) _ k.stored.durable.tables t now.fit there)
+  seen = rows_stay t _ (changes_of (sets_at k.owns b)) (all_found (λ x. AreRowsOf x (rows_of_table (rows_read k (reads_at k b)) x.name)) _ k.stored.durable.tables t (read_rows k now (reads_at k b)).fit there)
       (named_changes k.stored.durable.tables t (changes_of (sets_at k.owns b)) there own)
 
   changed : (r : StmtOutcome) → Changes (IsChangeAt k.stored.durable.tables) r → AllByRecursion (λ o. AreChangesAt k.stored.durable.tables (changes_of o.sets)) (owns_after k.owns b (view k b t.name) r)

@@ -30,6 +30,7 @@ heard_within k (inputs.Message m) n low clock = omega (arith, low, clock)
 heard_within k (inputs.Call session s) n low clock = clock
 heard_within k (inputs.GiveUp session) n low clock = clock
 heard_within k inputs.Reco n low clock = clock
+heard_within k inputs.Checkpoint n low clock = clock
 
 pub numbers_stay_within : NumbersStayWithin
 numbers_stay_within p k input n fit low within =

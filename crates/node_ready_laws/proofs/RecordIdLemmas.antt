@@ -37,6 +37,7 @@ boot_still d (records.Forced b o given) none = refl
 boot_still d (records.Met b o mixed) none = refl
 boot_still d (records.Forgot b) none = refl
 boot_still d (records.Hidden b) none = refl
+boot_still d (records.Image i) none = refl
 
 -- rows are of branches that were kept
 pub rows_among : (d : Durable) (r : RedoRecord) → AddsNone r → AreAmong kept_row_id d.kept (durable_after d r).kept
@@ -57,6 +58,7 @@ rows_among d (records.Met b (decisions.Commit n) false) none P all = all_changed
 rows_among d (records.Met b decisions.Rollback false) none P all = all_filtered (λ s. P s.me) _ d.kept all
 rows_among d (records.Forgot b) none P all = all_changed (λ s. P s.me) (stands_at b) forgot_as (λ s is. is) (drop_where (is_done b) d.kept) (all_filtered (λ s. P s.me) _ d.kept all)
 rows_among d (records.Hidden b) none P all = all_changed (λ s. P s.me) (stands_at b) hidden_as (λ s is. is) d.kept all
+rows_among d (records.Image i) none P all = all
 
 -- branches in doubt were so before
 pub doubts_among : (rows : List TableRows) (ds : List Doubt) (r : RedoRecord) → AddsNone r → AreAmong doubt_id ds (doubts_after rows ds r)

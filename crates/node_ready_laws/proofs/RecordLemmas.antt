@@ -15,16 +15,17 @@ use Rattle.sql_statement.specs.Whole.{IsWholeTable}
 use Rattle.sql_eval.specs.Laws.{AreRowsOf}
 use Rattle.sql_eval.proofs.RowLaws.{rows_stay}
 use Rattle.node_ready_laws.specs.Rows.{table_named, AreChangesAt, AreRows}
-use Rattle.node_ready_laws.proofs.ListLemmas.{all_last, all_weaker, all_both, all_found, all_dropped, found_in_more, none_found}
+use Rattle.node_ready_laws.proofs.ListLemmas.{all_last, all_weaker, all_both, all_found, all_dropped, found_in_more, none_found, all_placed}
 use Rattle.node_ready_laws.proofs.TableLemmas.{rows_changed, names_changed, rows_added, rows_new, names_added, tables_named, same_self, under, rows_there, changes_more, named_changes}
+use Rattle.read_only_tx.specs.Versions.{Version}
 
 or_left : (a b : Bool) → (a || b) ≡ false → a ≡ false
 or_left true b is = absurd cc
 or_left false b is = refl
 
-module _ (ts : List Table) (rows : List TableRows) (owns : List Owned) (doubts : List Doubt) (now : AreRows ts rows owns doubts) where
+module _ (ts : List Table) (rows : List TableRows) (owns : List Owned) (doubts : List Doubt) (vs : List Version) (now : AreRows ts rows owns doubts vs) where
   -- changes of tables that are there go into the rows
-  pub rows_with : (cs : List Change) → AreChangesAt ts cs → AreRows ts (apply_all rows cs) owns doubts
+  pub rows_with : (cs : List Change) → AreChangesAt ts cs → AreRows ts (apply_all rows cs) owns doubts vs
   rows_with cs at = record {
     whole = now.whole;
     own_names = now.own_names;
@@ -34,10 +35,11 @@ module _ (ts : List Table) (rows : List TableRows) (owns : List Owned) (doubts :
     names = names_changed rows cs ∙ now.names;
     own = now.own;
     held_back = now.held_back;
+    behind = now.behind;
   }
 
   -- a table of a new name comes behind the others, without rows
-  pub table_with : (t : Table) → IsWholeTable t → list_any (λ x. same_text x.name t.name) ts ≡ false → AreRows (ts ++ t ∷ []) (with_table rows t.name) owns doubts
+  pub table_with : (t : Table) → IsWholeTable t → list_any (λ x. same_text x.name t.name) ts ≡ false → AreRows (ts ++ t ∷ []) (with_table rows t.name) owns doubts vs
   table_with t whole new = record {
     whole = all_last IsWholeTable ts t now.whole whole;
     own_names = all_last _ ts t
@@ -50,19 +52,20 @@ module _ (ts : List Table) (rows : List TableRows) (owns : List Owned) (doubts :
     names = names_added rows t.name ∙ (ap (λ (names : List (List ℕ)). names ++ t.name ∷ []) now.names ∙ sym (tables_named ts t));
     own = all_weaker _ _ (λ o at. changes_more ts t (changes_of o.sets) at) owns now.own;
     held_back = all_weaker _ _ (λ d at. changes_more ts t d.changes at) doubts now.held_back;
+    behind = all_weaker (λ v. AreChangesAt ts v.changes × AreChangesAt ts v.before) _ (λ v at. (changes_more ts t v.changes at.0, changes_more ts t v.before at.1)) vs now.behind;
   }
 
-  held_at : (b : BranchId) (o : Option Doubt) → item_at doubt_id doubts b ≡ o → AreChangesAt ts (held_back o)
+  pub held_at : (b : BranchId) (o : Option Doubt) → item_at doubt_id doubts b ≡ o → AreChangesAt ts (held_back o)
   held_at b None is = tt
   held_at b (Some d) is = all_found (λ x. AreChangesAt ts x.changes) _ doubts d now.held_back is
 
   -- a branch in doubt that is settled
-  pub doubt_settled : (b : BranchId) (d : Decision) → AreRows ts (settled rows (item_at doubt_id doubts b) d) owns (drop_item doubt_id doubts b)
+  pub doubt_settled : (b : BranchId) (d : Decision) → AreRows ts (settled rows (item_at doubt_id doubts b) d) owns (drop_item doubt_id doubts b) vs
   doubt_settled b (decisions.Commit n) =
       let with = rows_with (held_back (item_at doubt_id doubts b)) (held_at b (item_at doubt_id doubts b) refl) in
-      record { whole = with.whole; own_names = with.own_names; fit = with.fit; names = with.names; own = with.own; held_back = all_dropped (λ x. AreChangesAt ts x.changes) doubt_id doubts b now.held_back }
+      record { whole = with.whole; own_names = with.own_names; fit = with.fit; names = with.names; own = with.own; held_back = all_dropped (λ x. AreChangesAt ts x.changes) doubt_id doubts b now.held_back; behind = now.behind }
   doubt_settled b decisions.Rollback =
-      record { whole = now.whole; own_names = now.own_names; fit = now.fit; names = now.names; own = now.own; held_back = all_dropped (λ x. AreChangesAt ts x.changes) doubt_id doubts b now.held_back }
+      record { whole = now.whole; own_names = now.own_names; fit = now.fit; names = now.names; own = now.own; held_back = all_dropped (λ x. AreChangesAt ts x.changes) doubt_id doubts b now.held_back; behind = now.behind }
 
 -- a record that keeps rows of their tables: a new table is whole, and changes are of tables that are there
 abbrev pub KeepsRows : Stored → RedoRecord → Type 0
@@ -72,20 +75,21 @@ KeepsRows s (records.Decided r) = AreChangesAt s.durable.tables r.changes
 KeepsRows s _ = Unit {0}
 
 -- rows after one more record
-pub rows_applied : (s : Stored) (owns : List Owned) (r : RedoRecord) → AreRows s.durable.tables s.rows owns s.doubts → KeepsRows s r
-    → AreRows (applied s r).durable.tables (applied s r).rows owns (applied s r).doubts
+pub rows_applied : (s : Stored) (owns : List Owned) (vs : List Version) (r : RedoRecord) → AreRows s.durable.tables s.rows owns s.doubts vs → KeepsRows s r
+    → AreRows (applied s r).durable.tables (applied s r).rows owns (applied s r).doubts vs
 unfolding applied durable_after
-rows_applied s owns (records.Table t) now is = table_with s.durable.tables s.rows owns s.doubts now t is.0 (or_left _ _ is.1)
-rows_applied s owns (records.Sealed r) now is =
-    record { whole = now.whole; own_names = now.own_names; fit = now.fit; names = now.names; own = now.own; held_back = all_last _ s.doubts _ now.held_back is }
-rows_applied s owns (records.Decided r) now is = rows_with s.durable.tables s.rows owns s.doubts now r.changes is
-rows_applied s owns (records.Ended b d) now is = doubt_settled s.durable.tables s.rows owns s.doubts now b d
-rows_applied s owns (records.Forced b d given) now is = doubt_settled s.durable.tables s.rows owns s.doubts now b d
-rows_applied s owns (records.Boot n) now is = now
-rows_applied s owns (records.Link l) now is = now
-rows_applied s owns (records.Synonym y) now is = now
-rows_applied s owns (records.Param (params.Recovery on)) now is = now
-rows_applied s owns (records.Param (params.Strength strength)) now is = now
-rows_applied s owns (records.Met b d mixed) now is = now
-rows_applied s owns (records.Forgot b) now is = now
-rows_applied s owns (records.Hidden b) now is = now
+rows_applied s owns vs (records.Table t) now is = table_with s.durable.tables s.rows owns s.doubts vs now t is.0 (or_left _ _ is.1)
+rows_applied s owns vs (records.Sealed r) now is =
+    record { whole = now.whole; own_names = now.own_names; fit = now.fit; names = now.names; own = now.own; held_back = all_placed _ doubt_id s.doubts _ now.held_back is; behind = now.behind }
+rows_applied s owns vs (records.Decided r) now is = rows_with s.durable.tables s.rows owns s.doubts vs now r.changes is
+rows_applied s owns vs (records.Ended b d) now is = doubt_settled s.durable.tables s.rows owns s.doubts vs now b d
+rows_applied s owns vs (records.Forced b d given) now is = doubt_settled s.durable.tables s.rows owns s.doubts vs now b d
+rows_applied s owns vs (records.Boot n) now is = now
+rows_applied s owns vs (records.Link l) now is = now
+rows_applied s owns vs (records.Synonym y) now is = now
+rows_applied s owns vs (records.Param (params.Recovery on)) now is = now
+rows_applied s owns vs (records.Param (params.Strength strength)) now is = now
+rows_applied s owns vs (records.Met b d mixed) now is = now
+rows_applied s owns vs (records.Forgot b) now is = now
+rows_applied s owns vs (records.Hidden b) now is = now
+rows_applied s owns vs (records.Image i) now is = now

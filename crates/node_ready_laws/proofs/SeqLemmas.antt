@@ -9,22 +9,23 @@ use Rattle.node_rules.specs.Data.acts
 use Rattle.commit_forget.specs.declared.next.Next.TheVariants as nexts
 use Rattle.node_rules.specs.Words.{numbered, set_numbered}
 use Rattle.node_rules.specs.Refusals.{dtx}
-use Rattle.node_rules.specs.Sessions.{session_at, with_call, no_transaction}
+use Rattle.node_rules.specs.Sessions.{session_at, with_call, no_transaction, with_call_of, fresh_session}
 use Rattle.node_rules.specs.NodeState.{NodeState, TurnDraft, Branch}
 use Rattle.node_rules.specs.Calls.{with_edge, hears_reply, heard_sessions}
 use Rattle.session_tree.specs.Live.{new_edge}
 use Rattle.node_rules.specs.Prepare.{is_alone}
-use Rattle.node_rules.specs.Client.{new_root, begun_by}
+use Rattle.node_rules.specs.Client.{new_root, begun_by, counted}
 use Rattle.node_rules.specs.Inputs.{IsCall}
 use Rattle.node_rules.specs.Turn.{turn_of}
 use Rattle.node_rules.proofs.Steps as steps
 use Rattle.node_rules.proofs.Steps.{Step, HasRoot}
 use Rattle.node_rules.proofs.StandLemmas.{call_set, session_set}
-use Rattle.node_rules.proofs.SessionLemmas.{seqs, seq_at, session_seq, set_seqs, call_seqs, needs_seqs, ended_seqs, pends_seqs, answered_seqs, heard_seqs, decided_seqs, abandoned_seqs, ended_if_seqs, still_seqs}
+use Rattle.node_rules.proofs.SessionLemmas.{seqs, seq_at, session_seq, set_seqs, call_seqs, needs_seqs, ended_seqs, pends_seqs, answered_seqs, heard_seqs, decided_seqs, abandoned_seqs, ended_if_seqs, still_seqs, counted_seqs}
 use Rattle.node_rules.proofs.TurnLemmas.{step_of}
 use Rattle.node_rules.proofs.HeardLemmas.{sessions_heard}
 use Rattle.node_ready_laws.specs.Numbers.{SeqsRiseByOne}
 use Rattle.node_ready_laws.proofs.ListLemmas.{all_weaker}
+use Rattle.tran_ids.proofs.NumberedLemmas.{set_or_before}
 
 -- numbers that are no greater than this
 abbrev Low : ℕ → List ℕ → Type 0
@@ -78,15 +79,32 @@ same_session : {input : Input} {n m : ℕ} {s t : Stmt} → IsCall input n s →
 same_session {n = n} {m = m} {s = s} {t = t} one other = let is : inputs.Call n (Some s) ≡ inputs.Call m (Some t) = sym one ∙ other in cc
 
 -- a transaction begins
-begins : (p : Place) (input : Input) (n m : ℕ) (s : Stmt) (k : NodeState) (o : Option Session) → IsCall input m s → numbered k.sessions m ≡ o → Low n (seqs k.sessions) → Lows input n (begun_by p k m None)
-begins p input n m s k (Some there) call is low = inr (
+begins : (p : Place) (input : Input) (n m : ℕ) (s : Stmt) (read_at : Option ℕ) (k : NodeState) (o : Option Session) → IsCall input m s → numbered k.sessions m ≡ o → Low n (seqs k.sessions) → Lows input n (begun_by p k m read_at None)
+begins p input n m s read_at k (Some there) call is low = inr (
   subst (Low (n + 1)) (sym (set_seqs k.sessions m _))
       (set_low (n + 1) (seqs k.sessions) m _ (higher n (seqs k.sessions) low) (let was = session_seq k.sessions m in let old = seq_low n (seqs k.sessions) m low in omega (arith, was, old))),
   (λ i t other.
       let here : m ≡ i = same_session call other in
-      (new_root p k m, subst (λ j. HasRoot (begun_by p k m None) j (new_root p k m)) here (ap (λ (x : Session). x.root) (session_set k.sessions m there _ is)))),
+      (new_root p k m, subst (λ j. HasRoot (begun_by p k m read_at None) j (new_root p k m)) here (ap (λ (x : Session). x.root) (session_set k.sessions m there _ is)))),
 )
-begins p input n m s k None call is low = inl (subst (λ ss. Low n (seqs ss)) (sym (set_still k.sessions m _ is)) low)
+begins p input n m s read_at k None call is low = inl (subst (λ ss. Low n (seqs ss)) (sym (set_still k.sessions m _ is)) low)
+
+-- a call is counted
+counted_root : (ss : List Session) (n m : ℕ) (o : Option BranchId) → (session_at (with_call_of ss n o) m).root ≡ (session_at ss m).root
+counted_root ss n m None = refl
+counted_root ss n m (Some root) =
+    let s : Session = record (session_at ss n) { calls = (session_at ss n).calls + 1 } in
+    elim (set_or_before ss n m s) [
+      | inl still ↦ ap (λ o. (unwrap_or o fresh_session).root) still
+      | inr new ↦ ap (λ o. (unwrap_or o fresh_session).root) new.1 ∙ ap (λ i. (session_at ss i).root) new.0
+    ]
+
+counts : (input : Input) (n m : ℕ) (k : NodeState) → Lows input n k → Lows input n (counted k m)
+counts input n m k (inl low) = inl (subst (Low n) (sym (counted_seqs k.sessions m (session_at k.sessions m).root)) low)
+counts input n m k (inr low) = inr (
+  subst (Low (n + 1)) (sym (counted_seqs k.sessions m (session_at k.sessions m).root)) low.0,
+  (λ i t call. (let has = low.1 i t call in (has.0, counted_root k.sessions m i (session_at k.sessions m).root ∙ has.1))),
+)
 
 -- a COMMIT is pending from now on
 pends : (input : Input) (n m : ℕ) (l : Live) (s : Stmt) (k : NodeState) → IsCall input m s → HasRoot k m l.me → Lows input n k → Lows input n (record k { sessions = with_call k.sessions m pending.Commit })
@@ -99,9 +117,12 @@ pends input n m l s k call has (inr low) = inr (
 )
 
 seqs_on : (p : Place) (input : Input) (n : ℕ) {k : NodeState} {d : TurnDraft} → Step p input k d → Lows input n k → Low (n + 1) (seqs d.after.sessions)
-seqs_on p input n (steps.Begins {k = k} m s call rows fit none step) (inl low) = seqs_on p input n step (begins p input n m s k (numbered k.sessions m) call refl low)
-seqs_on p input n (steps.Begins {k = k} m s call rows fit none step) (inr low) = let has = low.1 m s call in let clash : None ≡ Some has.0 = sym none ∙ has.1 in absurd cc
-seqs_on p input n (steps.Pends {k = k} m l given call has live code step) now = seqs_on p input n step (pends input n m l _ k call has now)
+seqs_on p input n (steps.Begins {k = k} m s read_at call by fit none step) (inl low) = seqs_on p input n step (begins p input n m s read_at k (numbered k.sessions m) call refl low)
+seqs_on p input n (steps.Begins {k = k} m s read_at call begins fit none step) (inr low) = let has = low.1 m s call in let clash : None ≡ Some has.0 = sym none ∙ has.1 in absurd cc
+seqs_on p input n (steps.Counts_call {k = k} m s call is step) now = seqs_on p input n step (counts input n m k now)
+seqs_on p input n (steps.Goes_back x step goes next) (inl low) = seqs_on p input n next (inl low)
+seqs_on p input n (steps.Goes_back x step goes next) (inr low) = seqs_on p input n next (inr (low.0, low.1))
+seqs_on p input n (steps.Pends {k = k} m l given call has live code writer step) now = seqs_on p input n step (pends input n m l _ k call has now)
 seqs_on p input n (steps.Lets_reads_go l comment site_below live begins step) now = seqs_on p input n step now
 seqs_on p input n (steps.Counts_ack s from kept came counts step) now = seqs_on p input n step now
 seqs_on p input n (steps.Runs {k = k} x s given t asked way) now = subst (Low (n + 1)) (sym (answered_seqs k.sessions x.live x.live.parent)) (after input n k now)
@@ -112,6 +133,8 @@ seqs_on p input n (steps.Goes_on {k = k} x from strength g link opened) now = su
 seqs_on p input n (steps.Hears_reply {k = k} x weight count a i e answered) now =
     let y : Branch = hears_reply x i weight count e in
     subst (Low (n + 1)) (sym (answered_seqs (heard_sessions k.sessions y.live a) y.live x.live.parent ∙ heard_seqs k.sessions y.live a)) (after input n k now)
+seqs_on p input n (steps.Backs {k = k} x step from i calls next) now = subst (Low (n + 1)) (sym (pends_seqs k.sessions x.live)) (after input n k now)
+seqs_on p input n (steps.Is_back {k = k} x step from calls none) now = subst (Low (n + 1)) (sym (answered_seqs k.sessions x.live x.live.parent)) (after input n k now)
 seqs_on p input n (steps.Acts {k = k} l site_below acts.Rest why) now = after input n k now
 seqs_on p input n (steps.Acts {k = k} l site_below acts.AskDown why) now = after input n k now
 seqs_on p input n (steps.Acts {k = k} l site_below acts.SayReady why) now = after input n k now
@@ -132,7 +155,7 @@ seqs_on p input n (steps.Forces_given {k = k} m id scn b call named) now = subst
 seqs_on p input n (steps.Forces_commit {k = k} m id b call named) now = subst (Low (n + 1)) (sym (ended_seqs k.sessions b)) (after input n k now)
 seqs_on p input n (steps.Forces_rollback {k = k} m id b call named) now = subst (Low (n + 1)) (sym (ended_seqs k.sessions b)) (after input n k now)
 seqs_on p input n (steps.Advises {k = k} m a call) now = subst (Low (n + 1)) (sym (still_seqs k.sessions m (record (session_at k.sessions m) { advice = a }) refl)) (after input n k now)
-seqs_on p input n (steps.Rolls_back {k = k} m x call has live) now = subst (Low (n + 1)) (sym (still_seqs k.sessions m (no_transaction (session_at k.sessions m)) refl)) (after input n k now)
+seqs_on p input n (steps.Leaves {k = k} m s d x call ends has live) now = subst (Low (n + 1)) (sym (still_seqs k.sessions m (no_transaction (session_at k.sessions m)) refl)) (after input n k now)
 seqs_on p input n (steps.Gives_up {k = k} m x gives has calls live) now = subst (Low (n + 1)) (sym (needs_seqs (with_call k.sessions m pending.NoCall) m (dtx 3 []).code ∙ call_seqs k.sessions m pending.NoCall)) (after input n k now)
 seqs_on p input n (steps.Gives_up_commit {k = k} m b (Some l) gives has calls live) now = subst (Low (n + 1)) (sym (ended_seqs k.sessions l.me)) (after input n k now)
 seqs_on p input n (steps.Gives_up_commit {k = k} m b None gives has calls live) now = subst (Low (n + 1)) (sym (ended_seqs k.sessions b)) (after input n k now)

@@ -12,6 +12,7 @@ use Rattle.node_rules.specs.Turn.{turn_of, made}
 use Rattle.node_rules.specs.Inputs.{IsFit}
 use Rattle.sql_statement.specs.Whole.{IsWholeTable}
 use Rattle.sql_eval.specs.Laws.{AreRowsOf, IsChangeOf}
+use Rattle.read_only_tx.specs.Versions.{Version}
 
 -- the first table of a name
 abbrev pub table_named : List Table → List ℕ → Option Table
@@ -25,18 +26,24 @@ IsChangeAt ts c = (t : Table) × (table_named ts c.table ≡ Some t) × IsChange
 abbrev pub AreChangesAt : List Table → List Change → Type 0
 AreChangesAt ts cs = AllByRecursion (IsChangeAt ts) cs
 
--- Tables that are whole and have names of their own, rows of them, and changes of them that are not committed.
-pub record AreRows (tables : List Table) (rows : List TableRows) (owns : List Owned) (doubts : List Doubt) : Type 0 where
+-- commits of tables that are there, and the rows from before them
+abbrev pub AreVersionsOf : List Table → List Version → Type 0
+AreVersionsOf ts vs = AllByRecursion (λ v. AreChangesAt ts v.changes × AreChangesAt ts v.before) vs
+
+-- Tables that are whole and have names of their own, rows of them, changes of them that are not committed, and commits that
+-- READ ONLY transactions can look behind.
+pub record AreRows (tables : List Table) (rows : List TableRows) (owns : List Owned) (doubts : List Doubt) (versions : List Version) : Type 0 where
   pub whole : AllByRecursion IsWholeTable tables
   pub own_names : AllByRecursion (λ t. table_named tables t.name ≡ Some t) tables
   pub fit : AllByRecursion (λ t. AreRowsOf t (rows_of_table rows t.name)) tables
   pub names : map (λ r. r.table) rows ≡ map (λ t. t.name) tables
   pub own : AllByRecursion (λ o. AreChangesAt tables (changes_of o.sets)) owns
   pub held_back : AllByRecursion (λ d. AreChangesAt tables d.changes) doubts
+  pub behind : AreVersionsOf tables versions
 
 -- a node whose rows are so
 abbrev pub HasRows : NodeState → Type 0
-HasRows k = AreRows k.stored.durable.tables k.stored.rows k.owns k.stored.doubts
+HasRows k = AreRows k.stored.durable.tables k.stored.rows k.owns k.stored.doubts k.versions.kept
 
 -- a statement that makes a table makes a whole one
 abbrev pub MakesWhole : Stmt → Type 0

@@ -10,3 +10,4 @@ sessions_heard k (inputs.Message m) = refl
 sessions_heard k (inputs.Call session statement) = refl
 sessions_heard k (inputs.GiveUp session) = refl
 sessions_heard k inputs.Reco = refl
+sessions_heard k inputs.Checkpoint = refl

@@ -1,5 +1,6 @@
 pub mod Steps
 pub mod StandLemmas
+pub mod WayLemmas
 mod ActLemmas
 mod NextLemmas
 pub mod TurnLemmas

@@ -1,5 +1,5 @@
 -- The number of the last transaction of each session: no change of a session but the begin of a transaction touches it.
-use Rattle.std.proofs.Common.{◌≡◌, ℕ, zero, suc, ◌&&◌, Bool, true, false, if◌then◌else◌, List, [], ◌∷◌, map, slice_get, slice_set, unwrap_or, is_none, Option, Some, None, refl, ap}
+use Rattle.std.proofs.Common.{◌≡◌, ℕ, zero, suc, ◌+◌, ◌&&◌, Bool, true, false, if◌then◌else◌, List, [], ◌∷◌, map, slice_get, slice_set, unwrap_or, is_none, Option, Some, None, refl, ap}
 use Rattle.std.proofs.lemmas.Bool.{cond_both}
 use Rattle.node_rules.specs.Data.{Answer, BranchId, Decision, Live}
 use Rattle.node_rules.specs.Data.decisions
@@ -8,7 +8,7 @@ use Rattle.node_rules.specs.declared.session.PendingCall.TheVariants as pending
 use Rattle.node_rules.specs.declared.session.Session.{Session}
 use Rattle.node_rules.specs.Words.{numbered, set_numbered}
 use Rattle.node_rules.specs.Refusals.{dtx}
-use Rattle.node_rules.specs.Sessions.{fresh_session, session_at, with_call, needs_rollback, no_transaction, commit_is_pending, commit_ended}
+use Rattle.node_rules.specs.Sessions.{fresh_session, session_at, with_call, with_call_of, needs_rollback, no_transaction, commit_is_pending, commit_ended}
 use Rattle.node_rules.specs.Calls.{call_pends, answered_sessions, heard_sessions, is_gone}
 use Rattle.node_rules.specs.Prepare.{abandoned_sessions}
 use Rattle.node_rules.specs.Commit.{decided_sessions}
@@ -55,6 +55,10 @@ still_seqs ss (suc i) s same = still_slice ss i s same
 module _ (ss : List Session) where
   pub call_seqs : (n : ℕ) (c : PendingCall) → seqs (with_call ss n c) ≡ seqs ss
   call_seqs n c = still_seqs ss n (record (session_at ss n) { call = c }) refl
+
+  pub counted_seqs : (n : ℕ) (root : Option BranchId) → seqs (with_call_of ss n root) ≡ seqs ss
+  counted_seqs n None = refl
+  counted_seqs n (Some root) = still_seqs ss n (record (session_at ss n) { calls = (session_at ss n).calls + 1 }) refl
 
   pub needs_seqs : (n code : ℕ) → seqs (needs_rollback ss n code) ≡ seqs ss
   needs_seqs n code = still_seqs ss n (record (session_at ss n) { code = Some code }) refl

@@ -1,11 +1,11 @@
 -- What stands at a node: branches by their ids, and the transactions of sessions.
-use Rattle.std.proofs.Common.{◌≡◌, ℕ, List, option_map, Option, Some, None, refl, sym, ap, subst, ◌∙◌}
+use Rattle.std.proofs.Common.{◌≡◌, ℕ, ◌+◌, List, option_map, Option, Some, None, refl, sym, ap, subst, ◌∙◌}
 use Rattle.std.specs.Prelude.{unwrap_or}
 use Rattle.tran_ids.proofs.ListedLemmas.{item_is}
 use Rattle.node_rules.specs.Data.{BranchId, KeptRow, Live, PendingCall, Session}
 use Rattle.node_rules.specs.Words.{numbered, set_numbered}
 use Rattle.node_rules.specs.NodeState.{NodeState, Branch, live_id, kept_row_id, live_at, work_at, with_work, branch_at, kept_row_at}
-use Rattle.node_rules.specs.Sessions.{fresh_session, session_at, with_call}
+use Rattle.node_rules.specs.Sessions.{fresh_session, session_at, with_call, with_call_of}
 use Rattle.node_rules.specs.Client.{root_by, root_at}
 use Rattle.node_rules.specs.Turn.{BranchStatus, kept_or_gone, live_or, status_of, Is_live, Is_kept, Is_gone}
 use Rattle.node_rules.proofs.Steps.{HasRoot, IsKept}
@@ -73,3 +73,13 @@ call_set_at ss n b c (Some s) is has = session_set ss n s (record (session_at ss
 -- a session that has a transaction is the same but for its pending call
 pub call_set : (ss : List Session) (n : ℕ) (b : BranchId) (c : PendingCall) → (session_at ss n).root ≡ Some b → session_at (with_call ss n c) n ≡ record (session_at ss n) { call = c }
 call_set ss n b c has = call_set_at ss n b c (numbered ss n) refl has
+
+count_set_at : (ss : List Session) (n : ℕ) (b : BranchId) (o : Option Session) → numbered ss n ≡ o → (unwrap_or o fresh_session).root ≡ Some b → (session_at ss n).root ≡ Some b
+    → session_at (with_call_of ss n (session_at ss n).root) n ≡ record (session_at ss n) { calls = (session_at ss n).calls + 1 }
+count_set_at ss n b None is has root = absurd cc
+count_set_at ss n b (Some s) is has root = ap (λ r. session_at (with_call_of ss n r) n) root ∙ session_set ss n s (record (session_at ss n) { calls = (session_at ss n).calls + 1 }) is
+
+-- and but for the number of its calls
+pub count_set : (ss : List Session) (n : ℕ) (b : BranchId) → (session_at ss n).root ≡ Some b
+    → session_at (with_call_of ss n (session_at ss n).root) n ≡ record (session_at ss n) { calls = (session_at ss n).calls + 1 }
+count_set ss n b has = count_set_at ss n b (numbered ss n) refl has has

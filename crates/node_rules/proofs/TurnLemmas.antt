@@ -1,11 +1,14 @@
 -- Each turn is one of the steps: a lemma for each function of the rules, by its own clauses.
-use Rattle.std.proofs.Common.{◌≡◌, ◌≤◌, ℕ, ◌+◌, ◌==◌, Bool, true, false, if◌then◌else◌, List, [], find, length, Option, Some, None, Result, Ok, Err, inl, inr, refl, sym, ap, subst, ◌∙◌, arith}
+use Rattle.std.proofs.Common.{◌≡◌, ◌≤◌, ℕ, ◌+◌, ◌==◌, ◌&&◌, Bool, true, false, if◌then◌else◌, List, [], find, length, Option, Some, None, Result, Ok, Err, inl, inr, refl, sym, ap, subst, ◌∙◌, arith}
 use Rattle.std.proofs.lemmas.Bool.{and_parts, cond_both}
 use Rattle.std.proofs.lemmas.Bool.Decides.{nat_tests}
 use Rattle.std.specs.List.{list_any}
-use Rattle.std.specs.Prelude.{unwrap_or}
+use Rattle.std.specs.Prelude.{unwrap_or, is_some, nat_lt}
 use Rattle.tran_ids.proofs.ListedLemmas.{put_found}
-use Rattle.node_rules.specs.Data.{Advice, Refusal, Done, Answer, BranchId, Stmt, Decision, Place, RedoRecord, KeptRow, Vote, Edge, Phase, Live, Kind, Input, ReplyFields, Waits, Going, Work, Admit, PendingCall, Opening}
+use Rattle.node_rules.specs.Data.{Refusal, Done, Answer, BranchId, Stmt, Decision, Place, RedoRecord, KeptRow, Vote, Edge, Phase, Live, Kind, Input, ReplyFields, Waits, Task, Errand, Going, Work, Admit, PendingCall, Opening}
+use Rattle.node_rules.specs.Data.answers
+use Rattle.node_rules.specs.Data.tasks
+use Rattle.node_rules.specs.Data.errands
 use Rattle.node_rules.specs.Data.dones
 use Rattle.node_rules.specs.Data.stmts
 use Rattle.node_rules.specs.Data.decisions
@@ -17,19 +20,22 @@ use Rattle.node_rules.specs.Data.waiting
 use Rattle.node_rules.specs.Data.admits
 use Rattle.node_rules.specs.Data.pending
 use Rattle.session_tree.specs.Live.{is_branch}
-use Rattle.node_rules.specs.NodeState.{NodeState, Branch, nothing, saying, kept_row_id, live_at, branch_at}
+use Rattle.node_rules.specs.NodeState.{NodeState, TurnDraft, Branch, nothing, saying, kept_row_id, live_at, branch_at}
 use Rattle.node_rules.specs.Names.{Way, way_of, Runs_here, Over, Through, Nowhere_to}
 use Rattle.node_rules.specs.Sessions.{session_at, with_call}
-use Rattle.node_rules.specs.Calls.{goes, statement_at, is_opening, open_by, opened_waits, opened_going, admit, takes_call, says_again, exec_by, reply_of, reply_by}
+use Rattle.dtx_values.specs.Limits.{image_limit}
+use Rattle.node_rules.specs.Marks.{savepoint_at, node_back, branch_back, next_back}
+use Rattle.node_rules.specs.Images.{image_at, image_bytes, checkpoint}
+use Rattle.node_rules.specs.Calls.{goes, statement_at, is_opening, open_by, opened_waits, opened_going, admit, takes_call, says_again, backs_to, goes_back, task_at, exec_by, reply_of, hears_reply, back_heard, errand_heard, going_heard, reply_by}
 use Rattle.node_rules.specs.Prepare.{drops, without_read_keys, collects, with_comment, prepare_in, answers_first, answer_in, commit_point_in}
 use Rattle.node_rules.specs.Commit.{on_decision, ack_counts, acked_by, counts_ack, on_ack, on_forgotten, commit_point_known, is_asked_again, on_prepare_kept}
 use Rattle.reco.specs.declared.told.Told.TheVariants as tolds
 use Rattle.node_rules.specs.Recovery.{on_ask_told, on_ask, recovery}
 use Rattle.node_rules.specs.Force.{branch_to_force, force_commit, force_rollback, may_purge, hides, purge}
-use Rattle.node_rules.specs.Client.{refuses, begun_by, root_at, statement_by, statement_call, commit_by, rollback_by, writes, is_used, is_link, call_turn, read_turn, statement_given_up, give_up_by}
+use Rattle.node_rules.specs.Client.{refuses, begun_by, begun, counted, root_at, is_write, statement_by, statement_call, commit_at, commit_by, rollback_by, read_only_by, savepoint_by, savepoint_call, back_to_savepoint, back_by, writes, is_used, is_link, call_turn, read_turn, statement_given_up, give_up_by}
 use Rattle.node_rules.specs.Turn.{BranchStatus, status_of, exec_turn, opened_turn, reply_turn, prepare_turn, answer_turn, commit_point_turn, committed_turn, rollback_turn, rolled_back_turn, ack_turn, forgotten_turn, ask_turn, kind_turn, kind_scn, clock_raised_by, heard, draft_of, Is_live, Is_kept, Is_gone}
 use Rattle.node_rules.specs.Inputs.{IsSession, IsFit, Came, IsCall, Brings, Commit_came, Rollback_came, Rolled_back_came}
-use Rattle.node_rules.proofs.Steps.{Step, Refuses, IsOfRows, Asked, Collects, vote_kind, IsKept, IsMet, Makes, purge_of, By_call, By_exec, By_commit, By_prepare, By_rollback, By_parent, Gone_replies, Gone_aborts, Gone_rolls_back, Gone_acks, Gone_forgets, Replies_again, Opened_again, Prepared_again, Knows_commit, Knows_rollback, Is_in_doubt, Tells, Recovers, Makes_table, Makes_link, Makes_synonym, Sets_recovery, Commits_nothing, Rolls_nothing_back, Begins, Pends, Lets_reads_go, Counts_ack, Rests, Sends, Runs, Goes_nowhere, Calls, Opens, Goes_on, Hears_reply, Opens_branch, Acts, Drops_told, Drops_asked, Does, Completes_at_once, Makes_record, Forces_given, Forces_commit, Forces_rollback, Hides, Advises, Rolls_back, Gives_up, Gives_up_commit}
+use Rattle.node_rules.proofs.Steps.{Step, Refuses, IsOfRows, Asked, BeginsBy, IsCounted, Goes_to, Calls_back, Is_answered, By_rows, By_savepoint, By_read_only, By_rollback_to, By_back, Has_gone, Has_heard, By_rollback_call, By_reading, Counts_call, Goes_back, Backs, Is_back, Leaves, Sets_read_only, Sets_savepoint, Sets_strength, Images, Collects, vote_kind, IsKept, IsMet, Makes, purge_of, By_call, By_exec, By_commit, By_prepare, By_rollback, By_parent, Gone_replies, Gone_aborts, Gone_rolls_back, Gone_acks, Gone_forgets, Replies_again, Opened_again, Prepared_again, Knows_commit, Knows_rollback, Is_in_doubt, Tells, Recovers, Makes_table, Makes_link, Makes_synonym, Sets_recovery, Commits_nothing, Rolls_nothing_back, Begins, Pends, Lets_reads_go, Counts_ack, Rests, Sends, Runs, Goes_nowhere, Calls, Opens, Goes_on, Hears_reply, Opens_branch, Acts, Drops_told, Drops_asked, Does, Completes_at_once, Makes_record, Forces_given, Forces_commit, Forces_rollback, Hides, Advises, Gives_up, Gives_up_commit}
 use Rattle.node_rules.proofs.StandLemmas.{live_so, StandsSo, stands_so, RootSo, branch_so, root_so, call_set}
 use Rattle.node_rules.proofs.ActLemmas.{first_act_so, answer_act_so, point_act_so}
 use Rattle.node_rules.proofs.NextLemmas.{decision_so, ack_so, forgotten_so}
@@ -55,10 +61,20 @@ module _ (p : Place) (input : Input) where
   statement_so : (k : NodeState) (x : Branch) (s : Stmt) (given : ℕ) → Asked k input x s given → Step p input k (statement_at p k x s given)
   statement_so k x s given asked = goes_so k x s given (way_of p k.stored.durable x.live given s) asked refl
 
-  open_so : (k : NodeState) (from to : BranchId) (edge : ℕ) (root : BranchId) (depth : ℕ) (o : Option Opening) → Came input from to (kinds.Open edge root depth) → find (is_opening from edge) k.opens ≡ o
-      → Step p input k (open_by p k from edge root depth o)
-  open_so k from to edge root depth (Some o) came is = Sends _ (Opened_again to from edge root depth o came is)
-  open_so k from to edge root depth None came is = Opens_branch to from edge root depth came is
+  open_so : (k : NodeState) (from to : BranchId) (edge : ℕ) (root : BranchId) (depth : ℕ) (read_at : Option ℕ) (o : Option Opening) → Came input from to (kinds.Open edge root depth read_at)
+      → find (is_opening from edge) k.opens ≡ o → Step p input k (open_by p k from edge root depth read_at o)
+  open_so k from to edge root depth read_at (Some o) came is = Sends _ (Opened_again to from edge root depth read_at o came is)
+  open_so k from to edge root depth read_at None came is = Opens_branch to from edge root depth read_at came is
+
+  -- ---- going back to a savepoint
+
+  backs_so : (k : NodeState) (x : Branch) (step from : ℕ) (next : Option ℕ) → Calls_back k input x step from → next_back x.work step from ≡ next → Step p input k (backs_to k x step next)
+  backs_so k x step from None calls is = Is_back x step from calls is
+  backs_so k x step from (Some i) calls is = Backs x step from i calls is
+
+  goes_back_so : (k : NodeState) (x : Branch) (step : ℕ) → Goes_to k input x step → Step p input k (goes_back k x step)
+  goes_back_so k x step goes =
+      Goes_back x step goes (backs_so (node_back k x step) (branch_back k x step) step 1 (next_back (branch_back k x step).work step 1) (Has_gone k x step goes refl) refl)
 
   -- ---- messages of statements, at a live branch
 
@@ -73,27 +89,48 @@ module _ (p : Place) (input : Input) where
     opened_so edge strength None came going = Rests
     opened_so edge strength (Some g) came going = cond_both (edge == length x.live.edges + 1) _ _ (Step p input k) (λ new. waits_so edge strength g g.waits came going new refl) (λ old. Rests)
 
-    again_so : (call given : ℕ) (advice : Option Advice) (s : Stmt) (o : Option ReplyFields) → Came input from x.live.me (kinds.Exec call given advice s) → x.work.came.last_call ≡ call → x.work.came.reply ≡ o
+    again_so : (call : ℕ) (task : Task) (o : Option ReplyFields) → Came input from x.live.me (kinds.Exec call task) → x.work.came.last_call ≡ call → x.work.came.reply ≡ o
         → Step p input k (saying k (says_again x from o))
-    again_so call given advice s None came last is = Rests
-    again_so call given advice s (Some t) came last is = Sends _ (Replies_again x from call given advice s t came live last is)
+    again_so call task None came last is = Rests
+    again_so call task (Some t) came last is = Sends _ (Replies_again x from call task t came live last is)
 
-    exec_so : (call given : ℕ) (advice : Option Advice) (s : Stmt) (a : Admit) → Came input from x.live.me (kinds.Exec call given advice s) → admit x.work.came call ≡ a
-        → Step p input k (exec_by p k x from call given advice s a)
-    exec_so call given advice s admits.Ignore came is = Rests
-    exec_so call given advice s admits.Again came is = again_so call given advice s x.work.came.reply came (last_so x.work call is) refl
-    exec_so call given advice s admits.Run came is = statement_so k (takes_call x call advice) s given (By_exec x from call given advice s came live is)
+    task_so : (call : ℕ) (task : Task) → Came input from x.live.me (kinds.Exec call task) → admit x.work.came call ≡ admits.Run → Step p input k (task_at p k (takes_call x call task) task)
+    task_so call (tasks.Run given advice s) came is = statement_so k (takes_call x call (tasks.Run given advice s)) s given (By_exec x from call given advice s came live is)
+    task_so call (tasks.GoBack keep) came is = goes_back_so k (takes_call x call (tasks.GoBack keep)) keep (By_back x from call keep came live is)
+
+    exec_so : (call : ℕ) (task : Task) (a : Admit) → Came input from x.live.me (kinds.Exec call task) → admit x.work.came call ≡ a → Step p input k (exec_by p k x from call task a)
+    exec_so call task admits.Ignore came is = Rests
+    exec_so call task admits.Again came is = again_so call task x.work.came.reply came (last_so x.work call is) refl
+    exec_so call task admits.Run came is = task_so call task came is
+
+    back_heard_so : (weight : Option ℕ) (count : ℕ) (a : Answer) (i : ℕ) (e : Edge) (g : Going) (step : ℕ) → Is_answered k input x weight count a i e → x.work.going ≡ Some g → g.errand ≡ errands.GoBack step
+        → Step p input k (back_heard k (hears_reply x i weight count e) step i e.link a)
+    back_heard_so weight count (answers.Refused r) i e g step answered going is = Hears_reply x weight count (answers.Refused r) i e answered
+    back_heard_so weight count (answers.Did d n) i e g step answered going is =
+        backs_so k (hears_reply x i weight count e) step (i + 1) _ (Has_heard x weight count (answers.Did d n) i e g step answered going is tt) refl
+    back_heard_so weight count (answers.Found rows) i e g step answered going is =
+        backs_so k (hears_reply x i weight count e) step (i + 1) _ (Has_heard x weight count (answers.Found rows) i e g step answered going is tt) refl
+
+    errand_so : (weight : Option ℕ) (count : ℕ) (a : Answer) (i : ℕ) (e : Edge) (g : Going) (errand : Errand) → Is_answered k input x weight count a i e → x.work.going ≡ Some g → g.errand ≡ errand
+        → Step p input k (errand_heard k (hears_reply x i weight count e) i e.link a errand)
+    errand_so weight count a i e g (errands.Statement s given) answered going is = Hears_reply x weight count a i e answered
+    errand_so weight count a i e g (errands.GoBack step) answered going is = back_heard_so weight count a i e g step answered going is
+
+    going_so : (weight : Option ℕ) (count : ℕ) (a : Answer) (i : ℕ) (e : Edge) (o : Option Going) → Is_answered k input x weight count a i e → x.work.going ≡ o
+        → Step p input k (going_heard k (hears_reply x i weight count e) i e.link a o)
+    going_so weight count a i e None answered going = Rests
+    going_so weight count a i e (Some g) answered going = errand_so weight count a i e g g.errand answered going refl
 
     reply_so : (call : ℕ) (weight : Option ℕ) (count : ℕ) (a : Answer) (o : Option (ℕ × Edge)) → Came input from x.live.me (kinds.Reply call weight count a) → reply_of x from call ≡ o
         → Step p input k (reply_by k x weight count a o)
     reply_so call weight count a None came is = Rests
-    reply_so call weight count a (Some ie) came is = Hears_reply x weight count a ie.0 ie.1 (record { from = from; call = call; came = came; live = live; waits = is })
+    reply_so call weight count a (Some ie) came is = going_so weight count a ie.0 ie.1 x.work.going (record { from = from; call = call; came = came; live = live; waits = is }) refl
 
   -- ---- the prepare phase
 
   -- what begins a collect does not look at locks
   begins_still : (k : NodeState) (b : BranchId) (l : Live) (comment : List ℕ) (site_below : Bool) → Collects k input l comment site_below → Collects (without_read_keys k b) input l comment site_below
-  begins_still k b l comment site_below (By_commit n given call has code said) = By_commit n given call has code said
+  begins_still k b l comment site_below (By_commit n given call has code writer said) = By_commit n given call has code writer said
   begins_still k b l comment site_below (By_prepare from _ came working) = By_prepare from _ came working
 
   collects_so : (k : NodeState) (l : Live) (comment : List ℕ) (site_below : Bool) → live_at k l.me ≡ Some l → Collects k input l comment site_below → Step p input k (collects k (with_comment l comment) site_below)
@@ -153,11 +190,10 @@ module _ (p : Place) (input : Input) where
     opened_turn_so edge strength (Is_live x) came so = opened_so k from x so.1 edge strength x.work.going (here so.0 came) refl
     opened_turn_so edge strength _ came so = Rests
 
-    exec_turn_so : (call given : ℕ) (advice : Option Advice) (s : Stmt) (stand : BranchStatus) → Came input from to (kinds.Exec call given advice s) → StandsSo k to stand
-        → Step p input k (exec_turn p k from to call given advice s stand)
-    exec_turn_so call given advice s (Is_live x) came so = exec_so k from x so.1 call given advice s (admit x.work.came call) (here so.0 came) refl
-    exec_turn_so call given advice s (Is_kept y) came so = Rests
-    exec_turn_so call given advice s Is_gone came so = Sends _ (Gone_replies to from call given advice s came so)
+    exec_turn_so : (call : ℕ) (task : Task) (stand : BranchStatus) → Came input from to (kinds.Exec call task) → StandsSo k to stand → Step p input k (exec_turn p k from to call task stand)
+    exec_turn_so call task (Is_live x) came so = exec_so k from x so.1 call task (admit x.work.came call) (here so.0 came) refl
+    exec_turn_so call task (Is_kept y) came so = Rests
+    exec_turn_so call task Is_gone came so = Sends _ (Gone_replies to from call task came so)
 
     reply_turn_so : (call : ℕ) (weight : Option ℕ) (count : ℕ) (a : Answer) (stand : BranchStatus) → Came input from to (kinds.Reply call weight count a) → StandsSo k to stand
         → Step p input k (reply_turn k from call weight count a stand)
@@ -208,9 +244,9 @@ module _ (p : Place) (input : Input) where
     ask_turn_so Is_gone came so = Sends _ (Gone_rolls_back to from (inr came) so)
 
     kind_turn_so : (kind : Kind) (stand : BranchStatus) → Came input from to kind → kind_scn kind ≤ k.clock → StandsSo k to stand → Step p input k (kind_turn p k from to kind stand)
-    kind_turn_so (kinds.Open edge root depth) stand came met so = open_so k from to edge root depth (find (is_opening from edge) k.opens) came refl
+    kind_turn_so (kinds.Open edge root depth read_at) stand came met so = open_so k from to edge root depth read_at (find (is_opening from edge) k.opens) came refl
     kind_turn_so (kinds.Opened edge strength) stand came met so = opened_turn_so edge strength stand came so
-    kind_turn_so (kinds.Exec call given advice s) stand came met so = exec_turn_so call given advice s stand came so
+    kind_turn_so (kinds.Exec call task) stand came met so = exec_turn_so call task stand came so
     kind_turn_so (kinds.Reply call weight count result) stand came met so = reply_turn_so call weight count result stand came so
     kind_turn_so (kinds.Prepare site_below comment) stand came met so = prepare_turn_so site_below comment stand came so
     kind_turn_so kinds.Prepared stand came met so = answer_turn_so votes.Prepared kinds.Prepared stand refl came so
@@ -232,27 +268,60 @@ module _ (p : Place) (input : Input) where
     root_statement_so : (k : NodeState) (code : Option ℕ) (o : Option Branch) → IsOfRows s → (session_at k.sessions n).code ≡ code → RootSo k n o → Step p input k (statement_by p k n s code o)
     root_statement_so k code None rows is so = Rests
     root_statement_so k (Some c) (Some x) rows is so = Refuses n (Some s) _ call
-    root_statement_so k None (Some x) rows is so = statement_so k x s 0 (By_call n x s call rows so.0 is so.1)
+    root_statement_so k None (Some x) rows is so =
+        cond_both (is_some x.live.read_at && is_write s) _ _ (Step p input k) (λ write. Refuses n (Some s) _ call) (λ may. statement_so k x s 0 (By_call n x s call rows so.0 is so.1 may))
 
     call_so : (k : NodeState) → IsOfRows s → Step p input k (statement_call p k n s)
     call_so k rows = root_statement_so k (session_at k.sessions n).code (root_at k n) rows refl (root_so k n)
 
-    begun_so : (k : NodeState) (root : Option BranchId) → IsOfRows s → IsSession n → (session_at k.sessions n).root ≡ root → Step p input k (statement_call p (begun_by p k n root) n s)
-    begun_so k (Some b) rows fit is = call_so k rows
-    begun_so k None rows fit is = Begins n s call rows fit is (call_so (begun_by p k n None) rows)
+    -- a transaction that is there goes on, or one begins; its call is counted
+    begun_so : (k : NodeState) (turn : NodeState → TurnDraft) (root : Option BranchId) → BeginsBy k.clock s None → IsCounted s → IsSession n → (session_at k.sessions n).root ≡ root
+        → ((j : NodeState) → Step p input j (turn j)) → Step p input k (turn (counted (begun_by p k n None root) n))
+    begun_so k turn (Some b) begins counts fit is turns = Counts_call n s call counts (turns (counted k n))
+    begun_so k turn None begins counts fit is turns = Begins n s None call begins fit is (Counts_call n s call counts (turns (counted (begun_by p k n None None) n)))
+
+  -- a statement that has a table, which begins a transaction and is counted
+  rows_so : (n : ℕ) (s : Stmt) → IsCall input n s → (k : NodeState) → IsOfRows s → IsSession n → IsCounted s → Step p input k (statement_call p (begun p k n) n s)
+  rows_so n s call k rows fit counts = begun_so n s call k (λ j. statement_call p j n s) (session_at k.sessions n).root (By_rows s rows) counts fit refl (λ j. call_so n s call j rows)
+
+  commit_at_so : (k : NodeState) (n : ℕ) (given : Option (List ℕ)) (x : Branch) (read_at : Option ℕ) → IsCall input n (stmts.Commit given) → (session_at k.sessions n).code ≡ None → RootSo k n (Some x) → x.live.read_at ≡ read_at
+      → Step p input k (commit_at k n (unwrap_or given []) x read_at)
+  commit_at_so k n given x (Some scn) call is so reads = Leaves n (stmts.Commit given) dones.Committed x call (By_reading given scn is reads) so.0 so.1
+  commit_at_so k n given x None call is so reads =
+      let after : session_at (with_call k.sessions n pending.Commit) n ≡ record (session_at k.sessions n) { call = pending.Commit } = call_set k.sessions n x.live.me pending.Commit so.0 in
+      Pends n x.live given call so.0 (live_so k x.live.me x so.1) is reads (collects_so (record k { sessions = with_call k.sessions n pending.Commit }) x.live (unwrap_or given []) true (live_so k x.live.me x so.1)
+      (By_commit n given call (ap (λ t. t.root) after ∙ so.0) (ap (λ t. t.code) after ∙ is) reads refl))
 
   commit_so : (k : NodeState) (n : ℕ) (given : Option (List ℕ)) (code : Option ℕ) (o : Option Branch) → IsCall input n (stmts.Commit given) → (session_at k.sessions n).code ≡ code → root_at k n ≡ o → RootSo k n o
       → Step p input k (commit_by k n (unwrap_or given []) code o)
   commit_so k n given code None call is none so = Completes_at_once n (stmts.Commit given) dones.Committed call (Commits_nothing given) none
   commit_so k n given (Some c) (Some x) call is root so = Refuses n (Some (stmts.Commit given)) _ call
-  commit_so k n given None (Some x) call is root so =
-      let after : session_at (with_call k.sessions n pending.Commit) n ≡ record (session_at k.sessions n) { call = pending.Commit } = call_set k.sessions n x.live.me pending.Commit so.0 in
-      Pends n x.live given call so.0 (live_so k x.live.me x so.1) is (collects_so (record k { sessions = with_call k.sessions n pending.Commit }) x.live (unwrap_or given []) true (live_so k x.live.me x so.1)
-      (By_commit n given call (ap (λ t. t.root) after ∙ so.0) (ap (λ t. t.code) after ∙ is) refl))
+  commit_so k n given None (Some x) call is root so = commit_at_so k n given x x.live.read_at call is so refl
 
   rollback_so : (k : NodeState) (n : ℕ) (o : Option Branch) → IsCall input n stmts.Rollback → root_at k n ≡ o → RootSo k n o → Step p input k (rollback_by k n o)
   rollback_so k n None call none so = Completes_at_once n stmts.Rollback dones.RolledBack call Rolls_nothing_back none
-  rollback_so k n (Some x) call root so = Rolls_back n x call so.0 so.1
+  rollback_so k n (Some x) call root so = Leaves n stmts.Rollback dones.RolledBack x call By_rollback_call so.0 so.1
+
+  read_only_so : (k : NodeState) (n : ℕ) (root : Option BranchId) → IsCall input n stmts.SetReadOnly → IsSession n → (session_at k.sessions n).root ≡ root → Step p input k (read_only_by p k n root)
+  read_only_so k n (Some b) call fit is = Refuses n (Some stmts.SetReadOnly) _ call
+  read_only_so k n None call fit is = Begins n stmts.SetReadOnly (Some k.clock) call By_read_only fit is (Sets_read_only n call)
+
+  savepoint_so : (k : NodeState) (n : ℕ) (name : List ℕ) (code : Option ℕ) (o : Option Branch) → IsCall input n (stmts.Savepoint name) → (session_at k.sessions n).code ≡ code → RootSo k n o
+      → Step p input k (savepoint_by k n name code o)
+  savepoint_so k n name code None call is so = Rests
+  savepoint_so k n name (Some c) (Some x) call is so = Refuses n (Some (stmts.Savepoint name)) _ call
+  savepoint_so k n name None (Some x) call is so = Sets_savepoint n x name call so.0 is so.1
+
+  to_savepoint_so : (k : NodeState) (n : ℕ) (name : List ℕ) (x : Branch) (step : Option ℕ) → IsCall input n (stmts.RollbackTo name) → (session_at k.sessions n).code ≡ None → RootSo k n (Some x)
+      → savepoint_at x.work.marks name ≡ step → Step p input k (back_to_savepoint k n name x step)
+  to_savepoint_so k n name x None call is so at = Refuses n (Some (stmts.RollbackTo name)) _ call
+  to_savepoint_so k n name x (Some step) call is so at = goes_back_so k x step (By_rollback_to n x name step call so.0 is so.1 at)
+
+  back_so : (k : NodeState) (n : ℕ) (name : List ℕ) (code : Option ℕ) (o : Option Branch) → IsCall input n (stmts.RollbackTo name) → (session_at k.sessions n).code ≡ code → RootSo k n o
+      → Step p input k (back_by k n name code o)
+  back_so k n name code None call is so = Refuses n (Some (stmts.RollbackTo name)) _ call
+  back_so k n name (Some c) (Some x) call is so = Refuses n (Some (stmts.RollbackTo name)) _ call
+  back_so k n name None (Some x) call is so = to_savepoint_so k n name x (savepoint_at x.work.marks name) call is so refl
 
   force_commit_so : (k : NodeState) (n : ℕ) (id : List ℕ) (scn : Option ℕ) (o : Result BranchId Refusal) → IsCall input n (stmts.CommitForce id scn) → branch_to_force p.names k.stored.durable.kept id ≡ o
       → Step p input k (force_commit k n scn o)
@@ -280,16 +349,22 @@ module _ (p : Place) (input : Input) where
   call_turn_so k n (stmts.CreateTable t) call fit = makes_so k n (stmts.CreateTable t) _ _ _ (is_used k.stored.durable t.name) call (Makes_table t)
   call_turn_so k n (stmts.CreateLink l) call fit = makes_so k n (stmts.CreateLink l) _ _ _ (is_link k.stored.durable l.name) call (Makes_link l)
   call_turn_so k n (stmts.CreateSynonym y) call fit = makes_so k n (stmts.CreateSynonym y) _ _ _ (is_used k.stored.durable y.name) call (Makes_synonym y)
-  call_turn_so k n (stmts.Insert table columns given) call fit = begun_so n (stmts.Insert table columns given) call k (session_at k.sessions n).root tt fit refl
-  call_turn_so k n (stmts.Update table sets cs) call fit = begun_so n (stmts.Update table sets cs) call k (session_at k.sessions n).root tt fit refl
-  call_turn_so k n (stmts.Delete table cs) call fit = begun_so n (stmts.Delete table cs) call k (session_at k.sessions n).root tt fit refl
-  call_turn_so k n (stmts.Select list table cs for_update) call fit = begun_so n (stmts.Select list table cs for_update) call k (session_at k.sessions n).root tt fit refl
+  call_turn_so k n (stmts.Insert table columns given) call fit = rows_so n (stmts.Insert table columns given) call k tt fit tt
+  call_turn_so k n (stmts.Update table sets cs) call fit = rows_so n (stmts.Update table sets cs) call k tt fit tt
+  call_turn_so k n (stmts.Delete table cs) call fit = rows_so n (stmts.Delete table cs) call k tt fit tt
+  call_turn_so k n (stmts.Select list table cs for_update) call fit = rows_so n (stmts.Select list table cs for_update) call k tt fit tt
   call_turn_so k n (stmts.Commit given) call fit = commit_so k n given (session_at k.sessions n).code (root_at k n) call refl refl (root_so k n)
   call_turn_so k n (stmts.CommitForce id scn) call fit = force_commit_so k n id scn (branch_to_force p.names k.stored.durable.kept id) call refl
   call_turn_so k n stmts.Rollback call fit = rollback_so k n (root_at k n) call refl (root_so k n)
   call_turn_so k n (stmts.RollbackForce id) call fit = force_rollback_so k n id (branch_to_force p.names k.stored.durable.kept id) call refl
   call_turn_so k n (stmts.Advise a) call fit = Advises n a call
   call_turn_so k n (stmts.Recovery on) call fit = Makes_record n (stmts.Recovery on) _ _ call (Sets_recovery on)
+  call_turn_so k n (stmts.SetStrength strength) call fit = Makes_record n (stmts.SetStrength strength) _ _ call (Sets_strength strength)
+  call_turn_so k n stmts.SetReadOnly call fit = read_only_so k n (session_at k.sessions n).root call fit refl
+  call_turn_so k n (stmts.Savepoint name) call fit =
+      begun_so n (stmts.Savepoint name) call k (λ j. savepoint_call j n name) (session_at k.sessions n).root (By_savepoint name) tt fit refl (λ j. savepoint_so j n name (session_at j.sessions n).code (root_at j n) call refl (root_so j n))
+  call_turn_so k n (stmts.RollbackTo name) call fit =
+      Counts_call n (stmts.RollbackTo name) call tt (back_so (counted k n) n name (session_at (counted k n).sessions n).code (root_at (counted k n) n) call refl (root_so (counted k n) n))
   call_turn_so k n (stmts.PurgeMixed id) call fit = purge_so k n true id call
   call_turn_so k n (stmts.PurgeLost id) call fit = purge_so k n false id call
 
@@ -313,6 +388,10 @@ module _ (p : Place) (input : Input) where
   unfolding recovery
   recovery_so k reco = Sends _ (Recovers reco)
 
+  checkpoint_so : (k : NodeState) → input ≡ inputs.Checkpoint → Step p input k (checkpoint k)
+  unfolding checkpoint
+  checkpoint_so k is = cond_both (nat_lt image_limit (image_bytes (image_at k.stored k.clock))) _ _ (Step p input k) (λ large. Rests) (λ fits. Images is)
+
 -- each turn is one of the steps
 pub step_of : (p : Place) (k : NodeState) (input : Input) → IsFit input → Step p input (heard k input) (draft_of p k input)
 step_of p k (inputs.Call n s) fit = read_turn_so p (inputs.Call n s) k n s refl fit
@@ -320,3 +399,4 @@ step_of p k (inputs.GiveUp n) fit = give_up_so p (inputs.GiveUp n) k n (session_
 step_of p k (inputs.Message m) fit =
     kind_turn_so p (inputs.Message m) (clock_raised_by k m) m.from m.to m.kind (status_of (clock_raised_by k m) m.to) (record { scn = m.scn; is = refl }) (omega arith) (stands_so (clock_raised_by k m) m.to)
 step_of p k inputs.Reco fit = recovery_so p inputs.Reco k refl
+step_of p k inputs.Checkpoint fit = checkpoint_so p inputs.Checkpoint k refl

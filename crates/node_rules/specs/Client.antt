@@ -1,6 +1,7 @@
 -- The calls of clients: each form of statement in a session, and a call that is given up. (SQL Language Reference: COMMIT,
 -- ROLLBACK, ALTER SESSION, ALTER SYSTEM, CREATE; Database Administrator's Guide, "Managing Distributed Transactions".)
-use Rattle.std.specs.Prelude.{ℕ, ◌+◌, ◌||◌, Bool, true, false, if◌then◌else◌, List, [], ◌∷◌, ◌++◌, unwrap_or, option_map, Option, Some, None}
+pub use Rattle.node_rules.specs.Names.{is_write}
+use Rattle.std.specs.Prelude.{ℕ, ◌+◌, ◌&&◌, ◌||◌, Bool, true, false, if◌then◌else◌, List, [], ◌∷◌, ◌++◌, unwrap_or, is_some, option_map, Option, Some, None}
 use Rattle.std.specs.List.{list_any}
 use Rattle.node_rules.specs.Data.{Table, Link, Synonym, Stmt, Done, Advice, Refusal, BranchId, RedoRecord, KeptRow, Durable, Live, Place, Going, Waits, PendingCall, Session}
 use Rattle.node_rules.specs.Data.answers
@@ -16,8 +17,9 @@ use Rattle.node_rules.specs.Ids.{decimal}
 use Rattle.node_rules.specs.Words.{same_text, one, set_numbered}
 use Rattle.node_rules.specs.Refusals.{ora, dtx}
 use Rattle.node_rules.specs.Records.{with_record}
-use Rattle.node_rules.specs.Sessions.{session_at, with_call, with_root, needs_rollback, no_transaction, commit_ended, commit_answer, tran_refusal}
-use Rattle.node_rules.specs.Calls.{statement_at, strength_of}
+use Rattle.node_rules.specs.Sessions.{session_at, with_call, with_root, with_call_of, needs_rollback, no_transaction, commit_ended, commit_answer, tran_refusal}
+use Rattle.node_rules.specs.Marks.{with_savepoint, savepoint_at, step_of}
+use Rattle.node_rules.specs.Calls.{statement_at, strength_of, goes_back}
 use Rattle.node_rules.specs.Prepare.{collects, with_comment, root_drops, to_children}
 use Rattle.node_rules.specs.Commit.{knows_commit}
 use Rattle.node_rules.specs.Force.{branch_to_force, force_commit, force_rollback, purge}
@@ -35,14 +37,14 @@ did k session d = ending k session (answers.Did d 0)
 abbrev pub new_root : Place → NodeState → ℕ → BranchId
 new_root p k n = record { node = p.number; boot = k.stored.durable.boot; session = n; seq = (session_at k.sessions n).seq + 1 }
 
--- a root that has just begun
-abbrev pub fresh_root : Place → NodeState → BranchId → Live
-fresh_root p k root = fresh_live root root None 1 (strength_of p k)
+-- a root that has just begun, and reads at an SCN where its transaction is READ ONLY
+abbrev pub fresh_root : Place → NodeState → BranchId → Option ℕ → Live
+fresh_root p k root read_at = fresh_live root root None 1 (strength_of p k) read_at
 
 -- a transaction begins in a session that has none
-abbrev pub begun_lives : Place → NodeState → ℕ → Option BranchId → List Live
-begun_lives p k n (Some root) = k.lives
-begun_lives p k n None = k.lives ++ fresh_root p k (new_root p k n) ∷ []
+abbrev pub begun_lives : Place → NodeState → ℕ → Option ℕ → Option BranchId → List Live
+begun_lives p k n read_at (Some root) = k.lives
+begun_lives p k n read_at None = k.lives ++ fresh_root p k (new_root p k n) read_at ∷ []
 
 -- the session has a new root
 abbrev pub begun_sessions : Place → NodeState → ℕ → Option BranchId → List Session
@@ -50,12 +52,16 @@ begun_sessions p k n (Some root) = k.sessions
 begun_sessions p k n None = with_root k.sessions n (new_root p k n)
 
 -- the node with a transaction in a session that has this one or none
-abbrev pub begun_by : Place → NodeState → ℕ → Option BranchId → NodeState
-begun_by p k n root = record k { lives = begun_lives p k n root; sessions = begun_sessions p k n root }
+abbrev pub begun_by : Place → NodeState → ℕ → Option ℕ → Option BranchId → NodeState
+begun_by p k n read_at root = record k { lives = begun_lives p k n read_at root; sessions = begun_sessions p k n root }
 
--- the node with a transaction in this session
+-- the node with one call more of a session's transaction, where it has one
+abbrev pub counted : NodeState → ℕ → NodeState
+counted k n = record k { sessions = with_call_of k.sessions n (session_at k.sessions n).root }
+
+-- the node with a transaction in this session, and its call counted
 abbrev pub begun : Place → NodeState → ℕ → NodeState
-begun p k n = begun_by p k n (session_at k.sessions n).root
+begun p k n = counted (begun_by p k n None (session_at k.sessions n).root) n
 
 -- the live branch of an id, where there is one
 abbrev pub root_by : NodeState → Option BranchId → Option Branch
@@ -66,21 +72,39 @@ root_by k (Some root) = branch_at k root
 abbrev pub root_at : NodeState → ℕ → Option Branch
 root_at k n = root_by k (session_at k.sessions n).root
 
+-- DTX-21 where a READ ONLY transaction would write; its root says so before it looks for a table
+abbrev pub allowed_at : Place → NodeState → ℕ → Branch → Stmt → TurnDraft
+allowed_at p k n x s = if is_some x.live.read_at && is_write s then refuses k n (dtx 21 []) else statement_at p k x s 0
+
 -- ORA-02067 where the transaction needs a rollback; a session with a transaction and no pending call has a live root
 abbrev pub statement_by : Place → NodeState → ℕ → Stmt → Option ℕ → Option Branch → TurnDraft
 statement_by p k n s code None = nothing k
 statement_by p k n s (Some c) (Some x) = refuses k n (ora 2067 (one (decimal c)))
-statement_by p k n s None (Some x) = statement_at p k x s 0
+statement_by p k n s None (Some x) = allowed_at p k n x s
 
 -- INSERT, UPDATE, DELETE and SELECT, at the session's root
 abbrev pub statement_call : Place → NodeState → ℕ → Stmt → TurnDraft
 statement_call p k n s = statement_by p k n s (session_at k.sessions n).code (root_at k n)
 
+-- a root ends at once: its branch and its children are rolled back
+abbrev pub leaves : NodeState → ℕ → Done → Branch → TurnDraft
+leaves k n d x = record {
+  after = record (without_branch k x.live.me) { sessions = set_numbered k.sessions n (no_transaction (session_at k.sessions n)) };
+  wrote = None;
+  says = to_children x.live kinds.Rollback;
+  ended = (record { session = n; answer = answers.Did d 0 }) ∷ [];
+}
+
+-- COMMIT of a transaction: one that is READ ONLY has nothing to commit
+abbrev pub commit_at : NodeState → ℕ → List ℕ → Branch → Option ℕ → TurnDraft
+commit_at k n comment x (Some scn) = leaves k n dones.Committed x
+commit_at k n comment x None = collects (record k { sessions = with_call k.sessions n pending.Commit }) (with_comment x.live comment) true
+
 -- COMMIT: without a transaction it is complete
 abbrev pub commit_by : NodeState → ℕ → List ℕ → Option ℕ → Option Branch → TurnDraft
 commit_by k n comment code None = did k n dones.Committed
 commit_by k n comment (Some c) (Some x) = refuses k n (ora 2067 (one (decimal c)))
-commit_by k n comment None (Some x) = collects (record k { sessions = with_call k.sessions n pending.Commit }) (with_comment x.live comment) true
+commit_by k n comment None (Some x) = commit_at k n comment x x.live.read_at
 
 -- COMMIT, with its comment
 abbrev pub commit_call : NodeState → ℕ → Option (List ℕ) → TurnDraft
@@ -89,12 +113,41 @@ commit_call k n comment = commit_by k n (unwrap_or comment []) (session_at k.ses
 -- ROLLBACK
 abbrev pub rollback_by : NodeState → ℕ → Option Branch → TurnDraft
 rollback_by k n None = did k n dones.RolledBack
-rollback_by k n (Some x) = record {
-  after = record (without_branch k x.live.me) { sessions = set_numbered k.sessions n (no_transaction (session_at k.sessions n)) };
-  wrote = None;
-  says = to_children x.live kinds.Rollback;
-  ended = (record { session = n; answer = answers.Did dones.RolledBack 0 }) ∷ [];
-}
+rollback_by k n (Some x) = leaves k n dones.RolledBack x
+
+-- SET TRANSACTION READ ONLY: ORA-01453 in a transaction, else one begins that reads at the node's clock
+abbrev pub read_only_by : Place → NodeState → ℕ → Option BranchId → TurnDraft
+read_only_by p k n (Some root) = refuses k n (ora 1453 [])
+read_only_by p k n None = did (begun_by p k n (Some k.clock) None) n dones.TransactionSet
+
+-- a root with a savepoint at its step
+abbrev pub marked : List Session → Branch → List ℕ → Branch
+marked ss x name = record x { work = record x.work { marks = with_savepoint x.work.marks name (step_of ss x) } }
+
+-- SAVEPOINT, or ORA-02067
+abbrev pub savepoint_by : NodeState → ℕ → List ℕ → Option ℕ → Option Branch → TurnDraft
+savepoint_by k n name code None = nothing k
+savepoint_by k n name (Some c) (Some x) = refuses k n (ora 2067 (one (decimal c)))
+savepoint_by k n name None (Some x) = did (with_branch k (marked k.sessions x name)) n dones.SavepointMade
+
+-- SAVEPOINT, at the session's root
+abbrev pub savepoint_call : NodeState → ℕ → List ℕ → TurnDraft
+savepoint_call k n name = savepoint_by k n name (session_at k.sessions n).code (root_at k n)
+
+-- a session tree goes back to a savepoint, or DTX-22
+abbrev pub back_to_savepoint : NodeState → ℕ → List ℕ → Branch → Option ℕ → TurnDraft
+back_to_savepoint k n name x None = refuses k n (dtx 22 (one name))
+back_to_savepoint k n name x (Some step) = goes_back k x step
+
+-- ROLLBACK TO: ORA-02067, or DTX-22 where there is no transaction
+abbrev pub back_by : NodeState → ℕ → List ℕ → Option ℕ → Option Branch → TurnDraft
+back_by k n name code None = refuses k n (dtx 22 (one name))
+back_by k n name (Some c) (Some x) = refuses k n (ora 2067 (one (decimal c)))
+back_by k n name None (Some x) = back_to_savepoint k n name x (savepoint_at x.work.marks name)
+
+-- ROLLBACK TO, at the session's root
+abbrev pub back_call : NodeState → ℕ → List ℕ → TurnDraft
+back_call k n name = back_by k n name (session_at k.sessions n).code (root_at k n)
 
 -- a statement that writes one record and is done
 abbrev pub writes : NodeState → ℕ → RedoRecord → Done → TurnDraft
@@ -128,6 +181,10 @@ advise k n a = did (record k { sessions = set_numbered k.sessions n (record (ses
 abbrev pub set_recovery : NodeState → ℕ → Bool → TurnDraft
 set_recovery k n on = writes k n (records.Param (params.Recovery on)) dones.SystemAltered
 
+-- ALTER SYSTEM SET COMMIT_POINT_STRENGTH
+abbrev pub set_strength : NodeState → ℕ → ℕ → TurnDraft
+set_strength k n strength = writes k n (records.Param (params.Strength strength)) dones.SystemAltered
+
 -- each form of statement
 abbrev pub call_turn : Place → NodeState → ℕ → Stmt → TurnDraft
 call_turn p k n (stmts.CreateTable t) = create_table k n t
@@ -143,6 +200,10 @@ call_turn p k n stmts.Rollback = rollback_by k n (root_at k n)
 call_turn p k n (stmts.RollbackForce id) = force_rollback k n (branch_to_force p.names k.stored.durable.kept id)
 call_turn p k n (stmts.Advise a) = advise k n a
 call_turn p k n (stmts.Recovery on) = set_recovery k n on
+call_turn p k n (stmts.SetStrength strength) = set_strength k n strength
+call_turn p k n stmts.SetReadOnly = read_only_by p k n (session_at k.sessions n).root
+call_turn p k n (stmts.Savepoint name) = savepoint_call (begun p k n) n name
+call_turn p k n (stmts.RollbackTo name) = back_call (counted k n) n name
 call_turn p k n (stmts.PurgeMixed id) = purge k n true id
 call_turn p k n (stmts.PurgeLost id) = purge k n false id
 

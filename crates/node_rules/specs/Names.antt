@@ -1,7 +1,7 @@
 -- What a statement's table name means at a node, and where the statement goes from a branch: it runs here, goes to a
 -- child, opens a link, or is refused. (Database Administrator's Guide, "Managing a Distributed Database": database links
 -- and synonyms.)
-use Rattle.std.specs.Prelude.{ℕ, ◌+◌, ◌==◌, ◌||◌, if◌then◌else◌, List, [], find, length, position, nat_le, option_map, Option, Some, None}
+use Rattle.std.specs.Prelude.{ℕ, ◌+◌, ◌==◌, ◌&&◌, ◌||◌, Bool, true, if◌then◌else◌, List, [], find, length, position, nat_le, is_some, option_map, Option, Some, None}
 use Rattle.dtx_values.specs.Limits.{depth_limit}
 use Rattle.node_rules.specs.Data.{Table, TableRef, Link, Synonym, Stmt, Refusal, Durable, Live, Place}
 use Rattle.node_rules.specs.Data.stmts
@@ -101,6 +101,11 @@ way_named p d l given Unknown = Nowhere_to (ora 942 [])
 way_named p d l given (A_table t) = Runs_here t
 way_named p d l given (Behind link table) = way_target p l given link table (target_of p d link)
 
--- where a statement goes from a live branch, with the room that its Exec carried
+-- whether a statement with a table writes rows or locks them
+abbrev pub is_write : Stmt → Bool
+is_write (stmts.Select list table cs for_update) = for_update
+is_write _ = true
+
+-- where a statement goes from a live branch, with the room that its Exec carried; DTX-21 where a READ ONLY branch would write
 unfoldable pub way_of : Place → Durable → Live → ℕ → Stmt → Way
-way_of p d l given s = way_named p d l given (named_by d (ref_of s))
+way_of p d l given s = if is_some l.read_at && is_write s then Nowhere_to (dtx 21 []) else way_named p d l given (named_by d (ref_of s))

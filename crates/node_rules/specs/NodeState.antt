@@ -9,13 +9,19 @@ use Rattle.node_rules.specs.Words.{item_at, put_item, drop_item}
 use Rattle.node_rules.specs.Rows.{TableRows}
 use Rattle.link_session.specs.Calls.{no_calls}
 use Rattle.row_locks.specs.Locks.{Lock, without}
+use Rattle.read_only_tx.specs.Versions.{Versions}
+use Rattle.savepoints.specs.Marks.{no_marks}
 
--- What the records of a node give: catalog and kept branches, committed rows, branches in doubt, and the greatest SCN except those that users gave. The Acks that were heard stand with the kept branches, though no record has them.
+-- What the records of a node give: catalog and kept branches, committed rows, branches in doubt in the order of their ids, the
+-- greatest SCN except those that users gave, the greatest SCN of a commit that changed rows, and the number of the newest image,
+-- 0 before any. The Acks that were heard stand with the kept branches, though no record has them.
 pub record Stored : Type 0 where
   pub durable : Durable
   pub rows : List TableRows
   pub doubts : List Doubt
   pub scn : ℕ
+  pub top : ℕ
+  pub generation : ℕ
 
 -- What a node keeps: what its records give, and what a stop loses.
 pub record NodeState : Type 0 where
@@ -25,6 +31,7 @@ pub record NodeState : Type 0 where
   pub works : List Work  -- the calls of live branches
   pub locks : List Lock  -- in the order in which they were taken; those of a branch that seals come behind all others
   pub clock : ℕ
+  pub versions : Versions  -- the newest commits, behind which READ ONLY transactions can look
   pub opens : List Opening  -- the Opens that were answered since the start
   pub sessions : List Session  -- client sessions, from number 1
 
@@ -77,7 +84,7 @@ kept_row_id s = s.me
 
 -- a branch to which no call came, and which made none
 abbrev pub no_work : BranchId → Work
-no_work b = record { branch = b; came = no_calls; calls = []; going = None }
+no_work b = record { branch = b; came = no_calls; calls = []; going = None; marks = no_marks }
 
 -- the live branch of an id
 abbrev pub live_at : NodeState → BranchId → Option Live

@@ -1,6 +1,6 @@
 -- Client sessions, from number 1: the transaction of each, its pending call, and what is answered to a COMMIT. (Database
 -- Administrator's Guide, "Distributed Transactions Concepts": the session that begins a distributed transaction.)
-use Rattle.std.specs.Prelude.{ℕ, ◌&&◌, Bool, true, false, if◌then◌else◌, List, [], ◌∷◌, unwrap_or, Some, None}
+use Rattle.std.specs.Prelude.{ℕ, ◌+◌, ◌&&◌, Bool, true, false, if◌then◌else◌, List, [], ◌∷◌, unwrap_or, Option, Some, None}
 use Rattle.node_rules.specs.Data.{Answer, BranchId, PendingCall, Session, Finished}
 use Rattle.node_rules.specs.Data.answers
 use Rattle.node_rules.specs.Data.dones
@@ -12,7 +12,7 @@ use Rattle.node_rules.specs.Ids.{local_text}
 
 -- a session that has done nothing
 abbrev pub fresh_session : Session
-fresh_session = record { seq = 0; root = None; advice = None; code = None; call = pending.NoCall }
+fresh_session = record { seq = 0; root = None; advice = None; calls = 0; code = None; call = pending.NoCall }
 
 -- the session of a number
 abbrev pub session_at : List Session → ℕ → Session
@@ -22,9 +22,14 @@ session_at ss n = unwrap_or (numbered ss n) fresh_session
 abbrev pub with_call : List Session → ℕ → PendingCall → List Session
 with_call ss n c = set_numbered ss n (record (session_at ss n) { call = c })
 
--- with a new transaction
+-- with a new transaction, of which no call was counted
 abbrev pub with_root : List Session → ℕ → BranchId → List Session
-with_root ss n root = set_numbered ss n (record (session_at ss n) { seq = root.seq; root = Some root })
+with_root ss n root = set_numbered ss n (record (session_at ss n) { seq = root.seq; root = Some root; calls = 0 })
+
+-- with one call more, in a session that has a transaction
+abbrev pub with_call_of : List Session → ℕ → Option BranchId → List Session
+with_call_of ss n None = ss
+with_call_of ss n (Some root) = set_numbered ss n (record (session_at ss n) { calls = (session_at ss n).calls + 1 })
 
 -- from this answer on the transaction can only be rolled back
 abbrev pub needs_rollback : List Session → ℕ → ℕ → List Session

@@ -6,5 +6,13 @@
 mod session;
 mod work;
 
+ghost use Rattle.node_rules.specs.TriedRules.{TheTriedRules};
+
 pub use session::{Ended, Finished, PendingCall, Session, Sessions};
-pub use work::{CallNumbers, Going, Waits, Work, Works};
+pub use work::{Errand, Going, Waits, Work, Works};
+
+/// A branch that goes back keeps what its remaining statements changed and locked, a READ ONLY branch reads the rows from before
+/// a commit above its SCN, and an image has the hidden rows.
+pub fn the_tried_rules()
+    ensures { TheTriedRules }
+{}

@@ -24,6 +24,8 @@ pub struct Session {
     pub root: Option<BranchId>,
     /// Its advice for branches that become in doubt.
     pub advice: Option<Advice>,
+    /// How many calls its newest transaction has had: statements with a table, SAVEPOINT and ROLLBACK TO.
+    pub calls: u32,
     /// The code of the answer after which its transaction can only be rolled back.
     pub code: Option<u16>,
     /// Its call that is not answered yet.

@@ -1,8 +1,9 @@
-//! The statements of a live branch: the calls that came to it, and those that it made.
+//! The calls of a live branch: those that came to it, those that it made, and what it noted of them.
 ghost use Rattle.std.specs.Prelude.{◌≡◌};
 
 use dtx_values::{Listing, Name};
 use link_session::Calls;
+use savepoints::{CallNumbers, Marks};
 use sql_statement::Stmt;
 use tran_ids::BranchId;
 
@@ -23,30 +24,49 @@ impl Drop for Waits {
     }
 }
 
-/// A statement that was passed on and is not answered yet.
+/// What a branch does that calls its children.
+pub enum Errand {
+    /// A statement was passed on.
+    Statement {
+        /// As it goes to the child.
+        statement: Stmt,
+        /// How many branches the tree may still get, as the call that brought the statement told it. At a root it is 0, and not used.
+        room: u16,
+    },
+    /// It goes back to a savepoint: one child after the other is called.
+    GoBack {
+        /// The step that it goes back to.
+        step: u32,
+    },
+}
+
+impl Drop for Errand {
+    fn drop(self) {
+        match self {
+            Errand::Statement {
+                statement,
+                room: _room,
+            } => drop(statement),
+            Errand::GoBack { step: _step } => {}
+        }
+    }
+}
+
+/// What is under way at a branch and not answered yet.
 pub struct Going {
-    /// As it came to the branch.
-    pub statement: Stmt,
-    /// How many branches the tree may still get, as the Exec that brought the statement told it. At a root it is 0, and not used.
-    pub room: u16,
-    /// What the branch waits for.
+    /// What the branch does.
+    pub errand: Errand,
+    /// What it waits for.
     pub waits: Waits,
 }
 
 impl Drop for Going {
     fn drop(self) {
-        let Going {
-            statement,
-            room: _room,
-            waits,
-        } = self;
-        drop(statement);
+        let Going { errand, waits } = self;
+        drop(errand);
         drop(waits);
     }
 }
-
-/// The call numbers of edges, in order of reference.
-pub type CallNumbers = Listing<u32>;
 
 /// The calls of a live branch.
 pub struct Work {
@@ -56,8 +76,10 @@ pub struct Work {
     pub came: Calls,
     /// The last call number of each edge, and 0 before any.
     pub calls: CallNumbers,
-    /// The statement that it passed on and that is not answered yet.
+    /// What is under way and not answered yet.
     pub going: Option<Going>,
+    /// What it noted of its statements and calls, and the savepoints of its transaction.
+    pub marks: Marks,
 }
 
 impl Drop for Work {
@@ -67,10 +89,12 @@ impl Drop for Work {
             came,
             calls,
             going,
+            marks,
         } = self;
         drop(came);
         drop(calls);
         drop(going);
+        drop(marks);
     }
 }
 

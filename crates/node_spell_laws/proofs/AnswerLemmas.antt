@@ -1,6 +1,6 @@
 -- What a statement is answered at the node of its table has bytes: its heads and arguments are names, numbers and ids.
 use Rattle.std.proofs.Common.{◌≡◌, ℕ, ◌&&◌, ◌||◌, Bool, true, false, if◌then◌else◌, List, [], ◌∷◌, ◌++◌, map, zip, find, Option, Some, None, refl, arith}
-use Rattle.std.specs.Prelude.{codes, nat_lt, is_none, is_some, unwrap_or, slice_set, option_map, IfSome, IsTrue, Result, Ok, Err}
+use Rattle.std.specs.Prelude.{codes, length, nat_lt, is_none, is_some, unwrap_or, slice_set, option_map, IfSome, IsTrue, Result, Ok, Err}
 use Rattle.std.specs.List.{AllByRecursion, flat_map}
 use Rattle.std.proofs.lemmas.List.Elements.{recursion_from_All}
 use Rattle.dtx_values.specs.Order.{is_null}
@@ -35,7 +35,7 @@ use Rattle.sql_eval.specs.declared.keyed.Keyed.{Keyed}
 use Rattle.sql_eval.specs.declared.meant.Meant.{Meant}
 use Rattle.sql_eval.specs.declared.meant.Meant.TheVariants as meants
 use Rattle.sql_eval.specs.Meaning.{found, row_unless, set_cell, set_value, set_one, set_all, change_to, update, and_updated, updated, summed_set, picked, changing, inserting, meant_over}
-use Rattle.stmt_run.specs.Run.{StmtContext, held_refusal, in_doubt_refusal, locked_refusal, needed_extents, space_refusal, ran_within, ran_meant, ran_locked, ran_checked, ran_over, answer_of_run}
+use Rattle.stmt_run.specs.Run.{StmtContext, held_refusal, in_doubt_refusal, locked_refusal, needed_extents, space_refusal, ran_within, ran_meant, ran_locked, ran_checked, ran_over, answer_of_run, too_old_refusal}
 use Rattle.node_rules.specs.Statement.{ground_of, ran}
 use Rattle.sql_print.specs.Printing.{IsPrintable}
 use Rattle.msg_codec.specs.Fits.{is_change}
@@ -218,11 +218,11 @@ module _ (t : Table) (whole : IsWholeTable t) where
   abbrev MeansTexts : Meant → Type 0
   MeansTexts (meants.Refused r) = HasTexts r
   MeansTexts (meants.Gives rows) = AreTexts rows.heads
-  MeansTexts (meants.Changes d n cs) = IsTrue (is_change d)
+  MeansTexts (meants.Changes d n cs) = IsTrue (is_change d (length cs))
 
-  changing_so : (d : Done) (r : Result (List Change) Refusal) → IsTrue (is_change d) → ErrHasTexts r → MeansTexts (changing d r)
+  changing_so : (d : Done) (r : Result (List Change) Refusal) → ((n : ℕ) → IsTrue (is_change d n)) → ErrHasTexts r → MeansTexts (changing d r)
   changing_so d (Err r) is texts = texts
-  changing_so d (Ok cs) is texts = is
+  changing_so d (Ok cs) is texts = is (length cs)
 
   inserting_so : (cells : List Value) (o : Option Row) → MeansTexts (inserting t cells o)
   inserting_so cells (Some old) = (its_text, tt)
@@ -246,7 +246,7 @@ module _ (t : Table) (whole : IsWholeTable t) where
   meant_so : (s : Stmt) (rows : List Keyed) → IsNamed s → MeansTexts (meant_over s t rows)
   unfolding meant_over
   meant_so (stmts.Insert table columns given) rows named = inserting_so (cells_of (inserted_cells t columns given)) _
-  meant_so (stmts.Update table sets cs) rows named = changing_so dones.Updated (updated t sets (found (stmts.Update table sets cs) t rows)) refl (updated_so sets (found (stmts.Update table sets cs) t rows))
+  meant_so (stmts.Update table sets cs) rows named = changing_so dones.Updated (updated t sets (found (stmts.Update table sets cs) t rows)) (λ n. refl) (updated_so sets (found (stmts.Update table sets cs) t rows))
   meant_so (stmts.Delete table cs) rows named = refl
   meant_so (stmts.Select list table cs for_update) rows named = picked_so list (found (stmts.Select list table cs for_update) t rows) named.1
   meant_so _ rows named = tt
@@ -256,7 +256,7 @@ module _ (t : Table) (whole : IsWholeTable t) where
   space_so : (g : StmtContext) (cs : List Change) → MayHaveTexts (space_refusal g cs)
   space_so g cs = else_so (refuse_if _ (dtx 16 [])) _ (if_so _ (dtx 16 []) tt) (if_so (nat_lt g.free (needed_extents g cs)) (ora 30036 (decimal (needed_extents g cs) ∷ decimal g.free ∷ [])) (decimal_text (needed_extents g cs), (decimal_text g.free, tt)))
 
-  within_so : (g : StmtContext) (o : Option Refusal) (d : Done) (cs : List Change) (keys : List Value) → MayHaveTexts o → IsTrue (is_change d) → AnswerHasBytes (answer_of_run (ran_within g o d cs keys))
+  within_so : (g : StmtContext) (o : Option Refusal) (d : Done) (cs : List Change) (keys : List Value) → MayHaveTexts o → IsTrue (is_change d (length cs)) → AnswerHasBytes (answer_of_run (ran_within g o d cs keys))
   within_so g (Some r) d cs keys texts is = texts
   within_so g None d cs keys texts is = is
 
@@ -271,7 +271,8 @@ module _ (t : Table) (whole : IsWholeTable t) where
 
   run_so : (g : StmtContext) (s : Stmt) (o : Option Refusal) → IsNamed s → MayHaveTexts o → AnswerHasBytes (answer_of_run (ran_checked g s t o))
   run_so g s (Some r) named is = is
-  run_so g s None named is = locked_so g s (else_refuse (in_doubt_refusal g t _) (locked_refusal g t _)) named (else_so (in_doubt_refusal g t _) (locked_refusal g t _) (held_so 1591 _) (held_so 2049 _))
+  run_so g s None named is = locked_so g s (else_refuse (too_old_refusal g) (else_refuse (in_doubt_refusal g t _) (locked_refusal g t _))) named
+      (else_so (too_old_refusal g) (else_refuse (in_doubt_refusal g t _) (locked_refusal g t _)) (if_so g.too_old (ora 1555 []) tt) (else_so (in_doubt_refusal g t _) (locked_refusal g t _) (held_so 1591 _) (held_so 2049 _)))
 
   -- a statement that runs over a whole table is answered in bytes
   pub answer_has_bytes : (g : StmtContext) (s : Stmt) → IsPrintable s → AnswerHasBytes (answer_of_run (ran_over g s t))

@@ -3,12 +3,12 @@ use Rattle.std.proofs.Common.{ℕ, ◌-◌, ◌<◌, ◌≤◌, ◌^◌, length,
 use Rattle.std.specs.Prelude.{Bool, IfSome}
 use Rattle.std.specs.List.{AllByRecursion}
 use Rattle.std.proofs.lemmas.List.Elements.{All-from_recursion}
-use Rattle.dtx_values.specs.Limits.{link_limit, scn_limit}
+use Rattle.dtx_values.specs.Limits.{link_limit, scn_limit, strength_limit}
 use Rattle.sql_parse.proofs.WholeLaws.{statements_are_whole}
 use Rattle.sql_statement.specs.Whole.{IsWholeTable}
 use Rattle.sql_print.specs.Printing.{printed}
 use Rattle.field_codec.specs.Text.{comment_format}
-use Rattle.node_rules.specs.Data.{BranchId, Decision, KeptRow, RedoRecord, Live, Place, Input}
+use Rattle.node_rules.specs.Data.{BranchId, Decision, KeptRow, RedoRecord, Live, Place, Input, Stmt, Done}
 use Rattle.node_rules.specs.Data.acts
 use Rattle.node_rules.specs.Data.decisions
 use Rattle.node_rules.specs.Data.records
@@ -19,8 +19,8 @@ use Rattle.node_rules.specs.NodeState.{NodeState, Stored, TurnDraft}
 use Rattle.node_rules.specs.Turn.{turn_of}
 use Rattle.node_rules.proofs.Steps as steps
 use Rattle.node_rules.proofs.Steps.{Step, Doing, IsMet}
-use Rattle.node_rules.proofs.StepLemmas.{made_so}
 use Rattle.node_rules.proofs.TurnLemmas.{step_of}
+use Rattle.node_rules.specs.Inputs.{IsCall}
 use Rattle.node_ready_laws.specs.Shapes.{IsShaped}
 use Rattle.node_ready_laws.specs.Sound.{IsSound, IsNext}
 use Rattle.node_ready_laws.proofs.ShapeLemmas.{within}
@@ -44,9 +44,19 @@ met_fits : (clock : ℕ) (d : Decision) → clock < 2 ^ 48 - 1 → IsMet clock d
 met_fits clock (decisions.Commit n) room met = omega (arith, room, met)
 met_fits clock decisions.Rollback room met = tt
 
+made_numbers : {k : NodeState} {input : Input} {n : ℕ} {s : Stmt} {r : RedoRecord} {d : Done} → BringsBytes input → IsCall input n s → steps.Makes k s r d → HasNumbers r
+made_numbers brings call (steps.Makes_table t free) = tt
+made_numbers brings call (steps.Makes_link l free) = tt
+made_numbers brings call (steps.Makes_synonym y free) = tt
+made_numbers brings call (steps.Sets_recovery on) = tt
+made_numbers brings call (steps.Sets_strength strength) =
+    let small : strength ≤ strength_limit = statements_are_whole (stmts.SetStrength strength) (printed (stmts.SetStrength strength)) (call_so brings call) in omega (arith, small)
+
 numbers_on : (p : Place) (input : Input) → BringsBytes input → {k : NodeState} {d : TurnDraft} → Step p input k d → k.clock < 2 ^ 48 - 1 → IfSome d.wrote HasNumbers
-numbers_on p input brings (steps.Begins n s call rows fit none step) room = numbers_on p input brings step room
-numbers_on p input brings (steps.Pends n l given call has live code step) room = numbers_on p input brings step room
+numbers_on p input brings (steps.Begins n s read_at call begins fit none step) room = numbers_on p input brings step room
+numbers_on p input brings (steps.Counts_call n s call counts step) room = numbers_on p input brings step room
+numbers_on p input brings (steps.Goes_back x to goes next) room = numbers_on p input brings next room
+numbers_on p input brings (steps.Pends n l given call has live code writer step) room = numbers_on p input brings step room
 numbers_on p input brings (steps.Lets_reads_go l comment site_below live begun step) room = numbers_on p input brings step room
 numbers_on p input brings (steps.Counts_ack s from kept came counts step) room = numbers_on p input brings step room
 numbers_on p input brings (steps.Acts l site_below acts.Seal why) room = omega (arith, room)
@@ -65,7 +75,7 @@ numbers_on p input brings (steps.Does s from nexts.Rest kept why) room = tt
 numbers_on p input brings (steps.Does s from nexts.AckToward kept why) room = tt
 numbers_on p input brings (steps.Does s from nexts.SayForgotten kept why) room = tt
 numbers_on p input brings (steps.Does s from nexts.SayAck kept why) room = tt
-numbers_on p input brings (steps.Makes_record n s r d call makes) room = made_so HasNumbers (λ t. tt) (λ l. tt) (λ y. tt) (λ on. tt) makes
+numbers_on p input brings (steps.Makes_record n s r d call makes) room = made_numbers brings call makes
 numbers_on p input brings (steps.Forces_given n id m b call named) room =
     let given : m ≤ scn_limit = (statements_are_whole (stmts.CommitForce id (Some m)) (printed (stmts.CommitForce id (Some m))) (call_so brings call)).1 in omega (arith, given)
 numbers_on p input brings (steps.Forces_commit n id b call named) room = omega (arith, room)

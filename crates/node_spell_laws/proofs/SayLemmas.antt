@@ -19,6 +19,7 @@ use Rattle.node_rules.specs.Data.kinds
 use Rattle.node_rules.specs.Names.{ref_of, passed_on}
 use Rattle.node_rules.specs.Inputs.{Came, IsCall}
 use Rattle.node_rules.proofs.Steps.{IsOfRows}
+use Rattle.node_rules.specs.Data.tasks
 use Rattle.node_ready_laws.proofs.ListLemmas.{all_both}
 use Rattle.node_spell_laws.specs.Bytes.{IsUtf8Text, IsTableName, AnswerHasBytes, IsOfTable, StatementHasBytes, HasBytes, AreCounted, AnswerIsCounted, SentFits, BringsBytes, StatementsAreRenamed}
 use Rattle.node_spell_laws.proofs.NamedLemmas.{IsNamed, printable_named}
@@ -34,7 +35,7 @@ answer_fits (answers.Found found) is few = (texts_fit found.heads is few.0, few.
 answer_fits (answers.Refused refusal) is few = texts_fit refusal.args is few
 
 pub sent_fits : SentFits
-sent_fits (kinds.Exec call room advice s) is few = (omega (arith, few), is.0)
+sent_fits (kinds.Exec call (tasks.Run room advice s)) is few = (omega (arith, few), is.0)
 sent_fits (kinds.Reply call weight count result) is few = answer_fits result is few
 sent_fits (kinds.Prepare site_below comment) is few = is
 sent_fits _ is few = tt

@@ -40,6 +40,7 @@ named_after d (records.Forced b e given) is now = now
 named_after d (records.Met b e mixed) is now = now
 named_after d (records.Forgot b) is now = now
 named_after d (records.Hidden b) is now = now
+named_after d (records.Image i) is now = now
 
 named_by : (s : Stored) (rs : List RedoRecord) → AllByRecursion NamesTable rs → AreNamed s.durable.synonyms → AreNamed (stored_by s rs).durable.synonyms
 unfolding stored_by applied
@@ -57,10 +58,13 @@ made_named brings call (steps.Makes_table t free) = tt
 made_named brings call (steps.Makes_link l free) = tt
 made_named brings call (steps.Makes_synonym y free) = printable_named (stmts.CreateSynonym y) (call_so brings call)
 made_named brings call (steps.Sets_recovery on) = tt
+made_named brings call (steps.Sets_strength strength) = tt
 
 names_on : (p : Place) (input : Input) → BringsBytes input → {k : NodeState} {d : TurnDraft} → Step p input k d → IfSome d.wrote NamesTable
-names_on p input brings (steps.Begins n s call rows fit none step) = names_on p input brings step
-names_on p input brings (steps.Pends n l given call has live code step) = names_on p input brings step
+names_on p input brings (steps.Begins n s read_at call begins fit none step) = names_on p input brings step
+names_on p input brings (steps.Counts_call n s call counts step) = names_on p input brings step
+names_on p input brings (steps.Goes_back x to goes next) = names_on p input brings next
+names_on p input brings (steps.Pends n l given call has live code writer step) = names_on p input brings step
 names_on p input brings (steps.Lets_reads_go l comment site_below live begun step) = names_on p input brings step
 names_on p input brings (steps.Counts_ack s from kept came counts step) = names_on p input brings step
 names_on p input brings (steps.Acts l site_below acts.Seal why) = tt

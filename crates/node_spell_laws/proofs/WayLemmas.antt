@@ -1,12 +1,14 @@
 -- Under which name a statement is passed on.
-use Rattle.std.proofs.Common.{◌≡◌, ℕ, Bool, true, false, if◌then◌else◌, List, [], find, Option, Some, None, refl}
+use Rattle.std.proofs.Common.{◌≡◌, ℕ, ◌&&◌, Bool, true, false, if◌then◌else◌, List, [], find, Option, Some, None, refl}
 use Rattle.std.specs.List.{AllByRecursion}
+use Rattle.std.specs.Prelude.{is_some}
+use Rattle.std.proofs.lemmas.Bool.{cond_both}
 use Rattle.node_rules.specs.Data.{Table, Synonym, TableRef, Stmt, Durable, Live, Place}
 use Rattle.node_rules.specs.Data.answers
 use Rattle.node_rules.specs.Words.{same_text}
 use Rattle.node_rules.specs.Refusals.{ora, dtx}
 use Rattle.session_tree.specs.Live.{edge_by_link}
-use Rattle.node_rules.specs.Names.{Way, Runs_here, Over, Through, Nowhere_to, synonym_named, table_named, table_of, ref_named, ref_of, target_of, way_edge, way_target, way_named, way_of}
+use Rattle.node_rules.specs.Names.{Way, Runs_here, Over, Through, Nowhere_to, synonym_named, table_named, table_of, ref_named, ref_of, target_of, way_edge, way_target, way_named, way_of, is_write}
 use Rattle.node_ready_laws.proofs.ListLemmas.{all_found}
 use Rattle.node_spell_laws.specs.Bytes.{IsTableName, AnswerHasBytes}
 
@@ -46,4 +48,4 @@ module _ (p : Place) (d : Durable) (l : Live) (given : ℕ) (names : AllByRecurs
 
   pub way_is_named : (s : Stmt) → IsTableName (ref_of s).name → IsNamedWay (way_of p d l given s)
   unfolding way_of
-  way_is_named s named = ref_way (ref_of s) (ref_of s).link named
+  way_is_named s named = cond_both (is_some l.read_at && is_write s) _ _ IsNamedWay (λ write. tt) (λ may. ref_way (ref_of s) (ref_of s).link named)

@@ -134,9 +134,11 @@ few_acting few why =
     (λ b l found. few.each b l found) why
 
 ways_on : (p : Place) (input : Input) → BringsBytes input → {k : NodeState} {d : TurnDraft} → Step p input k d → AsksChild k input → EachLive HasFewChildren k.lives k.works → KeepsBytes k → IfSome d.wrote HasWay
-ways_on p input brings (steps.Begins {k = k} n s call rows fit none step) asks few now =
-    ways_on p input brings step (none_asked (begun_by p k n None) call) (each_begun HasFewChildren HasFewChildren k.lives k.works few _ (omega arith) (λ y v live any so. so)) (record { lives = begins k now _ no_comment tt; synonyms = now.synonyms })
-ways_on p input brings (steps.Pends n l given call has live code step) asks few now = ways_on p input brings step asks few (record { lives = now.lives; synonyms = now.synonyms })
+ways_on p input brings (steps.Begins {k = k} n s read_at call starts fit none step) asks few now =
+    ways_on p input brings step (none_asked (begun_by p k n read_at None) call) (each_begun HasFewChildren HasFewChildren k.lives k.works few _ (omega arith) (λ y v live any so. so)) (record { lives = begins k now _ no_comment tt; synonyms = now.synonyms })
+ways_on p input brings (steps.Counts_call n s call counts step) asks few now = ways_on p input brings step asks few (record { lives = now.lives; synonyms = now.synonyms })
+ways_on p input brings (steps.Goes_back x to goes next) asks few now = ways_on p input brings next asks few (record { lives = now.lives; synonyms = now.synonyms })
+ways_on p input brings (steps.Pends n l given call has live code writer step) asks few now = ways_on p input brings step asks few (record { lives = now.lives; synonyms = now.synonyms })
 ways_on p input brings (steps.Lets_reads_go l comment site_below live begun step) asks few now = ways_on p input brings step asks few (record { lives = now.lives; synonyms = now.synonyms })
 ways_on p input brings (steps.Counts_ack s from kept came counts step) asks few now = ways_on p input brings step asks few (record { lives = now.lives; synonyms = now.synonyms })
 ways_on p input brings (steps.Acts l site_below (acts.SealAndPass i) why) asks few now = down_fits l i (passes_down why) (few_acting few why)
@@ -165,6 +167,7 @@ heard_few k (inputs.Message m) few = few
 heard_few k (inputs.Call n s) few = few
 heard_few k (inputs.GiveUp n) few = few
 heard_few k inputs.Reco few = few
+heard_few k inputs.Checkpoint few = few
 
 pub ways_lead : WaysLead
 unfolding turn_of

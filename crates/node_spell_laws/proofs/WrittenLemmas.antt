@@ -63,8 +63,10 @@ abbrev HasComment : Option RedoRecord → Type 0
 HasComment w = IfSome w (λ r. comment_format.Fits (comment_in r))
 
 comments_on : (p : Place) (input : Input) → BringsBytes input → {k : NodeState} {d : TurnDraft} → Step p input k d → AsksChild k input → KeepsBytes k → HasComment d.wrote
-comments_on p input brings (steps.Begins {k = k} n s call rows fit none step) asks now = comments_on p input brings step (none_asked (begun_by p k n None) call) (record { lives = begins k now _ no_comment tt; synonyms = now.synonyms })
-comments_on p input brings (steps.Pends n l given call has live code step) asks now = comments_on p input brings step asks (record { lives = now.lives; synonyms = now.synonyms })
+comments_on p input brings (steps.Begins {k = k} n s read_at call starts fit none step) asks now = comments_on p input brings step (none_asked (begun_by p k n read_at None) call) (record { lives = begins k now _ no_comment tt; synonyms = now.synonyms })
+comments_on p input brings (steps.Counts_call n s call counts step) asks now = comments_on p input brings step asks (record { lives = now.lives; synonyms = now.synonyms })
+comments_on p input brings (steps.Goes_back x to goes next) asks now = comments_on p input brings next asks (record { lives = now.lives; synonyms = now.synonyms })
+comments_on p input brings (steps.Pends n l given call has live code writer step) asks now = comments_on p input brings step asks (record { lives = now.lives; synonyms = now.synonyms })
 comments_on p input brings (steps.Lets_reads_go l comment site_below live begun step) asks now = comments_on p input brings step asks (record { lives = now.lives; synonyms = now.synonyms })
 comments_on p input brings (steps.Counts_ack s from kept came counts step) asks now = comments_on p input brings step asks (record { lives = now.lives; synonyms = now.synonyms })
 comments_on p input brings (steps.Acts {k = k} l site_below acts.Seal why) asks now = (acts_so k now brings asks why).comment
@@ -88,6 +90,7 @@ comments_on p input brings (steps.Forces_given n id m b call named) asks now = n
 comments_on p input brings (steps.Forces_commit n id b call named) asks now = no_comment
 comments_on p input brings (steps.Forces_rollback n id b call named) asks now = no_comment
 comments_on p input brings (steps.Hides n mixed id s call found) asks now = no_comment
+comments_on p input brings (steps.Images checkpoint) asks now = no_comment
 comments_on p input brings (steps.Gives_up_commit n b (Some l) gives has waits live) asks now = tt
 comments_on p input brings (steps.Gives_up_commit n b None gives has waits none) asks now = tt
 comments_on p input brings _ asks now = tt

@@ -8,6 +8,7 @@ use Rattle.field_codec.specs.Fits.{HasCount}
 use Rattle.field_codec.specs.Text.{comment_format}
 use Rattle.msg_codec.specs.Fits.{is_change, IsShort, KindFits}
 use Rattle.node_rules.specs.Data.{Table, Stmt, Answer, BranchId, RedoRecord, Phase, Live, Kind, Place, Input}
+use Rattle.node_rules.specs.declared.work.Errand.{Errand}
 use Rattle.node_rules.specs.Data.stmts
 use Rattle.node_rules.specs.Data.answers
 use Rattle.node_rules.specs.Data.kinds
@@ -21,6 +22,8 @@ use Rattle.node_rules.specs.LiveBranches.{EachLive}
 use Rattle.node_rules.specs.Statement.{ran, answer_of_run}
 use Rattle.node_rules.specs.Inputs.{IsFit, Came}
 use Rattle.node_rules.specs.Turn.{turn_of, start_of}
+use Rattle.node_rules.specs.Data.tasks
+use Rattle.node_rules.specs.declared.work.Errand.TheVariants as errands
 use Rattle.node_ready_laws.specs.Rows.{table_named, HasRows}
 
 -- ---- what is said
@@ -29,9 +32,9 @@ use Rattle.node_ready_laws.specs.Rows.{table_named, HasRows}
 abbrev pub IsUtf8Text : List ℕ → Type 0
 IsUtf8Text text = IsTrue (is_utf8 text)
 
--- an answer that nodes send each other: rows were changed, or the heads of what was found are texts, or the arguments of a refusal
+-- an answer that nodes send each other: rows were changed or a branch went back, or the heads of what was found are texts, or the arguments of a refusal
 abbrev pub AnswerHasBytes : Answer → Type 0
-AnswerHasBytes (answers.Did done count) = IsTrue (is_change done)
+AnswerHasBytes (answers.Did done count) = IsTrue (is_change done count)
 AnswerHasBytes (answers.Found found) = AllByRecursion IsUtf8Text found.heads
 AnswerHasBytes (answers.Refused refusal) = AllByRecursion IsUtf8Text refusal.args
 
@@ -47,9 +50,9 @@ IsOfTable _ = ⊥
 abbrev pub StatementHasBytes : Stmt → Type 0
 StatementHasBytes s = IsPrintable s × IsOfTable s
 
--- what nodes say to each other: an Exec has such a statement, a Reply such an answer, and a Prepare a comment
+-- what nodes say to each other: an Exec of a statement has such a one, a Reply such an answer, and a Prepare a comment
 abbrev pub HasBytes : Kind → Type 0
-HasBytes (kinds.Exec call room advice s) = StatementHasBytes s
+HasBytes (kinds.Exec call (tasks.Run room advice s)) = StatementHasBytes s
 HasBytes (kinds.Reply call weight count result) = AnswerHasBytes result
 HasBytes (kinds.Prepare site_below comment) = comment_format.Fits comment
 HasBytes _ = Unit {0}
@@ -94,11 +97,16 @@ abbrev pub HasAsker : Option BranchId → Phase → Type 0
 HasAsker parent (phases.Collecting false) = IsTrue (is_some parent)
 HasAsker parent _ = Unit {0}
 
+-- what a branch has under way
+abbrev pub ErrandHasBytes : Errand → Type 0
+ErrandHasBytes (errands.Statement s given) = StatementHasBytes s
+ErrandHasBytes (errands.GoBack step) = Unit {0}
+
 -- A live branch whose comment, whose statement under way and whose last answer have bytes, and which has a parent where its
 -- record will name one.
 pub record LiveHasBytes (l : Live) (w : Work) : Type 0 where
   pub comment : comment_format.Fits l.comment
-  pub going : IfSome w.going (λ g. StatementHasBytes g.statement)
+  pub going : IfSome w.going (λ g. ErrandHasBytes g.errand)
   pub reply : IfSome w.came.reply (λ t. AnswerHasBytes t.result)
   pub asker : HasAsker l.parent l.phase
 

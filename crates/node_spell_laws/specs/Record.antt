@@ -34,10 +34,10 @@ abbrev pub WayFits : Toward → Option BranchId → ℕ → Type 0
 WayFits towards.Parent parent children = IsTrue (is_some parent)
 WayFits (towards.Child child) parent children = (child < children) × (child + 1 < 2 ^ 8)
 
--- a setting is no strength
+-- one byte is enough for the commit point strength
 abbrev pub ParamFits : Param → Type 0
 ParamFits (params.Recovery enabled) = Unit {0}
-ParamFits (params.Strength strength) = ⊥
+ParamFits (params.Strength strength) = strength < 2 ^ 8
 
 -- What a record of a prepared or a decided branch needs: a comment, changes and an SCN.
 pub record WorkFits (scn : ℕ) (comment : List ℕ) (changes : List Change) : Type 0 where
@@ -60,8 +60,9 @@ RecordHasBytes _ = Unit {0}
 abbrev pub AreFew : {A : Type 0} → List A → Type 0
 AreFew xs = length xs < 2 ^ 32
 
--- and the children and changes of a record
+-- and the children and changes of a record; an image has no spelling yet
 abbrev pub HasFew : RedoRecord → Type 0
 HasFew (records.Sealed r) = AreFew r.children × AreFew r.changes
 HasFew (records.Decided r) = AreFew r.children × AreFew r.changes
+HasFew (records.Image i) = ⊥
 HasFew _ = Unit {0}

@@ -50,7 +50,7 @@ abbrev pub WaysLead : Type 0
 WaysLead = (p : Place) (k : NodeState) (input : Input) → IsFit input → BringsBytes input → AsksChild k input → EachLive HasFewChildren k.lives k.works → KeepsBytes k
     → IfSome (turn_of p k input).wrote HasWay
 
--- the SCN of a record is one that six bytes tell, and a setting is no strength
+-- the SCN of a record is one that six bytes tell, and a strength one that one byte tells
 abbrev pub HasNumbers : RedoRecord → Type 0
 HasNumbers (records.Param p) = ParamFits p
 HasNumbers (records.Sealed r) = IsScn r.scn

@@ -166,7 +166,7 @@ fn are_few(children: &Peers, changes: &Changes) -> bool
     children.as_slice().len() < 4_294_967_296 && changes.as_slice().len() < 4_294_967_296
 }
 
-/// Whether four bytes are enough to count the children and the changes of the record.
+/// Whether four bytes are enough to count the children and the changes of the record. An image has no spelling yet.
 pub fn has_few(redo: &RedoRecord) -> bool
     ensures yes { result ≡ true → HasFew redo.now }
     ensures no { result ≡ false → HasFew redo.now → ⊥ }
@@ -174,6 +174,7 @@ pub fn has_few(redo: &RedoRecord) -> bool
     match redo {
         RedoRecord::Sealed(sealed) => are_few(&sealed.children, &sealed.changes),
         RedoRecord::Decided(decided) => are_few(&decided.children, &decided.changes),
+        RedoRecord::Image(_) => false,
         _ => true,
     }
 }
@@ -209,5 +210,6 @@ pub fn record_fits(redo: &RedoRecord)
         }
         RedoRecord::Forgot(me) => branch_fits(me),
         RedoRecord::Hidden(me) => branch_fits(me),
+        RedoRecord::Image(_) => {}
     }
 }

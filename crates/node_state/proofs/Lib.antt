@@ -1,3 +1,4 @@
 mod BranchLaws
 mod LiveLaws
 mod WorkLaws
+mod MarkLaws

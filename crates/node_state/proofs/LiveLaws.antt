@@ -1,5 +1,5 @@
 -- What the rules make of a live branch keeps its id and the number of its children.
-use Rattle.std.proofs.Common.{◌≡◌, ℕ, ◌+◌, ◌<◌, ◌≤◌, zero, suc, Bool, true, false, if◌then◌else◌, List, [], ◌∷◌, ◌++◌, length, length-append, Option, None, Some, sym, subst, ◌∙◌, refl, arith}
+use Rattle.std.proofs.Common.{◌≡◌, ℕ, ◌<◌, ◌≤◌, zero, suc, Bool, true, false, if◌then◌else◌, List, [], ◌∷◌, length, length-append, Option, None, Some, sym, subst, ◌∙◌, refl, arith}
 use Rattle.std.proofs.lemmas.List.{length-map, length-set}
 use Rattle.dtx_values.specs.Limits.{branch_limit}
 use Rattle.tran_ids.specs.declared.branch.BranchId.{BranchId}

@@ -1,5 +1,5 @@
 -- What the rules make of a live branch.
-use Rattle.std.specs.Prelude.{◌≡◌, ℕ, ◌≤◌, ◌||◌, Bool, List, length, Option, None, Some}
+use Rattle.std.specs.Prelude.{ℕ, ◌≤◌, ◌||◌, Bool, List, length, Option, None, Some}
 use Rattle.dtx_values.specs.Limits.{branch_limit}
 use Rattle.tran_ids.specs.Listed.{numbered, set_numbered}
 use Rattle.session_tree.specs.declared.edge.Edge.{Edge}

@@ -2,6 +2,7 @@
 //! the definitions that the rules of a node use.
 #![tactic(auto)]
 
+mod kept_calls;
 mod live_changes;
 mod lives;
 mod sessions;

@@ -1,8 +1,8 @@
 //! The client sessions of a node.
-ghost use Rattle.std.specs.Prelude.{◌≡◌, replicate, IfOk};
+ghost use Rattle.std.specs.Prelude.{◌≡◌, replicate, IfOk, OnOk, OnErr};
 ghost use Rattle.tran_ids.specs.Listed.{set_numbered};
 ghost use Rattle.session_tree.specs.Live.{is_branch};
-ghost use Rattle.node_rules.specs.Sessions.{fresh_session as fresh_session_of, session_at, with_call, with_root, needs_rollback, no_transaction, is_commit as is_commit_of, commit_is_pending, commit_ended, commit_answer};
+ghost use Rattle.node_rules.specs.Sessions.{fresh_session as fresh_session_of, session_at, with_call, with_call_of, with_root, needs_rollback, no_transaction, is_commit as is_commit_of, commit_is_pending, commit_ended, commit_answer};
 ghost use Rattle.node_state.specs.Sessions.{with_advice, transaction_ended};
 
 use dtx_values::{Advice, Answer, Listing};
@@ -63,9 +63,28 @@ impl Sessions {
         let begun = Session {
             seq: root.seq,
             root: Some(*root),
+            calls: 0,
             ..session
         };
         self.set(number, begun);
+    }
+
+    /// A call of a session's transaction is counted, where it has one. Fails where no number is left.
+    pub fn count(&mut self, number: u32) -> Result<(), AllocError>
+        ensures ok { OnOk result (self.new ≡ with_call_of self.old number (session_at self.old number).root) }
+        ensures err { OnErr result (self.new ≡ self.old) }
+    {
+        let session = self.at(number);
+        match session.root {
+            None => Ok(()),
+            Some(_) => {
+                let Some(calls) = session.calls.checked_add(1) else {
+                    return Err(AllocError);
+                };
+                self.set(number, Session { calls, ..session });
+                Ok(())
+            }
+        }
     }
 
     /// From the answer of this code on, a session's transaction can only be rolled back.
@@ -149,6 +168,7 @@ pub fn fresh_session() -> Session
         seq: 0,
         root: None,
         advice: None,
+        calls: 0,
         code: None,
         call: PendingCall::NoCall,
     }

@@ -1,14 +1,16 @@
 //! What the rules make of the calls of one branch. The branch stays.
-ghost use Rattle.std.specs.Prelude.{◌≡◌, ◌<◌, ◌^◌, IfOk, OnOk, OnErr};
+ghost use Rattle.std.specs.Prelude.{◌≡◌, ◌<◌, ◌^◌, not, filter, IfOk, OnOk, OnErr};
 ghost use Rattle.link_session.specs.Calls.{admit as admit_of};
 ghost use Rattle.tran_ids.specs.Listed.{set_numbered};
+ghost use Rattle.savepoints.specs.Marks.{has_name, no_marks as no_marks_of};
 ghost use Rattle.node_rules.specs.NodeState.{no_work as no_work_of};
-ghost use Rattle.node_rules.specs.Calls.{next_call as next_call_of};
-ghost use Rattle.node_state.specs.Works.{with_call_taken, called_over, waits_for_child, with_child, answered_with, given_up};
+ghost use Rattle.node_rules.specs.Calls.{calls_with as calls_with_of, next_call as next_call_of};
+ghost use Rattle.node_state.specs.Works.{with_call_taken, call_noted, called_over, waits_for_child, run_noted, with_savepoint_at, with_child, answered_with, given_up};
 
 use dtx_values::{Listing, Name};
 use link_session::{Admit, Calls, ReplyFields};
-use node_rules::{Going, Waits, Work};
+use node_rules::{Errand, Going, Waits, Work};
+use savepoints::{Marks, Note, RowKeys, Savepoint};
 use sql_statement::Stmt;
 use std::alloc::{AllocError, Global};
 use std::mem;
@@ -37,6 +39,17 @@ pub fn no_work(alloc: Global, branch: &BranchId) -> Work
         came: Calls::new(),
         calls: Listing::new(alloc),
         going: None,
+        marks: no_marks(alloc),
+    }
+}
+
+// Nothing was noted, and no savepoint is set.
+fn no_marks(alloc: Global) -> Marks
+    ensures { result ≡ no_marks_of }
+{
+    Marks {
+        notes: Listing::new(alloc),
+        savepoints: Listing::new(alloc),
     }
 }
 
@@ -88,21 +101,80 @@ pub(crate) fn take_call(work: &mut Work, call: u32)
     drop(mem::replace(&mut work.came, taken));
 }
 
-/// A statement goes on to the child of a number. No memory is taken.
-pub(crate) fn call_over(alloc: Global, work: &mut Work, number: u8, statement: Stmt, room: u16)
+/// An errand goes on to the child of a number; the call is noted at this step. Fails where memory runs out, and then nothing
+/// changes.
+pub(crate) fn call_over(
+    alloc: Global,
+    work: &mut Work,
+    number: u8,
+    errand: Errand,
+    step: u32,
+) -> Result<(), AllocError>
     requires { next_call_of work.old number < 2 ^ 32 }
-    ensures { work.new ≡ called_over number statement room work.old }
+    ensures ok { OnOk result (work.new ≡ called_over number errand step work.old) }
+    ensures err { OnErr result (work.new ≡ work.old) }
+{
+    match note_call(alloc, work, number, step) {
+        Err(error) => {
+            drop(errand);
+            Err(error)
+        }
+        Ok(()) => {
+            let waits = Waits::ForReply(number);
+            wait_for(work, Some(Going { errand, waits }));
+            Ok(())
+        }
+    }
+}
+
+/// The first call of a branch to which no call came. Fails where memory runs out.
+pub(crate) fn first_call(
+    alloc: Global,
+    branch: &BranchId,
+    number: u8,
+    errand: Errand,
+    step: u32,
+) -> Result<Work, AllocError>
+    requires { next_call_of (no_work_of branch.now) number < 2 ^ 32 }
+    ensures { IfOk result (λ work. work ≡ called_over number errand step (no_work_of branch.now)) }
+{
+    let mut work = no_work(alloc, branch);
+    match call_over(alloc, &mut work, number, errand, step) {
+        Ok(()) => Ok(work),
+        Err(error) => {
+            drop(work);
+            Err(error)
+        }
+    }
+}
+
+// One more call of the child of a number, with its note.
+fn note_call(alloc: Global, work: &mut Work, number: u8, step: u32) -> Result<(), AllocError>
+    requires { next_call_of work.old number < 2 ^ 32 }
+    ensures ok { OnOk result (work.new ≡ call_noted number step work.old) }
+    ensures err { OnErr result (work.new ≡ work.old) }
+{
+    let calls = calls_with(alloc, work, number)?;
+    let note = Note {
+        step,
+        sets: 0,
+        keys: Listing::new(alloc),
+        calls: Listing::of(Vec::from_slice(alloc, calls.as_slice())?),
+    };
+    work.marks.notes.push(note)?;
+    drop(mem::replace(&mut work.calls, Listing::of(calls)));
+    Ok(())
+}
+
+// The call numbers with one more call of an edge.
+fn calls_with(alloc: Global, work: &Work, number: u8) -> Result<Vec<u32>, AllocError>
+    requires { next_call_of work.now number < 2 ^ 32 }
+    ensures { IfOk result (λ calls. calls.items ≡ calls_with_of work.now number) }
 {
     let call = next_call(work, number);
-    let mut calls = mem::replace(&mut work.calls, Listing::new(alloc)).into_vec();
+    let mut calls = Vec::from_slice(alloc, work.calls.as_slice())?;
     set_call(&mut calls, number, call);
-    work.calls = Listing::of(calls);
-    let going = Going {
-        statement,
-        room,
-        waits: Waits::ForReply(number),
-    };
-    wait_for(work, Some(going));
+    Ok(calls)
 }
 
 fn set_call(calls: &mut Vec<u32>, number: u8, call: u32)
@@ -120,12 +192,98 @@ fn set_call(calls: &mut Vec<u32>, number: u8, call: u32)
 pub(crate) fn wait_for_opened(work: &mut Work, link: Name, statement: Stmt, room: u16)
     ensures { work.new ≡ waits_for_child link statement room work.old }
 {
-    let going = Going {
-        statement,
-        room,
-        waits: Waits::ForOpened(link),
-    };
-    wait_for(work, Some(going));
+    let errand = Errand::Statement { statement, room };
+    let waits = Waits::ForOpened(link);
+    wait_for(work, Some(Going { errand, waits }));
+}
+
+/// A run is noted: its step, its sets of changes, and the keys that it wrote. Fails where memory runs out, and then nothing
+/// changes.
+pub(crate) fn note_run(
+    alloc: Global,
+    work: &mut Work,
+    step: u32,
+    sets: u32,
+    keys: RowKeys,
+) -> Result<(), AllocError>
+    ensures ok { OnOk result (work.new ≡ run_noted step sets keys work.old) }
+    ensures err { OnErr result (work.new ≡ work.old) }
+{
+    match Vec::from_slice(alloc, work.calls.as_slice()) {
+        Err(error) => {
+            drop(keys);
+            Err(error)
+        }
+        Ok(calls) => work.marks.notes.push(Note {
+            step,
+            sets,
+            keys,
+            calls: Listing::of(calls),
+        }),
+    }
+}
+
+/// The first run of a branch to which no call came. Fails where memory runs out.
+pub(crate) fn first_run(
+    alloc: Global,
+    branch: &BranchId,
+    step: u32,
+    sets: u32,
+    keys: RowKeys,
+) -> Result<Work, AllocError>
+    ensures { IfOk result (λ work. work ≡ run_noted step sets keys (no_work_of branch.now)) }
+{
+    let mut work = no_work(alloc, branch);
+    match note_run(alloc, &mut work, step, sets, keys) {
+        Ok(()) => Ok(work),
+        Err(error) => {
+            drop(work);
+            Err(error)
+        }
+    }
+}
+
+/// A savepoint is set at a step, in the place of one of its name. Fails where memory runs out, and then one of its name may be
+/// gone.
+pub(crate) fn set_savepoint(
+    alloc: Global,
+    work: &mut Work,
+    name: Name,
+    step: u32,
+) -> Result<(), AllocError>
+    ensures ok { OnOk result (work.new ≡ with_savepoint_at name step work.old) }
+    ensures branch { work.new.branch ≡ work.old.branch }
+{
+    let mut savepoints = mem::replace(&mut work.marks.savepoints, Listing::new(alloc)).into_vec();
+    forget(&mut savepoints, &name);
+    work.marks.savepoints = Listing::of(savepoints);
+    work.marks.savepoints.push(Savepoint { name, step })
+}
+
+// Savepoints of this name are forgotten.
+fn forget(savepoints: &mut Vec<Savepoint>, name: &Name)
+    ensures { savepoints.new.items ≡ filter (λ s. not (has_name name.now s)) savepoints.old.items }
+{
+    savepoints.retain(|savepoint| !savepoint.name.is(name));
+}
+
+/// The first savepoint of a branch to which no call came. Fails where memory runs out.
+pub(crate) fn first_savepoint(
+    alloc: Global,
+    branch: &BranchId,
+    name: Name,
+    step: u32,
+) -> Result<Work, AllocError>
+    ensures { IfOk result (λ work. work ≡ with_savepoint_at name step (no_work_of branch.now)) }
+{
+    let mut work = no_work(alloc, branch);
+    match set_savepoint(alloc, &mut work, name, step) {
+        Ok(()) => Ok(work),
+        Err(error) => {
+            drop(work);
+            Err(error)
+        }
+    }
 }
 
 /// The statement is answered; the answer is kept where there is one.

@@ -1,18 +1,20 @@
 //! The calls of the live branches of a node.
-ghost use Rattle.std.specs.Prelude.{◌≡◌, ◌<◌, ◌^◌, [], None, OnOk, OnErr, IfOk};
+ghost use Rattle.std.specs.Prelude.{◌≡◌, ◌<◌, ◌^◌, [], None, OnOk, OnErr};
 ghost use Rattle.std.specs.Option.{option_copied};
 ghost use Rattle.tran_ids.specs.Listed.{item_at, put_item, drop_item};
 ghost use Rattle.link_session.specs.Calls.{admit as admit_of};
 ghost use Rattle.node_rules.specs.declared.work.Work.{Work};
 ghost use Rattle.node_rules.specs.NodeState.{work_id, no_work};
 ghost use Rattle.node_rules.specs.Calls.{next_call};
-ghost use Rattle.node_state.specs.Works.{work_of, change_work, with_call_taken, called_over, waits_for_child, with_child, answered_with, given_up};
+ghost use Rattle.node_rules.specs.Marks.{kept_call, savepoint_at};
+ghost use Rattle.node_state.specs.Works.{work_of, change_work, with_call_taken, called_over, waits_for_child, run_noted, with_savepoint_at, with_child, answered_with, given_up};
 
-use crate::work_changes;
+use crate::{kept_calls, work_changes};
 use dtx_values::Name;
 use indexmap::IndexMap;
 use link_session::{Admit, Calls, ReplyFields};
-use node_rules::Work;
+use node_rules::{Errand, Work};
+use savepoints::RowKeys;
 use sql_statement::Stmt;
 use std::alloc::{AllocError, Global};
 use std::marker::Model;
@@ -90,6 +92,36 @@ impl Works {
         }
     }
 
+    /// The step of a savepoint, where one of this name is set.
+    pub fn savepoint(&self, branch: &BranchId, name: &Name) -> Option<u32>
+        ensures { result ≡ savepoint_at (work_of self.now branch.now).marks name.now }
+    {
+        match self.get(branch) {
+            Some(work) => kept_calls::savepoint(&work.marks, name),
+            None => None,
+        }
+    }
+
+    /// The number of the last call that came to a branch, and 0 before any.
+    pub fn last_call(&self, branch: &BranchId) -> u32
+        ensures { result ≡ (work_of self.now branch.now).came.last_call }
+    {
+        match self.get(branch) {
+            Some(work) => work.came.last_call,
+            None => 0,
+        }
+    }
+
+    /// The last call of the edge to a child up to a step, 0 where there was none.
+    pub fn kept_call(&self, branch: &BranchId, step: u32, number: u8) -> u32
+        ensures { result ≡ kept_call (work_of self.now branch.now).marks step number }
+    {
+        match self.get(branch) {
+            Some(work) => kept_calls::kept_call(&work.marks, step, number),
+            None => 0,
+        }
+    }
+
     /// The branch takes a call. Fails where memory runs out.
     pub fn take_call(
         &mut self,
@@ -106,23 +138,66 @@ impl Works {
         Ok(())
     }
 
-    /// A statement goes on to the child of a number, from 1, under the next call number of its edge. Fails where memory
-    /// runs out.
+    /// An errand goes on to the child of a number, from 1, under the next call number of its edge, and the call is noted at this
+    /// step. Fails where memory runs out.
     pub fn call_over(
         &mut self,
         alloc: Global,
         branch: &BranchId,
         number: u8,
-        statement: Stmt,
-        room: u16,
+        errand: Errand,
+        step: u32,
     ) -> Result<(), AllocError>
         requires { next_call (work_of self.old branch.now) number < 2 ^ 32 }
-        ensures ok { OnOk result (self.new ≡ change_work (called_over number statement room) self.old branch.now) }
+        ensures ok { OnOk result (self.new ≡ change_work (called_over number errand step) self.old branch.now) }
         ensures err { OnErr result (self.new ≡ self.old) }
     {
-        let mut work = self.take_out(alloc, branch);
-        work_changes::call_over(alloc, &mut work, number, statement, room);
-        self.put(work)?;
+        let Some(place) = self.works.get_index_of(branch) else {
+            let first = work_changes::first_call(alloc, branch, number, errand, step)?;
+            self.put(first)?;
+            return Ok(());
+        };
+        work_changes::call_over(alloc, &mut self.works[place], number, errand, step)?;
+        Ok(())
+    }
+
+    /// A run of a statement is noted: its step, its sets of changes, and the keys that it wrote. Fails where memory runs out.
+    pub fn note_run(
+        &mut self,
+        alloc: Global,
+        branch: &BranchId,
+        step: u32,
+        sets: u32,
+        keys: RowKeys,
+    ) -> Result<(), AllocError>
+        ensures ok { OnOk result (self.new ≡ change_work (run_noted step sets keys) self.old branch.now) }
+        ensures err { OnErr result (self.new ≡ self.old) }
+    {
+        let Some(place) = self.works.get_index_of(branch) else {
+            let first = work_changes::first_run(alloc, branch, step, sets, keys)?;
+            self.put(first)?;
+            return Ok(());
+        };
+        work_changes::note_run(alloc, &mut self.works[place], step, sets, keys)?;
+        Ok(())
+    }
+
+    /// A savepoint is set at a step, in the place of one of its name. Fails where memory runs out.
+    pub fn set_savepoint(
+        &mut self,
+        alloc: Global,
+        branch: &BranchId,
+        name: Name,
+        step: u32,
+    ) -> Result<(), AllocError>
+        ensures { OnOk result (self.new ≡ change_work (with_savepoint_at name step) self.old branch.now) }
+    {
+        let Some(place) = self.works.get_index_of(branch) else {
+            let first = work_changes::first_savepoint(alloc, branch, name, step)?;
+            self.put(first)?;
+            return Ok(());
+        };
+        work_changes::set_savepoint(alloc, &mut self.works[place], name, step)?;
         Ok(())
     }
 

@@ -1,6 +1,6 @@
 -- Two branches hold different keys: so the changes of one leave the keys of the other, and the changes of a live branch are free of branches
 -- in doubt.
-use Rattle.std.proofs.Common.{◌≡◌, not, Bool, true, false, true≢false, if◌then◌else◌, List, [], ◌∷◌, ◌++◌, Option, Some, None, refl, sym, subst, ◌∙◌, arith}
+use Rattle.std.proofs.Common.{◌≡◌, not, Bool, true, false, true≢false, if◌then◌else◌, List, [], ◌∷◌, Option, Some, None, refl, sym, subst, ◌∙◌, arith}
 use Rattle.std.specs.List.{AllByRecursion}
 use Rattle.std.specs.Str.{bytes_eq}
 use Rattle.std.specs.Cmp.Lexicographic.{bytes_decides}
@@ -9,13 +9,14 @@ use Rattle.dtx_values.specs.Order.{same_value}
 use Rattle.dtx_values.proofs.ValueOrder.{equal_from_same, same_from_equal}
 use Rattle.tran_ids.proofs.BranchLemmas as ids
 use Rattle.tran_ids.proofs.ListedLemmas.{item_is}
+use Rattle.tran_ids.specs.Branch.{branch_below, put_by_branch}
 use Rattle.row_locks.specs.Locks.{Lock}
 use Rattle.node_rules.specs.Data.{Change, BranchId, Doubt}
 use Rattle.node_rules.specs.Words.{same, item_at, drop_item}
 use Rattle.node_rules.specs.NodeState.{doubt_id}
 use Rattle.node_rules.specs.Records.{held_back}
-use Rattle.node_ready_laws.proofs.ListLemmas.{all_weaker, all_found, all_left, all_last, all_filtered}
-use Rattle.node_undo_laws.specs.Keys.{is_written_by, is_doubted_by, is_held, AreHeld, are_of_one_key, AreFree}
+use Rattle.node_ready_laws.proofs.ListLemmas.{all_weaker, all_found, all_left, all_filtered, all_placed}
+use Rattle.node_undo_laws.specs.Keys.{is_written_by, is_doubted_by, is_held, AreHeld, are_of_one_key, AreFree, HaveNoKeyInCommon}
 use Rattle.node_undo_laws.proofs.HoldLemmas.{held_weaker, held_by_one, doubt_is_written}
 use Rattle.node_undo_laws.proofs.DistinctLemmas.{IsFreeFor, AreApart, DoubtsApart}
 
@@ -160,9 +161,16 @@ apart_without (d ∷ ds) b apart = by (not (same d.branch b)) (apart_without ds 
     by false rest = rest
 
 -- one more is apart from them where its changes are free of them
-pub apart_with : (ds : List Doubt) (d : Doubt) → AreFree ds d.changes → DoubtsApart ds → DoubtsApart (ds ++ d ∷ [])
+pub apart_with : (ds : List Doubt) (d : Doubt) → AreFree ds d.changes → DoubtsApart ds → DoubtsApart (put_by_branch doubt_id ds d)
 apart_with [] d free apart = (tt, tt)
-apart_with (e ∷ ds) d free apart = (all_last (AreApart e) ds d apart.0 (all_weaker _ _ (λ x all. all_weaker _ _ (λ y other one. absurd (true≢false (sym one ∙ other))) d.changes all) e.changes free.0), apart_with ds d free.1 apart.1)
+apart_with (e ∷ ds) d free apart = by (branch_below d.branch e.branch) (apart_with ds d free.1 apart.1)
+  where
+    each : (x : Doubt) → HaveNoKeyInCommon x.changes d.changes → AreApart x d
+    each x off = all_weaker _ _ (λ y all. all_weaker _ _ (λ z other one. absurd (true≢false (sym one ∙ other))) d.changes all) x.changes off
+
+    by : (here : Bool) → DoubtsApart (put_by_branch doubt_id ds d) → DoubtsApart (if here then d ∷ e ∷ ds else e ∷ put_by_branch doubt_id ds d)
+    by true rest = ((apart_back e d (each e free.0), all_weaker _ _ (λ x off. apart_back x d (each x off)) ds free.1), apart)
+    by false rest = (all_placed (AreApart e) doubt_id ds d apart.0 (each e free.0), rest)
 
 -- changes that are free of them leave their keys
 pub free_leaves : (cs : List Change) (ds : List Doubt) → AreFree ds cs → AllByRecursion (λ d. LeaveKeys cs d.changes) ds

@@ -6,6 +6,7 @@ use Rattle.std.proofs.lemmas.List.Folds.{list_any-append}
 use Rattle.std.proofs.lemmas.List.Sums.{sum_by-cons, sum_by-append}
 use Rattle.tran_ids.proofs.BranchLemmas.{equal_from_same}
 use Rattle.tran_ids.proofs.ListedLemmas.{put_or_before, drop_gone, drop_leaves}
+use Rattle.tran_ids.specs.Branch.{put_by_branch}
 use Rattle.sql_eval.specs.Rows.{change_length}
 use Rattle.row_store.specs.Own.{before, undo_length}
 use Rattle.row_store.specs.Store.{AreOfTables, has_table, used_extents, extents_of_sets}
@@ -16,7 +17,7 @@ use Rattle.node_rules.specs.Words.{same, same_text, item_at, put_item, drop_item
 use Rattle.node_rules.specs.Rows.{TableRows, get, apply_all, with_table, view_of, changes_of, changes_length, extents, undo_of, undo_over, set_over}
 use Rattle.node_rules.specs.NodeState.{own_id, doubt_id, sets_of, sets_at}
 use Rattle.node_rules.specs.Records.{held_back, settled, doubt_over}
-use Rattle.node_ready_laws.proofs.ListLemmas.{all_weaker, all_both, all_last, all_dropped}
+use Rattle.node_ready_laws.proofs.ListLemmas.{all_weaker, all_both, all_dropped, all_placed}
 use Rattle.node_ready_laws.proofs.TableLemmas.{rows_changed, rows_added}
 use Rattle.node_undo_laws.specs.Changed.{changes_at}
 use Rattle.node_undo_laws.specs.Kept.{UndoIsOf, UndoIsHeld, UndoStands}
@@ -123,18 +124,18 @@ module _ (undo : ℕ) (rows : List TableRows) (owns : List Owned) (ds : List Dou
     same_undo = ap (λ cs. changes_length (undo_over rows cs)) is ∙ ap changes_length (sym (now.own r.me))
 
     -- so it takes no more space
-    pub sealed_room : used_extents (drop_item own_id owns r.me) (ds ++ doubt_over rows r ∷ []) ≤ used_extents owns ds
+    pub sealed_room : used_extents (drop_item own_id owns r.me) (put_by_branch doubt_id ds (doubt_over rows r)) ≤ used_extents owns ds
     sealed_room =
         let less = room_drop owns r.me in
         let more = doubts_with ds (doubt_over rows r) in
         let even : extents (changes_length (undo_over rows r.changes)) ≡ extents_of_sets (sets_at owns r.me) = ap extents same_undo in
         omega (arith, less, more, even)
 
-    pub sealed : UndoStands undo rows (drop_item own_id owns r.me) (ds ++ doubt_over rows r ∷ [])
+    pub sealed : UndoStands undo rows (drop_item own_id owns r.me) (put_by_branch doubt_id ds (doubt_over rows r))
     sealed = record {
       ordered = now.ordered;
       own = (dropped r.me).own;
-      held_back = all_last (UndoIsHeld rows) ds (doubt_over rows r) now.held_back refl;
+      held_back = all_placed (UndoIsHeld rows) doubt_id ds (doubt_over rows r) now.held_back refl;
       room = let less = sealed_room in omega (arith, less, now.room);
     }
 

@@ -15,6 +15,7 @@ use Rattle.row_locks.specs.Locks.{Lock, is_lock_on, named, is_held_by, another, 
 use Rattle.stmt_run.specs.Run.{StmtContext, take_keys, locks_after}
 use Rattle.tran_ids.proofs.BranchLemmas.{equal_from_same, same_from_equal}
 use Rattle.tran_ids.proofs.ListedLemmas.{put_or_before, drop_gone, drop_leaves}
+use Rattle.tran_ids.specs.Branch.{put_by_branch}
 use Rattle.node_rules.specs.Data.{Value, Change, RowSet, Table, Stmt, Done, BranchId, Keyed, Sealed, Owned, Doubt}
 use Rattle.node_rules.specs.Words.{same, item_at, put_item, drop_item}
 use Rattle.node_rules.specs.Rows.{TableRows, changes_of, set_over}
@@ -23,7 +24,7 @@ use Rattle.node_rules.specs.Records.{doubt_over, with_doubt}
 use Rattle.node_rules.specs.Statement.{Reads, Writes, owns_after}
 use Rattle.node_undo_laws.specs.Changed.{changes_at}
 use Rattle.node_undo_laws.specs.Keys.{is_written_by, is_doubted_by, is_held, AreHeld, KeysHeld}
-use Rattle.node_ready_laws.proofs.ListLemmas.{all_weaker, all_append, all_filtered}
+use Rattle.node_ready_laws.proofs.ListLemmas.{all_weaker, all_append, all_filtered, all_placed}
 use Rattle.node_undo_laws.proofs.ChangedLemmas.{one_more_set, append_none}
 use Rattle.node_undo_laws.proofs.RanLemmas.{Meets_nobody}
 use Rattle.stmt_run.proofs.Free.{written_free}
@@ -127,14 +128,14 @@ module _ (locks : List Lock) (owns : List Owned) (ds : List Doubt) (rows : List 
   free = subst (AllByRecursion (λ c. other_holder after r.me c.table c.key ≡ None)) (sym is)
       (all_weaker (λ c. is_held (is_written_by r.me) locks c.table c.key ≡ true) (λ c. other_holder after r.me c.table c.key ≡ None) free_one (changes_at owns r.me) (now.own r.me))
 
-  pub sealed : KeysHeld (with_doubt after r.me r.changes) (drop_item own_id owns r.me) (ds ++ doubt_over rows r ∷ [])
+  pub sealed : KeysHeld (with_doubt after r.me r.changes) (drop_item own_id owns r.me) (put_by_branch doubt_id ds (doubt_over rows r))
   sealed = record {
     apart = distinct_doubt after r.me r.changes gone.apart;
     own = λ c. doubt_leaves (is_written_by c) (λ l w so. written_again c l w so) (λ l x so. so) r.me r.changes after (changes_at (drop_item own_id owns r.me) c) (gone.own c);
-    doubts = all_append (λ d. AreHeld (is_doubted_by d.branch) (with_doubt after r.me r.changes) d.changes) ds (doubt_over rows r ∷ [])
+    doubts = all_placed (λ d. AreHeld (is_doubted_by d.branch) (with_doubt after r.me r.changes) d.changes) doubt_id ds (doubt_over rows r)
         (all_weaker (λ d. AreHeld (is_doubted_by d.branch) after d.changes) (λ d. AreHeld (is_doubted_by d.branch) (with_doubt after r.me r.changes) d.changes)
         (λ d all. doubt_leaves (is_doubted_by d.branch) (λ l w so. doubted_again d.branch l w so) (λ l x so. still_doubted d.branch x l so) r.me r.changes after d.changes all) ds gone.doubts)
-        (doubt_holds r.me r.changes after free, tt);
+        (doubt_holds r.me r.changes after free);
   }
 
 -- ---- a run
@@ -155,6 +156,19 @@ module _ (locks : List Lock) (owns : List Owned) (ds : List Doubt) (now : KeysHe
   -- a run that reads
   pub read : (rows : List Keyed) (rs : RowSet) (keys : List Value) → KeysHeld (locks_after locks me t (Reads rs keys)) (owns_after owns me rows (Reads rs keys)) ds
   read rows rs keys = record { apart = distinct_keys keys locks me t.name false now.apart; own = own_left false keys; doubts = doubts_left false keys }
+
+  -- a run that changes nothing
+  pub wrote_none : (rows : List Keyed) → KeysHeld locks (put_item own_id owns (record { branch = me; sets = sets_at owns me ++ set_over rows [] ∷ [] })) ds
+  wrote_none rows = record { apart = now.apart; own = own; doubts = now.doubts }
+    where
+      mine : AreHeld (is_written_by me) locks (changes_of (sets_at owns me ++ set_over rows [] ∷ []))
+      mine = subst (AreHeld (is_written_by me) locks) (sym (one_more_set (sets_at owns me) rows [] ∙ append_none (changes_at owns me))) (now.own me)
+
+      own : (c : BranchId) → AreHeld (is_written_by c) locks (changes_at (put_item own_id owns (record { branch = me; sets = sets_at owns me ++ set_over rows [] ∷ [] })) c)
+      own c = elim (put_or_before own_id owns (record { branch = me; sets = sets_at owns me ++ set_over rows [] ∷ [] }) c) [
+        | inl before ↦ subst (λ o. AreHeld (is_written_by c) locks (changes_of (sets_of o))) (sym before) (now.own c)
+        | inr put ↦ subst (λ o. AreHeld (is_written_by c) locks (changes_of (sets_of o))) (sym put.1) (subst (λ m. AreHeld (is_written_by m) locks (changes_of (sets_at owns me ++ set_over rows [] ∷ []))) put.0 mine)
+      ]
 
   -- a run that writes
   module _ (g : StmtContext) (s : Stmt) (rows : List Keyed) (d : Done) (n undo : ℕ) (cs : List Change) (lock : g.locks ≡ locks) (it : g.me ≡ me) (one : has_one_key t ≡ true) (are_rows : AreRowsOf t g.view)

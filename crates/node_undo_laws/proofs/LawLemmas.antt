@@ -19,7 +19,7 @@ use Rattle.node_undo_laws.proofs.ChangedLemmas.{changes_on}
 use Rattle.node_undo_laws.proofs.FreeLemmas.{step_free}
 use Rattle.node_undo_laws.proofs.KeyStepLemmas.{keys_on}
 use Rattle.node_undo_laws.proofs.SeeLemmas.{apart_of, sees_rows}
-use Rattle.node_undo_laws.proofs.UndoStepLemmas.{undo_on, space_on, seal_on}
+use Rattle.node_undo_laws.proofs.UndoStepLemmas.{undo_on, space_on, seal_on, even_on}
 use Rattle.node_undo_laws.proofs.RoomLemmas.{doubts_with}
 
 -- ---- what a node hears changes none of this
@@ -29,22 +29,25 @@ rows_heard k (inputs.Message m) now = now
 rows_heard k _ now = now
 
 undo_heard : (p : Place) (k : NodeState) (input : Input) → HasUndo p k → HasUndo p (heard k input)
-undo_heard p k (inputs.Message m) now = record { lives = now.lives; keys = now.keys; stands = now.stands }
+undo_heard p k (inputs.Message m) now = record { lives = now.lives; keys = now.keys; stands = now.stands; even = now.even }
 undo_heard p k (inputs.Call n s) now = now
 undo_heard p k (inputs.GiveUp n) now = now
 undo_heard p k inputs.Reco now = now
+undo_heard p k inputs.Checkpoint now = now
 
 free_heard : (k : NodeState) (input : Input) (w : Option RedoRecord) → IfSome w (ChangesFreeKeys (heard k input).stored.doubts) → IfSome w (ChangesFreeKeys k.stored.doubts)
 free_heard k (inputs.Message m) w is = is
 free_heard k (inputs.Call n s) w is = is
 free_heard k (inputs.GiveUp n) w is = is
 free_heard k inputs.Reco w is = is
+free_heard k inputs.Checkpoint w is = is
 
 space_heard : (k : NodeState) (input : Input) (w : Option RedoRecord) → IfSome w (NeedsNoMore (heard k input)) → IfSome w (NeedsNoMore k)
 space_heard k (inputs.Message m) w is = is
 space_heard k (inputs.Call n s) w is = is
 space_heard k (inputs.GiveUp n) w is = is
 space_heard k inputs.Reco w is = is
+space_heard k inputs.Checkpoint w is = is
 
 seal_heard : (k : NodeState) (input : Input) (w : Option RedoRecord) → IfSome w (SealsWithItsUndo (heard k input)) → IfSome w (SealsWithItsUndo k)
 seal_heard k input None is = tt
@@ -52,6 +55,7 @@ seal_heard k (inputs.Message m) (Some (records.Sealed r)) is = is
 seal_heard k (inputs.Call n s) (Some (records.Sealed r)) is = is
 seal_heard k (inputs.GiveUp n) (Some (records.Sealed r)) is = is
 seal_heard k inputs.Reco (Some (records.Sealed r)) is = is
+seal_heard k inputs.Checkpoint (Some (records.Sealed r)) is = is
 seal_heard k input (Some _) is = tt
 
 -- ---- turns
@@ -66,7 +70,8 @@ turns_keep_undo p k input fit rows ids now =
     record {
       lives = changes_on p input step here.lives;
       keys = keys_on p input step (sees_rows (heard k input) there) here.lives (apart_of (heard k input) own) here.keys;
-      stands = undo_on p input step there own here.lives here.keys here.stands;
+      stands = undo_on p input step there own here.lives here.keys here.stands here.even;
+      even = even_on p input step here.even;
     }
 
 pub records_need_no_more : RecordsNeedNoMore

@@ -1,3 +1,4 @@
+pub mod BackSetLemmas
 pub mod ChangedLemmas
 pub mod HoldLemmas
 pub mod DistinctLemmas
@@ -10,6 +11,7 @@ pub mod UndoLemmas
 pub mod OrderLemmas
 pub mod RoomLemmas
 pub mod KeptLemmas
+pub mod BackLemmas
 pub mod SeeLemmas
 pub mod UndoStepLemmas
 pub mod LawLemmas

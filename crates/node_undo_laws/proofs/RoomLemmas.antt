@@ -1,10 +1,11 @@
 -- The undo extents of branches: what one more set, a branch that leaves or one that seals makes of their sum.
-use Rattle.std.proofs.Common.{◌≡◌, ℕ, ◌+◌, ◌≤◌, Bool, true, false, not, if◌then◌else◌, List, [], ◌∷◌, ◌++◌, nat_lt, Option, Some, None, refl, sym, ap, ◌∙◌, arith}
+use Rattle.std.proofs.Common.{◌≡◌, ℕ, ◌+◌, ◌≤◌, Bool, true, false, not, if◌then◌else◌, List, [], ◌∷◌, nat_lt, Option, Some, None, refl, sym, ap, ◌∙◌, arith}
 use Rattle.std.specs.Prelude.{sum_by}
 use Rattle.std.proofs.lemmas.Bool.Decides.{nat_tests}
-use Rattle.std.proofs.lemmas.List.Sums.{sum_by-cons, sum_by-append}
+use Rattle.std.proofs.lemmas.List.Sums.{sum_by-cons}
 use Rattle.sql_check.specs.Refusals.{ora, dtx, refuse_if, else_refuse}
 use Rattle.tran_ids.specs.Numbers.{decimal}
+use Rattle.tran_ids.specs.Branch.{branch_below, put_by_branch}
 use Rattle.row_store.specs.Store.{own_extents, doubt_extents, extents_of_sets}
 use Rattle.stmt_run.specs.Run.{StmtContext, needed_extents, too_many_changes, space_refusal}
 use Rattle.node_rules.specs.Data.{Change, ChangeSet, BranchId, Owned, Doubt}
@@ -75,12 +76,14 @@ doubt_undo d = extents (changes_length d.undo)
 pub doubts_fewer : (ds : List Doubt) (b : BranchId) → doubt_extents (drop_item doubt_id ds b) ≤ doubt_extents ds
 doubts_fewer ds b = fewer doubt_id doubt_undo ds b
 
-pub doubts_with : (ds : List Doubt) (d : Doubt) → doubt_extents (ds ++ d ∷ []) ≡ doubt_extents ds + extents (changes_length d.undo)
-doubts_with ds d =
-    let both = sum_by-append doubt_undo ds (d ∷ []) in
-    let one = sum_by-cons doubt_undo d [] in
-    let none : sum_by doubt_undo [] ≡ 0 = refl in
-    omega (arith, both, one, none)
+pub doubts_with : (ds : List Doubt) (d : Doubt) → doubt_extents (put_by_branch doubt_id ds d) ≡ doubt_extents ds + extents (changes_length d.undo)
+doubts_with [] d = let one = sum_by-cons doubt_undo d [] in let none : sum_by doubt_undo [] ≡ 0 = refl in omega (arith, one, none)
+doubts_with (e ∷ ds) d = by (branch_below d.branch e.branch) (doubts_with ds d)
+  where
+    by : (here : Bool) → doubt_extents (put_by_branch doubt_id ds d) ≡ doubt_extents ds + extents (changes_length d.undo)
+        → sum_by doubt_undo (if here then d ∷ e ∷ ds else e ∷ put_by_branch doubt_id ds d) ≡ sum_by doubt_undo (e ∷ ds) + extents (changes_length d.undo)
+    by true rest = let one = sum_by-cons doubt_undo d (e ∷ ds) in omega (arith, one)
+    by false rest = let new = sum_by-cons doubt_undo e (put_by_branch doubt_id ds d) in let old = sum_by-cons doubt_undo e ds in omega (arith, new, old, rest)
 
 -- ---- a run that is not refused for space
 

@@ -9,10 +9,9 @@ use Rattle.tran_ids.proofs.BranchLemmas.{same_from_equal}
 use Rattle.row_store.specs.Store.{AreOfTables, has_table}
 use Rattle.node_rules.specs.Data.{Table, Change, BranchId, Live}
 use Rattle.node_rules.specs.Words.{same, same_text, item_at}
-use Rattle.node_rules.specs.Rows.{rows_of_table, changes_of}
+use Rattle.node_rules.specs.Rows.{rows_of_table, view_of}
 use Rattle.node_rules.specs.Names.{table_of}
-use Rattle.node_rules.specs.NodeState.{NodeState, kept_row_id, doubt_id, live_at, sets_at}
-use Rattle.node_rules.specs.Statement.{view}
+use Rattle.node_rules.specs.NodeState.{NodeState, kept_row_id, doubt_id, live_at}
 use Rattle.node_rules.proofs.SessionLemmas.{seqs}
 use Rattle.node_ready_laws.specs.Ids.{IsUnkept, HasOwnIds}
 use Rattle.node_ready_laws.specs.Rows.{table_named, IsChangeAt, AreChangesAt, HasRows}
@@ -93,10 +92,10 @@ module _ (k : NodeState) (now : HasRows k) where
     one_key : has_one_key t ≡ true
     one_key = whole_tables_have_one_key t (all_found _ _ k.stored.durable.tables t now.whole there)
 
-    seen : (b : BranchId) → AreRowsOf t (view k b t.name)
+    seen : (b : BranchId) → AreRowsOf t (view_of k.stored.rows (changes_at k.owns b) t.name)
     seen b =
-        rows_stay t _ (changes_of (sets_at k.owns b)) (all_found (λ x. AreRowsOf x (rows_of_table k.stored.rows x.name)) _ k.stored.durable.tables t now.fit there)
-        (named_changes k.stored.durable.tables t (changes_of (sets_at k.owns b)) there (own_there k now b))
+        rows_stay t _ (changes_at k.owns b) (all_found (λ x. AreRowsOf x (rows_of_table k.stored.rows x.name)) _ k.stored.durable.tables t now.fit there)
+        (named_changes k.stored.durable.tables t (changes_at k.owns b) there (own_there k now b))
 
   pub sees_rows : SeesRows k
   sees_rows b name t found = (one_key name t found, seen name t found b)

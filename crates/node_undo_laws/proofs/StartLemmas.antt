@@ -11,7 +11,7 @@ use Rattle.node_rules.specs.NodeState.{Stored, doubt_id}
 use Rattle.node_rules.specs.Records.{nothing_stored, settled, doubt_over, held_back, applied, stored_by}
 use Rattle.node_rules.specs.Turn.{start_of, kept_by}
 use Rattle.node_ready_laws.specs.Following.{MayFollow, MayAllFollow}
-use Rattle.node_ready_laws.proofs.ListLemmas.{all_weaker, all_last, all_dropped}
+use Rattle.node_ready_laws.proofs.ListLemmas.{all_weaker, all_placed, all_dropped}
 use Rattle.node_undo_laws.specs.Kept.{UndoIsHeld, UndoStands, HasUndo}
 use Rattle.node_undo_laws.specs.Fits.{FitsDoubts, AllFitDoubts}
 use Rattle.node_undo_laws.specs.Laws.{NoUndoAtFirst, StartsHaveUndo}
@@ -20,6 +20,7 @@ use Rattle.node_undo_laws.proofs.DistinctLemmas.{DoubtsApart, start_holds, start
 use Rattle.node_undo_laws.proofs.HolderLemmas.{starts_free, held_leaves, apart_without, apart_with, free_leaves}
 use Rattle.node_undo_laws.proofs.KeptLemmas.{still_there, rows_changed_beside, table_made, ended}
 use Rattle.node_undo_laws.proofs.UndoLemmas.{table_stays}
+use Rattle.read_only_tx.specs.Versions.{Versions}
 
 -- What is stored where the node is down: undo of branches in doubt, which changed different keys of tables that are there.
 pub record IsLeft (undo : ℕ) (s : Stored) : Type 0 where
@@ -58,11 +59,11 @@ left_with undo s (records.Sealed r) may fits now = record {
   stands = record {
     ordered = now.stands.ordered;
     own = now.stands.own;
-    held_back = all_last (UndoIsHeld s.rows) s.doubts (doubt_over s.rows r) now.stands.held_back refl;
+    held_back = all_placed (UndoIsHeld s.rows) doubt_id s.doubts (doubt_over s.rows r) now.stands.held_back refl;
     room = let enough = fits.room in omega (arith, enough);
   };
   apart = apart_with s.doubts (doubt_over s.rows r) fits.free now.apart;
-  there = all_last (λ d. AreOfTables s.rows d.changes) s.doubts (doubt_over s.rows r) now.there may.stored.0;
+  there = all_placed (λ d. AreOfTables s.rows d.changes) doubt_id s.doubts (doubt_over s.rows r) now.there may.stored.0;
 }
 left_with undo s (records.Decided r) may fits now = record {
   stands = rows_changed_beside undo s.rows [] s.doubts now.stands r.changes (λ b. tt) now.there (λ b. tt) (free_leaves r.changes s.doubts fits.free);
@@ -78,6 +79,7 @@ left_with undo s (records.Param setting) may fits now = record { stands = now.st
 left_with undo s (records.Met b d mixed) may fits now = record { stands = now.stands; apart = now.apart; there = now.there }
 left_with undo s (records.Forgot b) may fits now = record { stands = now.stands; apart = now.apart; there = now.there }
 left_with undo s (records.Hidden b) may fits now = record { stands = now.stands; apart = now.apart; there = now.there }
+left_with undo s (records.Image i) may fits now = record { stands = now.stands; apart = now.apart; there = now.there }
 
 -- all records
 pub left_by : (undo : ℕ) (s : Stored) (rs : List RedoRecord) → MayAllFollow s rs → AllFitDoubts undo s rs → IsLeft undo s → IsLeft undo (stored_by s rs)
@@ -95,12 +97,13 @@ pub none_left : (undo : ℕ) → IsLeft undo nothing_stored
 none_left undo = record { stands = record { ordered = tt; own = λ b. refl; held_back = tt; room = omega arith }; apart = tt; there = tt }
 
 -- a node that starts from it
-pub undo_by : (p : Place) (s : Stored) → IsLeft p.undo s → HasUndo p (kept_by s)
+pub undo_by : (p : Place) (s : Stored) (vs : Versions) → IsLeft p.undo s → HasUndo p (kept_by s vs)
 unfolding IsDistinct
-undo_by p s now = record {
+undo_by p s vs now = record {
   lives = started_fits;
   keys = record { apart = start_distinct s.doubts [] tt; own = λ b. tt; doubts = start_holds s.doubts [] now.apart (starts_free s.doubts) };
   stands = now.stands;
+  even = λ b. tt;
 }
 
 -- the start's own record
@@ -111,7 +114,7 @@ booted undo s (r ∷ rs) boot now = booted undo (applied s r) rs boot now
 
 pub starts_have_undo : StartsHaveUndo
 unfolding start_of
-starts_have_undo p rs boot may fits = undo_by p _ (booted p.undo nothing_stored rs boot (left_by p.undo nothing_stored rs may fits (none_left p.undo)))
+starts_have_undo p rs boot may fits = undo_by p _ _ (booted p.undo nothing_stored rs boot (left_by p.undo nothing_stored rs may fits (none_left p.undo)))
 
 nothing_by : (undo : ℕ) → IsLeft undo (stored_by nothing_stored [])
 unfolding stored_by
@@ -119,4 +122,4 @@ nothing_by undo = none_left undo
 
 pub no_undo_at_first : NoUndoAtFirst
 unfolding start_of
-no_undo_at_first p = undo_by p _ (booted p.undo nothing_stored [] 1 (nothing_by p.undo))
+no_undo_at_first p = undo_by p _ _ (booted p.undo nothing_stored [] 1 (nothing_by p.undo))

@@ -1,6 +1,6 @@
 -- The tried undo, by computation.
 use Rattle.std.proofs.Common.{◌≡◌, ◌&&◌, Bool, true, false, if◌then◌else◌, Some, None, refl, ap, subst, arith}
-use Rattle.std.specs.List.{IsDistinct}
+use Rattle.std.specs.List.{IsDistinct, AllByRecursion}
 use Rattle.std.specs.List.Sorted.{IsStrictlySortedBy}
 use Rattle.node_rules.specs.Data.{BranchId, Live}
 use Rattle.node_rules.specs.Words.{same, item_at}
@@ -8,7 +8,7 @@ use Rattle.node_rules.specs.Rows.{changes_of}
 use Rattle.node_rules.specs.NodeState.{live_id, own_id, sets_of, sets_at}
 use Rattle.node_undo_laws.specs.Changed.{changes_at, IsMarked, ChangesAreOfLives}
 use Rattle.node_undo_laws.specs.Keys.{is_written_by, AreHeld, KeysHeld}
-use Rattle.node_undo_laws.specs.Kept.{UndoIsOf, UndoStands}
+use Rattle.node_undo_laws.specs.Kept.{UndoIsOf, UndoStands, IsEven}
 use Rattle.node_undo_laws.specs.TriedUndo.{rows, live, own, root, place, state, TheTriedUndo}
 
 of_live : (b : BranchId) → item_at live_id state.lives b ≡ None → item_at own_id state.owns b ≡ None
@@ -50,9 +50,16 @@ stands : UndoStands place.undo state.stored.rows state.owns state.stored.doubts
 unfolding IsStrictlySortedBy
 stands = record { ordered = ((tt, tt), tt); own = own_undo; held_back = (refl, tt); room = omega arith }
 
+even : (b : BranchId) → AllByRecursion IsEven (sets_at state.owns b)
+even b = by (same live b)
+  where
+    by : (here : Bool) → AllByRecursion IsEven (sets_of (if here then Some own else None))
+    by true = (refl, (refl, tt))
+    by false = tt
+
 pub the_tried_undo : TheTriedUndo
 the_tried_undo = record {
-  has = record { lives = lives; keys = keys; stands = stands };
+  has = record { lives = lives; keys = keys; stands = stands; even = even };
   undo = refl;
   used = refl;
   committed = refl;

@@ -1,17 +1,19 @@
 -- The undo of a node tried on a table of keys and numbers: a live branch inserted a row at 2 and updated it, and a branch in doubt holds back
 -- an UPDATE of the row at 1.
-use Rattle.std.specs.Prelude.{◌≡◌, ℕ, Bool, true, false, List, [], ◌∷◌, ◌++◌, codes, pos, replicate, None, Some, Option}
+use Rattle.std.specs.Prelude.{◌≡◌, ℕ, Bool, true, false, List, [], ◌∷◌, codes, pos, replicate, None, Some, Option}
 use Rattle.row_store.specs.Store.{used_extents, doubt_extents}
 use Rattle.row_locks.specs.Locks.{Lock}
 use Rattle.session_tree.specs.Live.{fresh_live}
 use Rattle.node_rules.specs.Data.{Value, Row, Change, ChangeSet, BranchId, Live, Owned, Doubt, Place}
 use Rattle.node_rules.specs.Data.values
 use Rattle.node_rules.specs.Rows.{TableRows, view_of, apply_all, changes_of, undo_of, set_over, undo_over}
-use Rattle.node_rules.specs.NodeState.{NodeState}
+use Rattle.node_rules.specs.NodeState.{NodeState, doubt_id}
 use Rattle.node_rules.specs.Prepare.{sealed_of, own_changes}
 use Rattle.node_rules.specs.Records.{nothing_stored, doubt_over}
 use Rattle.node_rules.specs.Sessions.{fresh_session}
 use Rattle.node_undo_laws.specs.Kept.{HasUndo}
+use Rattle.tran_ids.specs.Branch.{put_by_branch}
+use Rattle.read_only_tx.specs.Versions.{versions_from}
 
 -- a number
 abbrev number : ℕ → Value
@@ -54,7 +56,7 @@ lock key b doubt = record { table = codes "T"; key = number key; branch = b; wri
 
 -- the live branch, which has changed rows
 abbrev pub root : Live
-root = record (fresh_live live live None 0 1) { changed = true }
+root = record (fresh_live live live None 0 1 None) { changed = true }
 
 -- the node, with two undo extents
 abbrev pub place : Place
@@ -68,6 +70,7 @@ state = record {
   works = [];
   locks = lock 1 doubtful true ∷ lock 2 live false ∷ [];
   clock = 1;
+  versions = versions_from 0;
   opens = [];
   sessions = replicate 64 fresh_session;
 }
@@ -85,5 +88,5 @@ pub record TheTriedUndo : Type 0 where
   pub used : used_extents state.owns state.stored.doubts ≡ 2
   pub committed : undo_over (apply_all rows held.changes) (changes_of sets) ≡ undo_of sets
   pub sealed_so : sealed.undo ≡ undo_of sets
-  pub sealed_uses : doubt_extents (state.stored.doubts ++ sealed ∷ []) ≡ 2
+  pub sealed_uses : doubt_extents (put_by_branch doubt_id state.stored.doubts sealed) ≡ 2
   pub unlocked : undo_over (apply_all rows (at 2 (Some (row 2 99)) ∷ [])) (changes_of sets) ≡ at 2 (Some (row 2 99)) ∷ at 2 (Some (row 2 20)) ∷ []

@@ -11,5 +11,5 @@ mod way;
 
 pub use named::Named;
 pub use passing::passed_on;
-pub use routing::way_of;
+pub use routing::{is_write, way_of};
 pub use way::Way;

@@ -5,7 +5,7 @@ ghost use Rattle.catalog.specs.Catalog.{is_used};
 ghost use Rattle.session_tree.specs.Live.{edge_by_link as edge_by_link_of};
 ghost use Rattle.sql_check.specs.Refusals.{dtx};
 ghost use Rattle.node_rules.specs.Data.{Durable};
-ghost use Rattle.node_rules.specs.Names.{way_new as way_new_of, way_edge as way_edge_of, way_target as way_target_of, way_named as way_named_of, way_of as way_of_statement, target_of as target_of_link};
+ghost use Rattle.node_rules.specs.Names.{way_new as way_new_of, way_edge as way_edge_of, way_target as way_target_of, way_named as way_named_of, way_of as way_of_statement, target_of as target_of_link, is_write as is_write_of};
 ghost use Rattle.node_ways.specs.Ways.{durable_with, listed_of, named_as, way_as, has_table};
 
 use crate::named::meaning;
@@ -13,7 +13,7 @@ use crate::target::{edge_by_link, target_of};
 use crate::{Named, Way};
 use catalog::Catalog;
 use dtx_values::{DEPTH_LIMIT, Listing, Name, Refusal};
-use node_drafts::{NO_NODE, NO_TABLE, TOO_MANY_LINKS, TREE_FULL};
+use node_drafts::{NO_NODE, NO_TABLE, TOO_MANY_LINKS, TREE_FULL, is_read_only};
 use redo_record::Place;
 use session_tree::{Live, room};
 use sql_check::plain;
@@ -112,7 +112,17 @@ fn way_named<'a>(
     }
 }
 
-// By the meaning of its name.
+/// Whether a statement with a table writes rows or locks them.
+pub fn is_write(statement: &Stmt) -> bool
+    ensures { result ≡ is_write_of statement.now }
+{
+    match statement {
+        Stmt::Select { for_update, .. } => *for_update,
+        _ => true,
+    }
+}
+
+// By the meaning of its name, unless a READ ONLY branch would write.
 #[tactic(auto, unfolding(node_rules::specs::Names::way_of))]
 fn way_in<'a>(
     alloc: Global,
@@ -127,20 +137,24 @@ fn way_in<'a>(
     requires names { has_table statement.now ≡ false → is_used catalog.now [] ≡ false }
     ensures { way_as result ≡ way_of_statement place.now (durable_with catalog.now) live.now given statement.now }
 {
-    way_named(
-        alloc,
-        place,
-        catalog,
-        live,
-        given,
-        meaning(catalog, statement),
-    )
+    if live.read_at.is_some() && is_write(statement) {
+        Way::NowhereTo(is_read_only(alloc))
+    } else {
+        way_named(
+            alloc,
+            place,
+            catalog,
+            live,
+            given,
+            meaning(catalog, statement),
+        )
+    }
 }
 
 /// Where a statement goes from a live branch of a node with this catalog, with the room that its Exec carried: it runs here,
-/// goes to the child of its link, opens the link, or is refused. The name is unknown: ORA-00942. The link leads to no node:
-/// ORA-02019. A link without a child: DTX-02 where the session tree is too deep or too wide, then ORA-02020 where the branch
-/// has as many links as it may have. No memory is taken.
+/// goes to the child of its link, opens the link, or is refused. A READ ONLY branch would write: DTX-21. The name is unknown:
+/// ORA-00942. The link leads to no node: ORA-02019. A link without a child: DTX-02 where the session tree is too deep or too
+/// wide, then ORA-02020 where the branch has as many links as it may have. No memory is taken.
 pub fn way_of<'a>(
     alloc: Global,
     place: &Place,

@@ -8,6 +8,7 @@ use Rattle.node_rules.specs.Data.decisions
 use Rattle.node_rules.specs.Data.inputs
 use Rattle.node_rules.specs.Data.kinds
 use Rattle.node_rules.specs.Data.records
+use Rattle.node_rules.specs.Data.tasks
 use Rattle.node_rules.specs.Data.towards
 use Rattle.node_rules.specs.Refusals.{dtx}
 use Rattle.node_rules.specs.NodeState.{NodeState, TurnOutput}
@@ -218,7 +219,7 @@ abbrev node_alone : ℕ → BranchId
 node_alone number = record { node = number; boot = 0; session = 0; seq = 0 }
 
 abbrev live : NodeState
-live = (turn_of hq_place (start_of (records.Boot 1 ∷ a_link ∷ [])) (inputs.Message (record { from = sales; to = node_alone 2; scn = 1; kind = kinds.Open 1 sales 2 }))).after
+live = (turn_of hq_place (start_of (records.Boot 1 ∷ a_link ∷ [])) (inputs.Message (record { from = sales; to = node_alone 2; scn = 1; kind = kinds.Open 1 sales 2 None }))).after
 
 -- nothing is decided over it, and its parent alone may end it
 commit_at_a_live_branch_is_ignored : does live sales (kinds.Committed 2) ≡ nothing
@@ -248,15 +249,15 @@ query_over = rows (over (codes "LEDGER") (codes "DEPOT")) []
 abbrev query : Stmt
 query = rows (here (codes "LEDGER")) []
 
-link_without_room_is_refused : does live sales (kinds.Exec 1 0 None query_over) ≡ only_says sales 1 (kinds.Reply 1 None 1 (answers.Refused (dtx 2 [])))
+link_without_room_is_refused : does live sales (kinds.Exec 1 (tasks.Run 0 None query_over)) ≡ only_says sales 1 (kinds.Reply 1 None 1 (answers.Refused (dtx 2 [])))
 unfolding playing
 link_without_room_is_refused = refl
 
-link_with_room_is_opened : does live sales (kinds.Exec 1 1 None query_over) ≡ only_says (node_alone 3) 1 (kinds.Open 1 sales 3)
+link_with_room_is_opened : does live sales (kinds.Exec 1 (tasks.Run 1 None query_over)) ≡ only_says (node_alone 3) 1 (kinds.Open 1 sales 3 None)
 unfolding playing
 link_with_room_is_opened = refl
 
-last_room_is_used_up : does (hears live sales (kinds.Exec 1 1 None query_over)).after depot (kinds.Opened 1 50) ≡ only_says depot 1 (kinds.Exec 1 0 None query)
+last_room_is_used_up : does (hears live sales (kinds.Exec 1 (tasks.Run 1 None query_over))).after depot (kinds.Opened 1 50) ≡ only_says depot 1 (kinds.Exec 1 (tasks.Run 0 None query))
 unfolding playing
 last_room_is_used_up = refl
 
@@ -266,7 +267,7 @@ last_room_is_used_up = refl
 abbrev gone : NodeState
 gone = start_of (records.Boot 1 ∷ records.Boot 2 ∷ [])
 
-exec_to_a_gone_branch : does gone sales (kinds.Exec 1 63 None query) ≡ only_says sales 1 (kinds.Reply 1 None 1 (answers.Refused (dtx 8 [])))
+exec_to_a_gone_branch : does gone sales (kinds.Exec 1 (tasks.Run 63 None query)) ≡ only_says sales 1 (kinds.Reply 1 None 1 (answers.Refused (dtx 8 [])))
 unfolding playing
 exec_to_a_gone_branch = refl
 

@@ -13,7 +13,7 @@ use Rattle.run_rules.specs.Data.happenings
 use Rattle.run_rules.specs.Facts.{Facts, first_facts, facts_of}
 use Rattle.run_rules.specs.RunReport.{start}
 use Rattle.run_rules.specs.Due.{Delivers, happened, comes_next, due_of}
-use Rattle.run_rules.specs.Branches.{Sealed, Decided, Kept, Gone, Trail, no_trail, exit_at, life_at, own_at, plan_at}
+use Rattle.run_rules.specs.Branches.{Sealed, Decided, Kept, Gone, Trail, no_trail, exit_at, life_at, own_at, plan_at, read_at_at}
 use Rattle.run_rules.specs.Tree.{site, tree, weight, step, walk, plan}
 use Rattle.run_rules.specs.Trail.{trail_after, trail_of, with_begun}
 use Rattle.run_rules.specs.Runs.{meaning, run_in, view_by}
@@ -157,7 +157,7 @@ query_script = committed ++ at 3 2 (rows (here (codes "LEDGER")) []) ∷ []
 
 -- the run of a statement in a happening, with what it means for its branch
 abbrev meant_in : Facts → Trail → Happening → Option Meant
-meant_in f tr (happenings.Turn u) = option_map (λ r. meaning f.book (own_at (with_begun f tr u) r.branch) r) (run_in f (with_begun f tr u) u)
+meant_in f tr (happenings.Turn u) = option_map (λ r. meaning f.book (read_at_at (with_begun f tr u) r.branch) (own_at (with_begun f tr u) r.branch) r) (run_in f (with_begun f tr u) u)
 meant_in f tr _ = None
 
 -- the query runs where it is asked, and its rows are its meaning

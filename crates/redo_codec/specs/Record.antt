@@ -14,7 +14,7 @@ use Rattle.redo_record.specs.declared.record.RedoRecord.{RedoRecord}
 use Rattle.redo_record.specs.declared.record.RedoRecord.TheVariants as records
 use Rattle.tran_ids.specs.declared.branch.BranchId.{BranchId}
 use Rattle.byte_format.specs.Format.{Format}
-use Rattle.byte_format.specs.Number.{number32, flag, constant}
+use Rattle.byte_format.specs.Number.{number8, number32, flag, constant}
 use Rattle.byte_format.specs.Part.{pair, mapped}
 use Rattle.byte_format.specs.Choice.{choice, kind, no_kind}
 use Rattle.field_codec.specs.Branch.{branch_format}
@@ -36,11 +36,20 @@ recovery_of (params.Strength strength) = None
 abbrev pub switch_format : Format Bool
 switch_format = mapped (λ x. x.1) (λ on. (tt, on)) (pair (constant (0 ∷ 0 ∷ 0 ∷ [])) flag)
 
--- the fields of each setting that has a spelling
-abbrev pub param_kinds : ℕ → Format Param
-param_kinds = kind 1 params.Recovery recovery_of switch_format no_kind
+-- the commit point strength, where the setting is that
+abbrev pub strength_of : Param → Option ℕ
+strength_of (params.Recovery enabled) = None
+strength_of (params.Strength strength) = Some strength
 
--- a setting: 1 and a switch for recovery; the commit point strength has no spelling
+-- a strength: a number of four bytes that is at most 255, so that its last byte is the strength
+abbrev pub strength_format : Format ℕ
+strength_format = mapped (λ x. x.1) (λ strength. (tt, strength)) (pair (constant (0 ∷ 0 ∷ 0 ∷ [])) number8)
+
+-- the fields of each setting
+abbrev pub param_kinds : ℕ → Format Param
+param_kinds = kind 1 params.Recovery recovery_of switch_format (kind 2 params.Strength strength_of strength_format no_kind)
+
+-- a setting: 1 and a switch for recovery, or 2 and the commit point strength
 abbrev pub param_format : Format Param
 param_format = choice param_kind param_kinds
 
@@ -66,6 +75,7 @@ record_kind (records.Forced me decision given) = 9
 record_kind (records.Met me decision mixed) = 10
 record_kind (records.Forgot me) = 11
 record_kind (records.Hidden me) = 12
+record_kind (records.Image image) = 13
 
 -- the number of the start, where the record is of one
 abbrev pub boot_of : RedoRecord → Option ℕ
@@ -127,7 +137,7 @@ abbrev pub hidden_of : RedoRecord → Option BranchId
 hidden_of (records.Hidden me) = Some me
 hidden_of _ = None
 
--- the fields of each kind of record
+-- the fields of each kind of record; an image has no spelling yet
 abbrev pub record_fields : ℕ → Format RedoRecord
 record_fields =
     kind 1 records.Boot boot_of number32

@@ -65,5 +65,6 @@ pub(crate) fn put_fields(out: &mut Vec<u8>, record: &RedoRecord) -> Result<(), A
         } => put_outcome(out, me, decision, *mixed),
         RedoRecord::Forgot(me) => put_branch(out, me),
         RedoRecord::Hidden(me) => put_branch(out, me),
+        RedoRecord::Image(_) => unreachable!(),
     }
 }

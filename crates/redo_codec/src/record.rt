@@ -52,5 +52,6 @@ fn kind_of(record: &RedoRecord) -> u8
         RedoRecord::Met { .. } => 10,
         RedoRecord::Forgot(_) => 11,
         RedoRecord::Hidden(_) => 12,
+        RedoRecord::Image(_) => 13,
     }
 }

@@ -50,3 +50,4 @@ after_in_order ks (records.Forced b d given) order = changed ks order b (in_stat
 after_in_order ks (records.Met b d mixed) order = after_met ks order b d mixed
 after_in_order ks (records.Forgot b) order = again ks b order
 after_in_order ks (records.Hidden b) order = changed ks order b hidden_as (λ s. refl)
+after_in_order ks (records.Image i) order = order

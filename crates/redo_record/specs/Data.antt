@@ -9,6 +9,10 @@ pub use Rattle.redo_record.specs.declared.record.Param.{Param}
 pub use Rattle.redo_record.specs.declared.record.Param.TheVariants as params
 pub use Rattle.redo_record.specs.declared.record.Sealed.{Sealed}
 pub use Rattle.redo_record.specs.declared.record.Decided.{Decided}
+pub use Rattle.redo_record.specs.declared.image.KeptState.{KeptState}
+pub use Rattle.redo_record.specs.declared.image.KeptState.TheVariants as kept_states
+pub use Rattle.redo_record.specs.declared.image.KeptItem.{KeptItem}
+pub use Rattle.redo_record.specs.declared.image.Image.{Image}
 pub use Rattle.redo_record.specs.declared.record.RedoRecord.{RedoRecord}
 pub use Rattle.redo_record.specs.declared.record.RedoRecord.TheVariants as records
 pub use Rattle.redo_record.specs.declared.durable.State.{State}

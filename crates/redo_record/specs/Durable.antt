@@ -18,7 +18,7 @@ set_param d (params.Strength strength) = record d { strength = Some strength }
 abbrev pub with_kept : Durable → List KeptRow → Durable
 with_kept d ks = record d { kept = ks }
 
--- after one more record
+-- after one more record; an image says again what stands before it
 unfoldable pub durable_after : Durable → RedoRecord → Durable
 durable_after d (records.Boot n) = record d { boot = n }
 durable_after d (records.Table t) = record d { tables = d.tables ++ t ∷ [] }

@@ -7,6 +7,7 @@
 
 mod decision;
 mod durable;
+mod image;
 mod kept;
 mod kept_rows;
 mod news;
@@ -17,6 +18,7 @@ mod search;
 
 pub use decision::Decision;
 pub use durable::{Durable, KeptRow, Kid, Kids, State};
+pub use image::{Image, KeptItem, KeptState};
 pub use kept_rows::KeptRows;
 pub use place::{Place, Places};
 pub use record::{Decided, Param, Peer, Peers, RedoRecord, Sealed, Toward};

@@ -2,6 +2,7 @@
 ghost use Rattle.std.specs.Prelude.{◌≡◌};
 
 use crate::decision::Decision;
+use crate::image::Image;
 use dtx_values::{Advice, Bytes, Changes, Duplicate, Link, Listing, Name, Synonym, Table};
 use std::alloc::{AllocError, Global};
 use tran_ids::BranchId;
@@ -228,6 +229,8 @@ pub enum RedoRecord {
     Forgot(BranchId),
     /// A purge took the branch's row out of the view.
     Hidden(BranchId),
+    /// A checkpoint: what all records before it leave.
+    Image(Image),
 }
 
 impl Drop for RedoRecord {
@@ -256,6 +259,7 @@ impl Drop for RedoRecord {
             } => {}
             RedoRecord::Forgot(_branch) => {}
             RedoRecord::Hidden(_branch) => {}
+            RedoRecord::Image(image) => drop(image),
         }
     }
 }
@@ -294,6 +298,7 @@ impl Duplicate for RedoRecord {
             }),
             RedoRecord::Forgot(branch) => Ok(RedoRecord::Forgot(*branch)),
             RedoRecord::Hidden(branch) => Ok(RedoRecord::Hidden(*branch)),
+            RedoRecord::Image(image) => Ok(RedoRecord::Image(image.copy(alloc)?)),
         }
     }
 }

@@ -23,6 +23,8 @@ done_text dones.SynonymMade n = codes "Synonym created."
 done_text dones.SessionAltered n = codes "Session altered."
 done_text dones.SystemAltered n = codes "System altered."
 done_text dones.Purged n = codes "PL/SQL procedure successfully completed."
+done_text dones.TransactionSet n = codes "Transaction set."
+done_text dones.SavepointMade n = codes "Savepoint created."
 
 -- the lines of a node's answer
 abbrev pub answer_text : Answer → List (List ℕ)

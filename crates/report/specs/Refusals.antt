@@ -1,4 +1,4 @@
--- The texts of refusals. Those of ORA codes are Oracle's (Database Error Messages), apart from the name of the
+-- The texts of refusals. Those of ORA codes are Oracle's (Database Error Messages), apart from that of ORA-01555, the name of the
 -- constraint in ORA-00001 and the number of extents and the tablespace in ORA-30036. DTX codes are dtx's own.
 use Rattle.std.specs.Prelude.{ℕ, ◌+◌, ◌-◌, ◌==◌, if◌then◌else◌, nat_lt, List, [], ◌∷◌, ◌++◌, slice_get, unwrap_or, codes}
 use Rattle.dtx_values.specs.Limits.{delivery_limit}
@@ -17,6 +17,8 @@ ora_texts =
     ∷ (955, codes "name is already used by an existing object")
     ∷ (1400, codes "cannot insert NULL into (\"APP\".\"%\".\"%\")")
     ∷ (1407, codes "cannot update (\"APP\".\"%\".\"%\") to NULL")
+    ∷ (1453, codes "SET TRANSACTION must be first statement of transaction")
+    ∷ (1555, codes "snapshot too old")
     ∷ (1591, codes "lock held by in-doubt distributed transaction %")
     ∷ (2011, codes "duplicate database link name")
     ∷ (2019, codes "connection description for remote database not found")
@@ -51,6 +53,9 @@ dtx_texts =
     ∷ (14, codes "no call to give up")
     ∷ (15, codes "key column cannot be changed")
     ∷ (16, codes "changes of one branch too large")
+    ∷ (17, codes "image too large")
+    ∷ (21, codes "write in a read-only transaction")
+    ∷ (22, codes "savepoint % is not set")
     ∷ []
 
 -- the text of this number, empty where the list has none

@@ -34,6 +34,8 @@ fn done_text(alloc: Global, done: Done, count: u32) -> Result<Bytes, AllocError>
         Done::SessionAltered => text(alloc, b"Session altered."),
         Done::SystemAltered => text(alloc, b"System altered."),
         Done::Purged => text(alloc, b"PL/SQL procedure successfully completed."),
+        Done::TransactionSet => text(alloc, b"Transaction set."),
+        Done::SavepointMade => text(alloc, b"Savepoint created."),
     }
 }
 

@@ -24,6 +24,8 @@ fn ora_words(number: u16) -> &'static [u8]
         955 => b"name is already used by an existing object",
         1400 => b"cannot insert NULL into (\"APP\".\"%\".\"%\")",
         1407 => b"cannot update (\"APP\".\"%\".\"%\") to NULL",
+        1453 => b"SET TRANSACTION must be first statement of transaction",
+        1555 => b"snapshot too old",
         1591 => b"lock held by in-doubt distributed transaction %",
         2011 => b"duplicate database link name",
         2019 => b"connection description for remote database not found",
@@ -63,6 +65,9 @@ fn dtx_words(number: u16) -> &'static [u8]
         14 => b"no call to give up",
         15 => b"key column cannot be changed",
         16 => b"changes of one branch too large",
+        17 => b"image too large",
+        21 => b"write in a read-only transaction",
+        22 => b"savepoint % is not set",
         _ => b"",
     }
 }

@@ -1,5 +1,5 @@
 -- Locks in the order in which they were taken.
-use Rattle.std.specs.Prelude.{ℕ, Bool, false, if◌then◌else◌, not, ◌&&◌, ◌||◌, List, [], ◌∷◌, map, filter, find, Option, None, Some}
+use Rattle.std.specs.Prelude.{ℕ, Bool, false, if◌then◌else◌, not, ◌&&◌, ◌||◌, List, [], ◌∷◌, map, filter, flat_map, find, Option, None, Some}
 use Rattle.std.specs.Str.{bytes_eq}
 use Rattle.std.specs.List.{IsDistinct}
 use Rattle.std.specs.Option.{option_map}
@@ -88,6 +88,15 @@ in_doubt_from_now locks branch = map (doubted branch) locks
 -- the locks but for the branch's
 abbrev pub without : List Lock → BranchId → List Lock
 without locks branch = filter (λ l. not (is_held_by branch l)) locks
+
+-- a lock of a branch that went back: it stays where a remaining statement wrote its key, and writes where a change is left
+abbrev pub lock_back : BranchId → (Lock → Bool) → (Lock → Bool) → Lock → List Lock
+lock_back branch stays writes l =
+    if is_held_by branch l then (if stays l then (record l { writes = writes l }) ∷ [] else []) else l ∷ []
+
+-- the locks after a branch went back
+abbrev pub locks_back : BranchId → (Lock → Bool) → (Lock → Bool) → List Lock → List Lock
+locks_back branch stays writes locks = flat_map (lock_back branch stays writes) locks
 
 -- the locks but for those of keys that the branch only reads
 abbrev pub without_reads : List Lock → BranchId → List Lock

@@ -7,8 +7,9 @@ use Rattle.std.proofs.lemmas.List.Sums.{sum_by-cons, sum_by_push}
 use Rattle.dtx_values.specs.declared.row.Change.{Change}
 use Rattle.dtx_values.specs.Limits.{extent_size}
 use Rattle.tran_ids.specs.declared.branch.BranchId.{BranchId}
-use Rattle.tran_ids.specs.Branch.{same}
+use Rattle.tran_ids.specs.Branch.{same, put_by_branch}
 use Rattle.tran_ids.specs.Listed.{item_at, put_item}
+use Rattle.row_store.proofs.OrderLemmas.{sum_placed}
 use Rattle.row_size_laws.proofs.LengthLaws.{changes_length_is}
 use Rattle.undo_pool.specs.Pool.{PoolState}
 use Rattle.undo_book.specs.Undo.{undo_of as undo_at, undo_extents}
@@ -16,7 +17,7 @@ use Rattle.row_store.specs.declared.pending.Owned.{Owned}
 use Rattle.row_store.specs.declared.pending.Doubt.{Doubt}
 use Rattle.row_store.specs.Own.{changes_length, extents}
 use Rattle.row_store.specs.ByBranch.{KeptSets, KeptDoubt, cut, own_in, owns_in, doubt_in, doubts_in}
-use Rattle.row_store.specs.Store.{own_id, sets_of, sets_at, extents_of_sets, own_extents, doubt_extents}
+use Rattle.row_store.specs.Store.{own_id, doubt_id, sets_of, sets_at, extents_of_sets, own_extents, doubt_extents}
 use Rattle.row_store.proofs.KeptLaws.{Entry, Held}
 use Rattle.row_store.proofs.Totals.{total_removed}
 
@@ -85,8 +86,8 @@ module _ (p : PoolState) where
       ap (λ n. n + f x) (doubt_total (remove_entry test es)) ∙ total_removed f test es x there ∙ sym (doubt_total es)
 
 -- one in doubt that comes
-pub doubt_more : (ds : List Doubt) (d : Doubt) → doubt_extents (ds ++ d ∷ []) ≡ doubt_extents ds + extents (changes_length d.undo)
-doubt_more ds d = sum_by_push held ds d
+pub doubt_more : (ds : List Doubt) (d : Doubt) → doubt_extents (put_by_branch doubt_id ds d) ≡ doubt_extents ds + extents (changes_length d.undo)
+doubt_more ds d = sum_placed doubt_id held ds d
 
 pub own_more : (owns : List Owned) (o : Owned) → own_extents (owns ++ o ∷ []) ≡ own_extents owns + extents_of_sets o.sets
 own_more owns o = sum_by_push taken owns o

@@ -5,8 +5,9 @@ use Rattle.std.specs.Str.{bytes_eq}
 use Rattle.dtx_values.specs.declared.value.Value.{Value}
 use Rattle.dtx_values.specs.declared.row.Change.{Change}
 use Rattle.tran_ids.specs.declared.branch.BranchId.{BranchId}
-use Rattle.tran_ids.specs.Branch.{same}
+use Rattle.tran_ids.specs.Branch.{same, put_by_branch}
 use Rattle.tran_ids.specs.Listed.{item_at, drop_item}
+use Rattle.row_store.proofs.OrderLemmas.{all_placed}
 use Rattle.row_store.specs.declared.pending.ChangeSet.{ChangeSet}
 use Rattle.row_store.specs.declared.pending.Doubt.{Doubt}
 use Rattle.row_store.specs.declared.pending.Owned.{Owned}
@@ -41,9 +42,8 @@ module _ (sh : List Shelf) where
   held_drop (d ∷ ds) b all = drop_if d (drop_item doubt_id ds b) (not (same d.branch b)) all.0 (held_drop ds b all.1)
 
   -- with a branch more
-  pub held_push : (ds : List Doubt) (d : Doubt) → AllHeld sh ds → ArePlaced sh d.changes → AllHeld sh (ds ++ d ∷ [])
-  held_push [] d all one = (one, tt)
-  held_push (e ∷ ds) d all one = (all.0, held_push ds d all.1 one)
+  pub held_put : (ds : List Doubt) (d : Doubt) → AllHeld sh ds → ArePlaced sh d.changes → AllHeld sh (put_by_branch doubt_id ds d)
+  held_put ds d all one = all_placed doubt_id (λ e. ArePlaced sh e.changes) ds d all one
 
   module _ (now : List Shelf) (keeps : (name : List ℕ) (key : Value) → has_place_in sh name key ≡ true → has_place_in now name key ≡ true) where
     held_still : (ds : List Doubt) → AllHeld sh ds → AllHeld now ds
@@ -98,10 +98,10 @@ less_for sh s t b is have = subst (HaveFor sh) (sym is) (record { own = placed_l
 
 -- a live branch becomes one in doubt
 pub seal_for : (sh : List Shelf) (s : PendingState) (b : BranchId) → HaveFor sh s
-    → HaveFor sh (record s { owns = drop_item own_id s.owns b; doubts = s.doubts ++ sealed_doubt s.owns b ∷ [] })
+    → HaveFor sh (record s { owns = drop_item own_id s.owns b; doubts = put_by_branch doubt_id s.doubts (sealed_doubt s.owns b) })
 seal_for sh s b have = record {
   own = placed_drop sh s.owns b have.own;
-  held = held_push sh s.doubts (sealed_doubt s.owns b) have.held (placed_at sh s.owns b have.own);
+  held = held_put sh s.doubts (sealed_doubt s.owns b) have.held (placed_at sh s.owns b have.own);
 }
 
 -- a live branch has one set more
@@ -113,5 +113,5 @@ more_for sh s b set have one =
     record { own = placed_put sh s.owns (record { branch = b; sets = sets ++ set ∷ [] }) have.own all; held = have.held }
 
 -- a branch in doubt comes
-pub doubt_for : (sh : List Shelf) (s : PendingState) (d : Doubt) → HaveFor sh s → ArePlaced sh d.changes → HaveFor sh (record s { doubts = s.doubts ++ d ∷ [] })
-doubt_for sh s d have one = record { own = have.own; held = held_push sh s.doubts d have.held one }
+pub doubt_for : (sh : List Shelf) (s : PendingState) (d : Doubt) → HaveFor sh s → ArePlaced sh d.changes → HaveFor sh (record s { doubts = put_by_branch doubt_id s.doubts d })
+doubt_for sh s d have one = record { own = have.own; held = held_put sh s.doubts d have.held one }

@@ -7,8 +7,10 @@ mod PlaceLaws
 mod MadeLaws
 mod SetLaws
 mod KeyedLaws
+pub mod OrderLemmas
 mod Totals
 mod KeptLaws
+mod OrderLaws
 mod ExtentLaws
 mod PoolLaws
 mod SealLaws
@@ -18,6 +20,7 @@ mod CallLaws
 mod ResultLaws
 mod BranchLaws
 mod HeldLaws
+mod LessLaws
 mod UndoLaws
 mod UndoneLaws
 mod ScanLaws

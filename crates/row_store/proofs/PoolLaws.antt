@@ -8,15 +8,17 @@ use Rattle.std.proofs.lemmas.List.{map-append}
 use Rattle.indexmap.specs.Layout.{set_value_at}
 use Rattle.dtx_values.specs.declared.row.Change.{Change}
 use Rattle.tran_ids.specs.declared.branch.BranchId.{BranchId}
+use Rattle.tran_ids.specs.Branch.{put_by_branch}
 use Rattle.tran_ids.specs.Listed.{item_at, put_item, drop_item}
 use Rattle.tran_ids.proofs.ListedLemmas.{put_is_push}
+use Rattle.row_store.proofs.OrderLemmas.{sum_placed, map_placed}
 use Rattle.undo_pool.specs.Pool.{PoolState, all_extents}
 use Rattle.undo_book.specs.Undo.{undo_of as undo_at, undo_extents, OthersStay}
 use Rattle.row_store.specs.declared.pending.Owned.{Owned}
 use Rattle.row_store.specs.declared.pending.Doubt.{Doubt}
 use Rattle.row_store.specs.Own.{changes_length, extents}
 use Rattle.row_store.specs.Pending.{changes_of, undo_of}
-use Rattle.row_store.specs.ByBranch.{KeptSets, KeptDoubt, cut, own_in, owns_in, doubt_in, doubts_in, AreCut, AreKept, own_count, doubt_count}
+use Rattle.row_store.specs.ByBranch.{KeptSets, KeptDoubt, cut, own_in, owns_in, held_id, doubt_in, doubts_in, AreCut, AreKept, own_count, doubt_count}
 use Rattle.row_store.specs.Store.{own_id, doubt_id, sets_of, sets_at, extents_of_sets, own_extents, doubt_extents}
 use Rattle.row_store.proofs.BranchLaws.{found_as, found, placed_is, dropped_is}
 use Rattle.row_store.proofs.SetLaws.{changes_cut, undo_cut}
@@ -171,18 +173,18 @@ module _ (p q : PoolState) (next : ℕ) (es : List Entry) (ds : List Held) (kept
 
     module _ (b : BranchId) (cs : List Change) where
       abbrev held_too : List Held
-      held_too = ds ++ (b, record { changes = cs; owner = next }) ∷ []
+      held_too = put_by_branch held_id ds (b, record { changes = cs; owner = next })
 
       pub held_owns : owns_in q es ≡ owns_in p es
       held_owns = still_own p q next others es none_own
 
-      pub held_doubts : doubts_in q held_too ≡ doubts_in p ds ++ (record { branch = b; changes = cs; undo = undo_at q next }) ∷ []
+      pub held_doubts : doubts_in q held_too ≡ put_by_branch doubt_id (doubts_in p ds) (record { branch = b; changes = cs; undo = undo_at q next })
       held_doubts =
-          map-append (doubt_in q) ds ((b, record { changes = cs; owner = next }) ∷ [])
-          ∙ ap (λ (xs : List Doubt). xs ++ (record { branch = b; changes = cs; undo = undo_at q next }) ∷ []) (still_doubt p q next others ds none_doubt)
+          map_placed doubt_id (doubt_in q) ds (b, record { changes = cs; owner = next })
+          ∙ ap (λ (xs : List Doubt). put_by_branch doubt_id xs (record { branch = b; changes = cs; undo = undo_at q next })) (still_doubt p q next others ds none_doubt)
 
       held_count : (n : ℕ) → doubt_count n held_too ≡ doubt_count n ds + is_at n next
-      held_count n = total_push (λ (z : KeptDoubt). is_at n z.owner) ds (b, record { changes = cs; owner = next })
+      held_count n = sum_placed held_id (λ (z : Held). is_at n z.1.owner) ds (b, record { changes = cs; owner = next })
 
       pub held_kept : AreKept q m es held_too
       held_kept = record {

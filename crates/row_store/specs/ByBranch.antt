@@ -46,6 +46,10 @@ own_in p e = record { branch = e.0; sets = cut e.1.sizes e.1.changes (undo_at p 
 abbrev pub owns_in : PoolState → List (BranchId × KeptSets) → List Owned
 owns_in p es = map (own_in p) es
 
+-- the branch in doubt whose changes an entry has
+abbrev pub held_id : BranchId × KeptDoubt → BranchId
+held_id e = e.0
+
 -- what a pool and the map of branches in doubt have of one
 abbrev pub doubt_in : PoolState → BranchId × KeptDoubt → Doubt
 doubt_in p e = record { branch = e.0; changes = e.1.changes; undo = undo_at p e.1.owner }

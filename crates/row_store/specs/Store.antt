@@ -6,6 +6,7 @@ use Rattle.std.specs.Prelude.{◌≡◌, Bool, true, ℕ, ◌+◌, ◌-◌, if�
 use Rattle.dtx_values.specs.declared.row.Change.{Change}
 use Rattle.dtx_values.specs.Limits.{changes_limit}
 use Rattle.tran_ids.specs.declared.branch.BranchId.{BranchId}
+use Rattle.tran_ids.specs.Branch.{put_by_branch}
 use Rattle.tran_ids.specs.Listed.{item_at, put_item, drop_item}
 use Rattle.sql_eval.specs.declared.keyed.Keyed.{Keyed}
 use Rattle.row_store.specs.declared.pending.ChangeSet.{ChangeSet}
@@ -56,6 +57,15 @@ but_last sets = take (length sets - 1) sets
 abbrev pub less_last : List Owned → Option Owned → List Owned
 less_last owns None = owns
 less_last owns (Some o) = put_item own_id owns (record o { sets = but_last o.sets })
+
+-- without so many sets of a branch, the last ones
+abbrev pub less_sets : ℕ → List Owned → Option Owned → List Owned
+less_sets n owns None = owns
+less_sets n owns (Some o) = put_item own_id owns (record o { sets = take (length o.sets - n) o.sets })
+
+-- so many of a branch's last sets are taken back
+abbrev pub without_sets : List Owned → BranchId → ℕ → List Owned
+without_sets owns b n = less_sets n owns (item_at own_id owns b)
 
 -- a branch's last set is taken back
 abbrev pub without_last : List Owned → BranchId → List Owned
@@ -141,9 +151,9 @@ rolled_back s b = record s { owns = drop_item own_id s.owns b }
 abbrev pub doubt_from : List TableRows → BranchId → List Change → Doubt
 doubt_from rows b cs = record { branch = b; changes = cs; undo = undo_over rows cs }
 
--- with a branch in doubt behind the others
+-- with a branch in doubt among the others, which stand in the order of their ids
 abbrev pub held_from : Contents → BranchId → List Change → Contents
-held_from s b cs = record s { doubts = s.doubts ++ doubt_from s.rows b cs ∷ [] }
+held_from s b cs = record s { doubts = put_by_branch doubt_id s.doubts (doubt_from s.rows b cs) }
 
 -- a live branch's changes are those of a branch in doubt from now on
 abbrev pub sealed : Contents → BranchId → Contents

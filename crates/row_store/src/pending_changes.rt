@@ -1,6 +1,7 @@
 //! What branches have changed and not committed, with its undo in a pool.
 ghost use Rattle.std.specs.Prelude.{◌≡◌, ◌+◌, ◌-◌, ◌≤◌, [], ◌∷◌, ◌++◌, false, length, IfOk, OnOk, OnErr, MatchOption};
 ghost use Rattle.std.specs.Option.{option_copied};
+ghost use Rattle.tran_ids.specs.Branch.{put_by_branch};
 ghost use Rattle.tran_ids.specs.Listed.{item_at, drop_item};
 ghost use Rattle.undo_book.specs.Undo.{undo_text, changes_in};
 ghost use Rattle.row_store.specs.Own.{changes_length, extents as extents_of};
@@ -8,7 +9,7 @@ ghost use Rattle.row_store.specs.Pending.{changes_of, undo_of};
 ghost use Rattle.row_store.specs.ByBranch.{changes_kept, doubt_kept};
 ghost use Rattle.row_store.specs.Store.{own_id, doubt_id, sets_at, held_back as held_back_by, undo_held_in, holders, is_in_doubt, extents_of_sets, used_extents, with_set, without_last, sealed_doubt};
 
-use crate::held_changes::HeldChanges;
+use crate::held_changes::{HeldChanges, put_held};
 use crate::own_sets::OwnSets;
 use dtx_values::{Bytes, Change, Changes};
 use indexmap::IndexMap;
@@ -17,8 +18,8 @@ use std::marker::Model;
 use tran_ids::BranchId;
 use undo_book::{UndoBook, UndoSet};
 
-/// The changes of live branches, in order of each branch's first, and those of branches in doubt, in the order in which they
-/// became so. A branch's are found by its id. Their undo stands in a pool, where each branch is an owner, and stays there when a
+/// The changes of live branches, in order of each branch's first, and those of branches in doubt, in the order of their ids. A
+/// branch's are found by its id. Their undo stands in a pool, where each branch is an owner, and stays there when a
 /// live branch becomes one in doubt.
 pub(crate) struct PendingChanges {
     owns: IndexMap<BranchId, OwnSets>,
@@ -73,6 +74,16 @@ impl PendingChanges {
         ensures { changes_kept (option_copied result) ≡ changes_of (sets_at self.now.owns branch.now) }
     {
         self.owns.get(branch)
+    }
+
+    /// The changes that a branch in doubt holds back, and none where it is not in doubt.
+    pub(crate) fn held(&self, branch: &BranchId) -> &[Change]
+        ensures { result.now ≡ held_back_by (item_at doubt_id self.now.doubts branch.now) }
+    {
+        match self.doubts.get(branch) {
+            Some(held) => held.as_slice(),
+            None => &[],
+        }
     }
 
     /// The extents that nobody holds.
@@ -176,21 +187,21 @@ impl PendingChanges {
         Some(sets.into_changes())
     }
 
-    /// A live branch is one in doubt from now on, behind the others: its changes and its undo stay where they are.
+    /// A live branch is one in doubt from now on: its changes and its undo stay where they are.
     pub(crate) fn seal(&mut self, alloc: Global, branch: &BranchId) -> Result<(), AllocError>
         requires { is_in_doubt self.old.doubts branch.now ≡ false }
-        ensures ok { OnOk result (self.new ≡ record self.old { owns = drop_item own_id self.old.owns branch.now; doubts = self.old.doubts ++ sealed_doubt self.old.owns branch.now ∷ [] }) }
+        ensures ok { OnOk result (self.new ≡ record self.old { owns = drop_item own_id self.old.owns branch.now; doubts = put_by_branch doubt_id self.old.doubts (sealed_doubt self.old.owns branch.now) }) }
         ensures err { OnErr result (self.new ≡ self.old) }
     {
         let next = owner_after(self.next)?;
         self.doubts.reserve(1)?;
-        let changes = held_of(alloc, self.owns.shift_remove(branch), self.next);
-        drop(self.doubts.insert(*branch, changes).unwrap());
+        let held = held_of(alloc, self.owns.shift_remove(branch), self.next);
+        put_held(&mut self.doubts, branch, held).unwrap();
         self.next = next;
         Ok(())
     }
 
-    /// Adds a branch in doubt with these changes behind the others, and their undo, for which there is room.
+    /// Adds a branch in doubt with these changes, and their undo, for which there is room.
     pub(crate) fn hold_back(
         &mut self,
         branch: &BranchId,
@@ -199,12 +210,12 @@ impl PendingChanges {
     ) -> Result<(), AllocError>
         requires apart { is_in_doubt self.old.doubts branch.now ≡ false }
         requires room { extents_of (changes_length undo.now) ≤ self.old.extents - used_extents self.old.owns self.old.doubts }
-        ensures ok { OnOk result (self.new ≡ record self.old { doubts = self.old.doubts ++ (record { branch = branch.now; changes = changes.items; undo = undo.now }) ∷ [] }) }
+        ensures ok { OnOk result (self.new ≡ record self.old { doubts = put_by_branch doubt_id self.old.doubts (record { branch = branch.now; changes = changes.items; undo = undo.now }) }) }
         ensures err { OnErr result (self.new ≡ self.old) }
     {
         let next = owner_after(self.next)?;
-        let changes = HeldChanges::new(changes, self.next);
-        drop(self.doubts.insert(*branch, changes)?);
+        let held = HeldChanges::new(changes, self.next);
+        put_held(&mut self.doubts, branch, held)?;
         self.undo.add(self.next, undo).unwrap();
         self.next = next;
         Ok(())

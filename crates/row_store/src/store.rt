@@ -12,8 +12,9 @@ ghost use Rattle.field_codec.specs.Change.{change_format};
 ghost use Rattle.undo_book.specs.Undo.{changes_in};
 ghost use Rattle.row_store.specs.Own.{changes_length, last_at as last_at_of, extents as extents_of};
 ghost use Rattle.row_store.specs.Pending.{changes_of, undo_of, undo_over};
-ghost use Rattle.row_store.specs.Tables.{apply_all, with_table};
-ghost use Rattle.row_store.specs.Store.{nothing_kept, AreOfTables, own_changes, seen_by, set_seen, sets_at, extents_of_sets, with_pending, bytes_with as bytes_with_of, extents_needed, extents_free, refusal_of, RefusesOnly, without_last, committed, rolled_back, held_from, sealed, is_in_doubt as is_in_doubt_of, doubt_committed, doubt_dropped, undo_held, holders};
+ghost use Rattle.row_store.specs.Tables.{apply_all, rows_of_table, with_table};
+ghost use Rattle.tran_ids.specs.Listed.{item_at};
+ghost use Rattle.row_store.specs.Store.{doubt_id, held_back, nothing_kept, AreOfTables, own_changes, seen_by, set_seen, sets_at, extents_of_sets, with_pending, bytes_with as bytes_with_of, extents_needed, extents_free, refusal_of, RefusesOnly, without_last, without_sets, committed, rolled_back, held_from, sealed, is_in_doubt as is_in_doubt_of, doubt_committed, doubt_dropped, undo_held, holders};
 
 use crate::StoreErr;
 use crate::lengths::{changes_len, extents, sum};
@@ -123,6 +124,20 @@ impl Store {
         keys_of(alloc, rows.as_slice())
     }
 
+    /// The committed row at a key of a table.
+    pub fn committed(&self, table: &Name, key: &Value) -> Option<&Row>
+        ensures { option_copied result ≡ get_of (rows_of_table self.now.rows table.now) key.now }
+    {
+        self.tables.get(table, key)
+    }
+
+    /// The changes that a branch in doubt holds back, and none where it is not in doubt.
+    pub fn held(&self, branch: &BranchId) -> &[Change]
+        ensures { result.now ≡ held_back (item_at doubt_id self.now.doubts branch.now) }
+    {
+        self.pending.held(branch)
+    }
+
     /// Whether a branch has changed anything.
     pub fn has_changes(&self, branch: &BranchId) -> bool
         ensures { result ≡ nat_lt 0 (length (own_changes self.now branch.now)) }
@@ -206,6 +221,15 @@ impl Store {
         self.pending.pop(branch);
     }
 
+    /// Takes back so many of the last sets of changes of a branch, or all where it has no more.
+    pub fn undo_sets(&mut self, branch: &BranchId, count: u32)
+        ensures { self.new ≡ record self.old { owns = without_sets self.old.owns branch.now count } }
+    {
+        for _ in 0..count {
+            self.undo_last(branch);
+        }
+    }
+
     /// Makes the changes of a branch, and drops it.
     pub fn commit(&mut self, branch: &BranchId)
         ensures { self.new ≡ committed self.old branch.now }
@@ -222,7 +246,7 @@ impl Store {
         drop(self.pending.remove(branch));
     }
 
-    /// Makes the changes of a live branch those of a branch in doubt, behind the others. Neither they nor their undo are copied:
+    /// Makes the changes of a live branch those of a branch in doubt. Neither they nor their undo are copied:
     /// the undo that the branch holds is that of its changes over the committed rows. After an error all is as before.
     pub fn seal(&mut self, alloc: Global, branch: &BranchId) -> Result<(), AllocError>
         requires apart { is_in_doubt_of self.old.doubts branch.now ≡ false }
@@ -233,7 +257,7 @@ impl Store {
         self.pending.seal(alloc, branch)
     }
 
-    /// Adds a branch in doubt with these changes behind the others, as a start does of its records. Each changed key gets a
+    /// Adds a branch in doubt with these changes, as a start does of its records. Each changed key gets a
     /// place, so that committing them takes no memory. Their undo has room. After an error all is as before.
     pub fn hold_back(
         &mut self,

@@ -1,6 +1,6 @@
 -- The branches that begin in a turn: what begins them, that they are live once it is over, and that it then writes no record.
 -- A branch that was live and is no more has an exit.
-use Rattle.std.proofs.Common.{◌≡◌, ◌≢◌, ℕ, ◌+◌, ◌≤◌, ◌&&◌, ◌||◌, not, Bool, true, false, true≢false, if◌then◌else◌, List, [], ◌∷◌, ◌++◌, map, find, is_none, Option, Some, None, inl, inr, refl, sym, ap, subst, ◌∙◌, ◌⊎◌, arith}
+use Rattle.std.proofs.Common.{◌≡◌, ◌≢◌, ℕ, ◌+◌, ◌≤◌, ◌&&◌, ◌||◌, not, Bool, true, false, true≢false, if◌then◌else◌, List, [], ◌∷◌, ◌++◌, map, find, is_none, Option, Some, None, inl, inr, refl, sym, ap, subst, ◌∙◌, ◌⊎◌, arith, is_some}
 use Rattle.std.specs.List.{AllByRecursion, list_any}
 use Rattle.std.proofs.lemmas.Bool.{cond_both, or_left, or_right}
 use Rattle.tran_ids.proofs.BranchLemmas.{equal_from_same, same_from_equal}
@@ -15,62 +15,51 @@ use Rattle.node_rules.specs.Inputs.{Came, IsCall}
 use Rattle.node_rules.specs.Names.{Way, Runs_here, Over, Through, Nowhere_to, way_of}
 use Rattle.node_rules.specs.NodeState.{NodeState, Branch, TurnDraft, live_id}
 use Rattle.node_rules.specs.Sessions.{session_at}
-use Rattle.node_rules.specs.Calls.{is_opening, next_child, goes, open_by}
-use Rattle.node_rules.specs.Client.{new_root, fresh_root, begun_by, begun, root_at, statement_by, statement_call, call_turn}
+use Rattle.node_rules.specs.Calls.{is_opening, next_child, goes, open_by, strength_of}
+use Rattle.node_rules.specs.Client.{new_root, fresh_root, begun_by, begun, root_at, statement_by, statement_call, call_turn, counted, is_write, savepoint_by, savepoint_call, read_only_by}
 use Rattle.node_rules.specs.Turn.{draft_of, heard}
-use Rattle.node_rules.proofs.Steps.{IsOfRows}
+use Rattle.node_rules.proofs.Steps.{IsOfRows, BeginsBy, By_rows, By_savepoint, By_read_only}
 use Rattle.run_rules.specs.Data.{Turn}
 use Rattle.run_rules.specs.Data.happenings
 use Rattle.run_rules.specs.Branches.{is_among}
 use Rattle.run_rules.specs.Trail.{is_quiet}
 use Rattle.run_rules.specs.Facts.{Facts, node_at}
-use Rattle.run_rules.specs.Runs.{is_of_rows}
 use Rattle.run_base_laws.specs.RunEvents.{with_event, wrote_event, message_event, with_messages, lives_at, leave_event, has_left, with_leaver, with_leavers, with_record, with_happening}
 use Rattle.run_base_laws.specs.NodeLaws.{count_of}
-use Rattle.run_rules.specs.Births.{Born, root_born, child_born, roots_by, births_by_call, births_by_open, births_by_kind, births_by, born_id, born_at}
+use Rattle.run_rules.specs.Births.{Born, root_born, child_born, roots_by, births_by_call, births_by_open, births_by_kind, births_by, born_id, born_at, read_at_by}
+use Rattle.run_rules.specs.Runs.{begins_transaction}
 use Rattle.run_base_laws.specs.BirthLaws.{Began}
 use Rattle.run_base_laws.proofs.CountingLemmas.{count_last}
 use Rattle.run_base_laws.proofs.NeighborLemmas.{News}
+use Rattle.run_base_laws.proofs.BeginLemmas.{begins_are, begins_at, begins_so as begins_at_clock}
 
 -- ---- what begins a branch
 
 -- How branches begin with an input: none does, or a root, or a child.
 pub data Begins (p : Place) (k : NodeState) (input : Input) : List Born → Type 0 where
   None_begins : Begins p k input []
-  Root_begins : (n : ℕ) (s : Stmt) → IsCall input n s → IsOfRows s → (session_at k.sessions n).root ≡ None → Begins p k input (root_born (new_root p k n) ∷ [])
-  Child_begins : (to parent : BranchId) (edge : ℕ) (root : BranchId) (depth : ℕ) → Came input parent to (kinds.Open edge root depth) → find (is_opening parent edge) k.opens ≡ None
-      → Begins p k input (child_born (next_child p k) parent edge root depth ∷ [])
-
-rows_so : (s : Stmt) → is_of_rows s ≡ true → IsOfRows s
-rows_so (stmts.Insert table columns given) is = tt
-rows_so (stmts.Update table sets cs) is = tt
-rows_so (stmts.Delete table cs) is = tt
-rows_so (stmts.Select list table cs for_update) is = tt
-rows_so _ is = absurd cc
-
-rows_are : (s : Stmt) → IsOfRows s → is_of_rows s ≡ true
-rows_are (stmts.Insert table columns given) is = refl
-rows_are (stmts.Update table sets cs) is = refl
-rows_are (stmts.Delete table cs) is = refl
-rows_are (stmts.Select list table cs for_update) is = refl
-rows_are _ is = absurd is
+  Root_begins : (n : ℕ) (s : Stmt) (read_at : Option ℕ) → IsCall input n s → BeginsBy k.clock s read_at → (session_at k.sessions n).root ≡ None
+      → Begins p k input (root_born (new_root p k n) (strength_of p k) read_at ∷ [])
+  Child_begins : (to parent : BranchId) (edge : ℕ) (root : BranchId) (depth : ℕ) (read_at : Option ℕ) → Came input parent to (kinds.Open edge root depth read_at)
+      → find (is_opening parent edge) k.opens ≡ None → Begins p k input (child_born (next_child p k) parent edge root depth (strength_of p k) read_at ∷ [])
 
 module _ (p : Place) (k : NodeState) where
-  roots_begin : (n : ℕ) (s : Stmt) (o : Option BranchId) → IsOfRows s → (session_at k.sessions n).root ≡ o → Begins p k (inputs.Call n (Some s)) (roots_by p k n o)
-  roots_begin n s None rows is = Root_begins n s refl rows is
-  roots_begin n s (Some b) rows is = None_begins
+  roots_begin : (n : ℕ) (s : Stmt) (read_at : Option ℕ) (o : Option BranchId) → BeginsBy k.clock s read_at → (session_at k.sessions n).root ≡ o → Begins p k (inputs.Call n (Some s)) (roots_by p k n read_at o)
+  roots_begin n s read_at None begins is = Root_begins n s read_at refl begins is
+  roots_begin n s read_at (Some b) begins is = None_begins
 
   call_begins : (n : ℕ) (s : Stmt) → Begins p k (inputs.Call n (Some s)) (births_by_call p k n s)
   call_begins n s =
-      cond_both (is_of_rows s) (roots_by p k n (session_at k.sessions n).root) [] (Begins p k (inputs.Call n (Some s))) (λ rows. roots_begin n s (session_at k.sessions n).root (rows_so s rows) refl) (λ other. None_begins)
+      cond_both (begins_transaction s) (roots_by p k n (read_at_by k.clock s) (session_at k.sessions n).root) [] (Begins p k (inputs.Call n (Some s)))
+      (λ is. roots_begin n s (read_at_by k.clock s) (session_at k.sessions n).root (begins_at_clock k.clock s is) refl) (λ other. None_begins)
 
-  opens_begin : (from to : BranchId) (scn edge : ℕ) (root : BranchId) (depth : ℕ) (o : Option Opening) → find (is_opening from edge) k.opens ≡ o
-      → Begins p k (inputs.Message (record { from = from; to = to; scn = scn; kind = kinds.Open edge root depth })) (births_by_open p k from edge root depth o)
-  opens_begin from to scn edge root depth None is = Child_begins to from edge root depth (record { scn = scn; is = refl }) is
-  opens_begin from to scn edge root depth (Some o) is = None_begins
+  opens_begin : (from to : BranchId) (scn edge : ℕ) (root : BranchId) (depth : ℕ) (read_at : Option ℕ) (o : Option Opening) → find (is_opening from edge) k.opens ≡ o
+      → Begins p k (inputs.Message (record { from = from; to = to; scn = scn; kind = kinds.Open edge root depth read_at })) (births_by_open p k from edge root depth read_at o)
+  opens_begin from to scn edge root depth read_at None is = Child_begins to from edge root depth read_at (record { scn = scn; is = refl }) is
+  opens_begin from to scn edge root depth read_at (Some o) is = None_begins
 
   kind_begins : (from to : BranchId) (scn : ℕ) (kind : Kind) → Begins p k (inputs.Message (record { from = from; to = to; scn = scn; kind = kind })) (births_by_kind p k from kind)
-  kind_begins from to scn (kinds.Open edge root depth) = opens_begin from to scn edge root depth (find (is_opening from edge) k.opens) refl
+  kind_begins from to scn (kinds.Open edge root depth read_at) = opens_begin from to scn edge root depth read_at (find (is_opening from edge) k.opens) refl
   kind_begins from to scn _ = None_begins
 
   pub begins_so : (input : Input) → Begins p k input (births_by p k input)
@@ -79,30 +68,39 @@ module _ (p : Place) (k : NodeState) where
   begins_so (inputs.Message m) = kind_begins m.from m.to m.scn m.kind
   begins_so (inputs.GiveUp n) = None_begins
   begins_so inputs.Reco = None_begins
+  begins_so inputs.Checkpoint = None_begins
 
 -- what is known of the branches that begin is news to the turn's step
 module _ (B : Born → Type 0) (p : Place) (k : NodeState) where
-  root_news : (input : Input) (n : ℕ) (s : Stmt) → AllByRecursion B (births_by p k input) → IsCall input n s → IsOfRows s → (session_at (heard k input).sessions n).root ≡ None → B (root_born (new_root p (heard k input) n))
-  root_news input n s all call rows none = subst (λ i. AllByRecursion B (births_by p k i) → (session_at (heard k i).sessions n).root ≡ None → B (root_born (new_root p (heard k i) n))) (sym call) here all none
+  root_news : (input : Input) (n : ℕ) (s : Stmt) (read_at : Option ℕ) → AllByRecursion B (births_by p k input) → IsCall input n s → BeginsBy (heard k input).clock s read_at
+      → (session_at (heard k input).sessions n).root ≡ None → B (root_born (new_root p (heard k input) n) (strength_of p (heard k input)) read_at)
+  root_news input n s read_at all call begins none =
+      subst (λ i. AllByRecursion B (births_by p k i) → BeginsBy (heard k i).clock s read_at → (session_at (heard k i).sessions n).root ≡ None
+      → B (root_born (new_root p (heard k i) n) (strength_of p (heard k i)) read_at)) (sym call) here all begins none
     where
-      here : AllByRecursion B (births_by_call p k n s) → (session_at k.sessions n).root ≡ None → B (root_born (new_root p k n))
-      here begun no_root =
-          let roots : AllByRecursion B (roots_by p k n (session_at k.sessions n).root) = subst (λ q. AllByRecursion B (if q then roots_by p k n (session_at k.sessions n).root else [])) (rows_are s rows) begun in
-          let one : AllByRecursion B (roots_by p k n None) = subst (λ o. AllByRecursion B (roots_by p k n o)) no_root roots in
-          one.0
+      here : AllByRecursion B (births_by_call p k n s) → BeginsBy k.clock s read_at → (session_at k.sessions n).root ≡ None → B (root_born (new_root p k n) (strength_of p k) read_at)
+      here begun by_it no_root =
+          let roots : AllByRecursion B (roots_by p k n (read_at_by k.clock s) (session_at k.sessions n).root)
+          = subst (λ q. AllByRecursion B (if q then roots_by p k n (read_at_by k.clock s) (session_at k.sessions n).root else [])) (begins_are by_it) begun in
+          let one : AllByRecursion B (roots_by p k n (read_at_by k.clock s) None) = subst (λ o. AllByRecursion B (roots_by p k n (read_at_by k.clock s) o)) no_root roots in
+          subst (λ r. B (root_born (new_root p k n) (strength_of p k) r)) (sym (begins_at by_it)) one.0
 
-  child_news : (input : Input) (to parent : BranchId) (edge : ℕ) (root : BranchId) (depth : ℕ) → AllByRecursion B (births_by p k input) → Came input parent to (kinds.Open edge root depth)
-      → find (is_opening parent edge) (heard k input).opens ≡ None → B (child_born (next_child p (heard k input)) parent edge root depth)
-  child_news input to parent edge root depth all came none =
-      subst (λ i. AllByRecursion B (births_by p k i) → find (is_opening parent edge) (heard k i).opens ≡ None → B (child_born (next_child p (heard k i)) parent edge root depth)) (sym came.is) here all none
+  child_news : (input : Input) (to parent : BranchId) (edge : ℕ) (root : BranchId) (depth : ℕ) (read_at : Option ℕ) → AllByRecursion B (births_by p k input)
+      → Came input parent to (kinds.Open edge root depth read_at) → find (is_opening parent edge) (heard k input).opens ≡ None
+      → B (child_born (next_child p (heard k input)) parent edge root depth (strength_of p (heard k input)) read_at)
+  child_news input to parent edge root depth read_at all came none =
+      subst (λ i. AllByRecursion B (births_by p k i) → find (is_opening parent edge) (heard k i).opens ≡ None
+      → B (child_born (next_child p (heard k i)) parent edge root depth (strength_of p (heard k i)) read_at)) (sym came.is) here all none
     where
-      here : AllByRecursion B (births_by_open p k parent edge root depth (find (is_opening parent edge) k.opens)) → find (is_opening parent edge) k.opens ≡ None → B (child_born (next_child p k) parent edge root depth)
-      here begun new = let one : AllByRecursion B (births_by_open p k parent edge root depth None) = subst (λ o. AllByRecursion B (births_by_open p k parent edge root depth o)) new begun in one.0
+      here : AllByRecursion B (births_by_open p k parent edge root depth read_at (find (is_opening parent edge) k.opens)) → find (is_opening parent edge) k.opens ≡ None
+          → B (child_born (next_child p k) parent edge root depth (strength_of p k) read_at)
+      here begun new =
+          let one : AllByRecursion B (births_by_open p k parent edge root depth read_at None) = subst (λ o. AllByRecursion B (births_by_open p k parent edge root depth read_at o)) new begun in one.0
 
   pub news_of : (input : Input) → AllByRecursion B (births_by p k input) → News B p input (heard k input)
   news_of input all = record {
-    root = λ n s call rows none. root_news input n s all call rows none;
-    child = λ to parent edge root depth came none. child_news input to parent edge root depth all came none;
+    root = λ n s read_at call begins none. root_news input n s read_at all call begins none;
+    child = λ to parent edge root depth read_at came none. child_news input to parent edge root depth read_at all came none;
   }
 
 -- ---- lists of live branches
@@ -143,7 +141,13 @@ module _ (p : Place) (n : ℕ) (s : Stmt) (b : BranchId) where
   statement_bears : (k : NodeState) (code : Option ℕ) (o : Option Branch) → is_among b (map live_id k.lives) ≡ true → Bears (statement_by p k n s code o) b
   statement_bears k code None is = record { unwritten = refl; living = is }
   statement_bears k (Some c) (Some x) is = record { unwritten = refl; living = is }
-  statement_bears k None (Some x) is = way_bears k x (way_of p k.stored.durable x.live 0 s) is
+  statement_bears k None (Some x) is =
+      cond_both (is_some x.live.read_at && is_write s) _ _ (λ d. Bears d b) (λ write. record { unwritten = refl; living = is }) (λ may. way_bears k x (way_of p k.stored.durable x.live 0 s) is)
+
+savepoint_bears : (k : NodeState) (n : ℕ) (name : List ℕ) (b : BranchId) (code : Option ℕ) (o : Option Branch) → is_among b (map live_id k.lives) ≡ true → Bears (savepoint_by k n name code o) b
+savepoint_bears k n name b code None is = record { unwritten = refl; living = is }
+savepoint_bears k n name b (Some c) (Some x) is = record { unwritten = refl; living = is }
+savepoint_bears k n name b None (Some x) is = record { unwritten = refl; living = put_among b k.lives x.live is }
 
 -- a statement that has a table
 rows_turn : (p : Place) (k : NodeState) (n : ℕ) (s : Stmt) → IsOfRows s → statement_call p (begun p k n) n s ≡ call_turn p k n s
@@ -153,22 +157,35 @@ rows_turn p k n (stmts.Delete table cs) is = refl
 rows_turn p k n (stmts.Select list table cs for_update) is = refl
 rows_turn p k n _ is = absurd is
 
-root_bears : (p : Place) (k : NodeState) (n : ℕ) (s : Stmt) → IsOfRows s → (session_at k.sessions n).root ≡ None → Bears (call_turn p k n s) (new_root p k n)
-root_bears p k n s rows none =
-    let there : is_among (new_root p k n) (map live_id (begun_by p k n None).lives) ≡ true = among_last k.lives (fresh_root p k (new_root p k n)) in
-    let new : Bears (statement_call p (begun_by p k n None) n s) (new_root p k n) = statement_bears p n s (new_root p k n) (begun_by p k n None) _ (root_at (begun_by p k n None) n) there in
-    subst (λ d. Bears d (new_root p k n)) (rows_turn p k n s rows) (subst (λ o. Bears (statement_call p (begun_by p k n o) n s) (new_root p k n)) (sym none) new)
+-- a session that has no transaction begins one, and its call is counted
+abbrev begun_there : Place → NodeState → ℕ → Option BranchId → NodeState
+begun_there p k n o = counted (begun_by p k n None o) n
 
-child_bears : (p : Place) (k : NodeState) (parent : BranchId) (edge : ℕ) (root : BranchId) (depth : ℕ) → find (is_opening parent edge) k.opens ≡ None
-    → Bears (open_by p k parent edge root depth (find (is_opening parent edge) k.opens)) (next_child p k)
-child_bears p k parent edge root depth none = subst (λ o. Bears (open_by p k parent edge root depth o) (next_child p k)) (sym none) (record { unwritten = refl; living = among_last k.lives _ })
+root_bears : (p : Place) (k : NodeState) (n : ℕ) {s : Stmt} {read_at : Option ℕ} → BeginsBy k.clock s read_at → (session_at k.sessions n).root ≡ None → Bears (call_turn p k n s) (new_root p k n)
+root_bears p k n (By_rows s rows) none =
+    let there : is_among (new_root p k n) (map live_id (begun_there p k n None).lives) ≡ true = among_last k.lives (fresh_root p k (new_root p k n) None) in
+    let new : Bears (statement_call p (begun_there p k n None) n s) (new_root p k n) = statement_bears p n s (new_root p k n) (begun_there p k n None) _ (root_at (begun_there p k n None) n) there in
+    subst (λ d. Bears d (new_root p k n)) (rows_turn p k n s rows) (subst (λ o. Bears (statement_call p (begun_there p k n o) n s) (new_root p k n)) (sym none) new)
+root_bears p k n (By_savepoint name) none =
+    let there : is_among (new_root p k n) (map live_id (begun_there p k n None).lives) ≡ true = among_last k.lives (fresh_root p k (new_root p k n) None) in
+    subst (λ o. Bears (savepoint_call (begun_there p k n o) n name) (new_root p k n)) (sym none) (savepoint_bears (begun_there p k n None) n name (new_root p k n) _ (root_at (begun_there p k n None) n) there)
+root_bears p k n By_read_only none =
+    subst (λ o. Bears (read_only_by p k n o) (new_root p k n)) (sym none) (record { unwritten = refl; living = among_last k.lives (fresh_root p k (new_root p k n) (Some k.clock)) })
+
+child_bears : (p : Place) (k : NodeState) (parent : BranchId) (edge : ℕ) (root : BranchId) (depth : ℕ) (read_at : Option ℕ) → find (is_opening parent edge) k.opens ≡ None
+    → Bears (open_by p k parent edge root depth read_at (find (is_opening parent edge) k.opens)) (next_child p k)
+child_bears p k parent edge root depth read_at none =
+    subst (λ o. Bears (open_by p k parent edge root depth read_at o) (next_child p k)) (sym none) (record { unwritten = refl; living = among_last k.lives _ })
 
 -- each branch that begins is live after the turn, which writes nothing
 pub birth_bears : (p : Place) (k : NodeState) (input : Input) {xs : List Born} → Begins p k input xs → AllByRecursion (λ x. Bears (draft_of p k input) x.me) xs
 birth_bears p k input None_begins = tt
-birth_bears p k input (Root_begins n s call rows none) = (subst (λ i. Bears (draft_of p k i) (new_root p k n)) (sym call) (root_bears p k n s rows none), tt)
-birth_bears p k input (Child_begins to parent edge root depth came none) =
-    (subst (λ i. Bears (draft_of p k i) (next_child p k)) (sym came.is) (child_bears p (heard k (inputs.Message (record { from = parent; to = to; scn = came.scn; kind = kinds.Open edge root depth }))) parent edge root depth none), tt)
+birth_bears p k input (Root_begins n s read_at call begins none) = (subst (λ i. Bears (draft_of p k i) (new_root p k n)) (sym call) (root_bears p k n begins none), tt)
+birth_bears p k input (Child_begins to parent edge root depth read_at came none) = (
+  subst (λ i. Bears (draft_of p k i) (next_child p k)) (sym came.is)
+      (child_bears p (heard k (inputs.Message (record { from = parent; to = to; scn = came.scn; kind = kinds.Open edge root depth read_at }))) parent edge root depth read_at none),
+  tt,
+)
 
 -- ---- lists of those that began
 

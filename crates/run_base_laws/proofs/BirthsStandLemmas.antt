@@ -65,6 +65,7 @@ module _ (P : BranchId → BranchId → Kind → Type 0) (f : Facts) (said : All
   came_so k node (inputs.Call session statement) took comes from to kind came = absurd (cc (came.is))
   came_so k node (inputs.GiveUp session) took comes from to kind came = absurd (cc (came.is))
   came_so k node inputs.Reco took comes from to kind came = absurd (cc (came.is))
+  came_so k node inputs.Checkpoint took comes from to kind came = absurd (cc (came.is))
 
 -- a node that hears names the same
 heard_names : (B : Born → Type 0) (k : NodeState) (input : Input) → NamesAre B k → NamesAre B (heard k input)
@@ -106,28 +107,28 @@ module _ (places : List Place) (asked : List Command) (each : (n : ℕ) (p : Pla
 
     unborn_all : {ys : List Born} → Begins p k u.input ys → AllByRecursion (λ y. born_at bs y.me ≡ None) ys
     unborn_all None_begins = tt
-    unborn_all (Root_begins m s call rows none) =
+    unborn_all (Root_begins m s read_at call begins none) =
         (unborn (new_root p k m) number (unused_root t n (boots rs) now.untaught p k m started (let session : IsFit (inputs.Call m (Some s)) = subst IsFit call fit in session.1)), tt)
-    unborn_all (Child_begins to parent edge root depth came none) = (unborn (next_child p k) number (unused_child t n (boots rs) now.untaught p k started), tt)
+    unborn_all (Child_begins to parent edge root depth read_at came none) = (unborn (next_child p k) number (unused_child t n (boots rs) now.untaught p k started), tt)
 
     -- they begin, and once
     begun_all : {ys : List Born} → Begins p k u.input ys → AllByRecursion (λ y. born_at bs y.me ≡ None) ys → AllByRecursion (Began (bs ++ ys)) ys
     begun_all None_begins new = tt
-    begun_all (Root_begins m s call rows none) new = (began_last bs _ new.0, tt)
-    begun_all (Child_begins to parent edge root depth came none) new = (began_last bs _ new.0, tt)
+    begun_all (Root_begins m s read_at call begins none) new = (began_last bs _ new.0, tt)
+    begun_all (Child_begins to parent edge root depth read_at came none) new = (began_last bs _ new.0, tt)
 
     once_all : {ys : List Born} → Begins p k u.input ys → AllByRecursion (λ y. born_at bs y.me ≡ None) ys → (b : BranchId) → count_of born_id b (bs ++ ys) ≤ 1
     once_all None_begins new b = subst (λ (zs : List Born). count_of born_id b zs ≤ 1) (sym (append-nil bs)) (born.once b)
-    once_all (Root_begins m s call rows none) new b = counted_last bs _ new.0 born.once b
-    once_all (Child_begins to parent edge root depth came none) new b = counted_last bs _ new.0 born.once b
+    once_all (Root_begins m s read_at call begins none) new b = counted_last bs _ new.0 born.once b
+    once_all (Child_begins to parent edge root depth read_at came none) new b = counted_last bs _ new.0 born.once b
 
     came : (from to : BranchId) (kind : Kind) → Came u.input from to kind → GoesSo (Began bs) from to kind
     came from to kind is = came_so (GoesSo (Began bs)) f born.said k u.node u.input u.took may.comes from to kind is
 
     new_trees : {ys : List Born} → Begins p k u.input ys → AllByRecursion (λ x. StandsBelow (Began bs) x x.parent) ys
     new_trees None_begins = tt
-    new_trees (Root_begins m s call rows none) = ((refl, refl), tt)
-    new_trees (Child_begins to parent edge root depth is none) = (came parent to (kinds.Open edge root depth) is, tt)
+    new_trees (Root_begins m s read_at call begins none) = ((refl, refl), tt)
+    new_trees (Child_begins to parent edge root depth read_at is none) = (came parent to (kinds.Open edge root depth read_at) is, tt)
 
     abbrev ys : List Born
     ys = bs ++ xs
@@ -163,8 +164,8 @@ module _ (places : List Place) (asked : List Command) (each : (n : ℕ) (p : Pla
 
     old_record : {zs : List Born} → Begins p k u.input zs → AllByRecursion (λ x. Bears d x.me) zs → IfSome d.wrote (RecordNames (Began (bs ++ zs))) → IfSome d.wrote (RecordNames (Began bs))
     old_record None_begins all is = narrow_record d.wrote is
-    old_record (Root_begins m s call rows none) all is = unwritten d.wrote all.0.unwritten
-    old_record (Child_begins to parent edge root depth by none) all is = unwritten d.wrote all.0.unwritten
+    old_record (Root_begins m s read_at call begins none) all is = unwritten d.wrote all.0.unwritten
+    old_record (Child_begins to parent edge root depth read_at by none) all is = unwritten d.wrote all.0.unwritten
 
     recorded : (C : Born → Type 0) (rs : List RedoRecord) (w : Option RedoRecord) → AllByRecursion (RecordNames C) rs → IfSome w (RecordNames C) → AllByRecursion (RecordNames C) (rs ++ option_to_list w)
     recorded C rs None all is = all_append (RecordNames C) rs [] all tt
@@ -198,12 +199,12 @@ module _ (places : List Place) (asked : List Command) (each : (n : ℕ) (p : Pla
     new_there : node_at g n ≡ Some d.after → {zs : List Born} → Begins p k u.input zs → AllByRecursion (λ x. Bears d x.me) zs → (b : BranchId) → born_at (bs ++ zs) b ≢ None
         → (exit r b ≢ None) ⊎ (is_among b (lives_at (node_at g b.node)) ≡ true)
     new_there up None_begins all b some = old_there b (λ none. some (subst (λ (zs : List Born). born_at zs b ≡ None) (sym (append-nil bs)) none))
-    new_there up (Root_begins m s call rows none) all b some = elim (found_last bs _ b some) [
+    new_there up (Root_begins m s read_at call begins none) all b some = elim (found_last bs _ b some) [
       | inl old ↦ old_there b old
       | inr is ↦ inr (subst (λ c. is_among c (lives_at (node_at g c.node)) ≡ true) is
           (subst (λ i. is_among (new_root p k m) (lives_at (node_at g i)) ≡ true) (sym number) (subst (λ o. is_among (new_root p k m) (lives_at o) ≡ true) (sym up) all.0.living)))
     ]
-    new_there up (Child_begins to parent edge root depth by none) all b some = elim (found_last bs _ b some) [
+    new_there up (Child_begins to parent edge root depth read_at by none) all b some = elim (found_last bs _ b some) [
       | inl old ↦ old_there b old
       | inr is ↦ inr (subst (λ c. is_among c (lives_at (node_at g c.node)) ≡ true) is
           (subst (λ i. is_among (next_child p k) (lives_at (node_at g i)) ≡ true) (sym number) (subst (λ o. is_among (next_child p k) (lives_at o) ≡ true) (sym up) all.0.living)))

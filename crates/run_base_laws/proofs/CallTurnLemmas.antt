@@ -2,7 +2,7 @@
 use Rattle.std.proofs.Common.{◌≡◌, ◌≢◌, ℕ, ◌+◌, ◌≤◌, ◌&&◌, ◌⊎◌, Bool, true, false, if◌then◌else◌, List, [], ◌∷◌, ◌++◌, length, max, unwrap_or, Option, Some, None, inl, inr, refl, sym, ap, subst, ◌∙◌, arith}
 use Rattle.tran_ids.proofs.BranchLemmas.{equal_from_same, same_from_equal}
 use Rattle.tran_ids.proofs.NumberedLemmas.{set_length, set_found, set_leaves}
-use Rattle.node_rules.specs.Data.{BranchId, Kind, Post}
+use Rattle.node_rules.specs.Data.{BranchId, Kind, Post, Marks}
 use Rattle.node_rules.specs.declared.work.Waits.TheVariants as waiting
 use Rattle.node_rules.specs.declared.work.Going.{Going}
 use Rattle.node_rules.specs.declared.work.Work.{Work}
@@ -102,6 +102,30 @@ pub record Free (E : BranchId → Option ℕ) (G : Type 0) (said : List Post) (m
   pub made : (i : ℕ) (c : BranchId) → numbered peers i ≡ Some c → newest_exec said me c ≡ call_at w i
   pub no_other : (c : BranchId) → ((i : ℕ) → numbered peers i ≢ Some c) → newest_exec said me c ≡ 0
   pub heard : G → (i : ℕ) (c : BranchId) → numbered peers i ≡ Some c → call_at w i ≤ newest_reply said c
+
+-- notes and savepoints are no part of it
+pub marked_free : (E : BranchId → Option ℕ) (G : Type 0) (said : List Post) (me : BranchId) (parent : Option BranchId) (peers : List BranchId) (w : Work) (m : Marks) → Free E G said me parent peers w
+    → Free E G said me parent peers (record w { marks = m })
+marked_free E G said me parent peers w m is = record {
+  kids = is.kids;
+  taken = is.taken;
+  told = is.told;
+  owes = is.owes;
+  unanswered = is.unanswered;
+  numbers = is.numbers;
+  made = is.made;
+  no_other = is.no_other;
+  heard = is.heard;
+}
+
+pub marked_in_turn : (G : Type 0) (said : List Post) (me : BranchId) (parent : Option BranchId) (peers : List BranchId) (w : Work) (m : Marks) → InTurn G said me parent peers w
+    → InTurn G said me parent peers (record w { marks = m })
+marked_in_turn G said me parent peers w m is = record {
+  takes = record { taken = is.takes.taken; told = is.takes.told; rests = is.takes.rests };
+  makes = record { numbers = is.makes.numbers; made = is.makes.made; no_other = is.makes.no_other; heard = is.makes.heard };
+  answered = is.answered;
+  alone = is.alone;
+}
 
 module _ (G : Type 0) (said says : List Post) (me : BranchId) (parent : Option BranchId) (peers : List BranchId) where
   -- the messages of others leave a branch so
@@ -209,13 +233,13 @@ in_turn_goes G H said me parent peers w goes is = record {
 -- ---- a call to a child
 
 -- the work of a branch that calls over an edge
-abbrev pub calls_on : Work → ℕ → Going → Work
-calls_on w i g = record w { calls = set_numbered w.calls i (call_at w i + 1); going = Some g }
+abbrev pub calls_on : Work → ℕ → Going → Marks → Work
+calls_on w i g m = record w { calls = set_numbered w.calls i (call_at w i + 1); going = Some g; marks = m }
 
 module _ (E : BranchId → Option ℕ) (G : Type 0) (said : List Post) (me : BranchId) (parent : Option BranchId) (peers : List BranchId) (w : Work) (is : Free E G said me parent peers w)
-    (i : ℕ) (g : Going) (waits : g.waits ≡ waiting.ForReply i) where
+    (i : ℕ) (g : Going) (waits : g.waits ≡ waiting.ForReply i) (m : Marks) where
   abbrev v : Work
-  v = calls_on w i g
+  v = calls_on w i g m
 
   -- the number of the edge is one more, the others are as before
   one_more : (c : BranchId) → numbered peers i ≡ Some c → call_at v i ≡ call_at w i + 1

@@ -29,15 +29,17 @@ module _ (p : Place) (input : Input) (clock : ℕ) where
 
   -- each step leaves it so
   pub since : {k : NodeState} {d : TurnDraft} → Step p input k d → clock ≤ k.clock → Since d
-  since (steps.Begins n s call rows fit none step) now = since step now
-  since (steps.Pends n l given call has live code step) now = since step now
+  since (steps.Begins n s read_at call begins fit none step) now = since step now
+  since (steps.Counts_call n s call counts step) now = since step now
+  since (steps.Goes_back x step goes next) now = since next now
+  since (steps.Pends n l given call has live code writer step) now = since step now
   since (steps.Lets_reads_go l comment site_below live begins step) now = since step now
   since (steps.Counts_ack s from kept came counts step) now = since step now
   since (steps.Acts l site_below acts.Seal why) now = (now, now)
   since (steps.Acts l site_below (acts.SealAndPass i) why) now = (now, now)
   since (steps.Acts l site_below acts.Decide why) now = (omega (arith, now), omega (arith, now))
   since (steps.Does s from nexts.Rest kept why) now = (now, tt)
-  since (steps.Makes_record n s r d call makes) now = (now, made_so (IsLater clock) (λ t. tt) (λ l. tt) (λ y. tt) (λ on. tt) makes)
+  since (steps.Makes_record n s r d call makes) now = (now, made_so (IsLater clock) (λ t. tt) (λ l. tt) (λ y. tt) (λ setting. tt) makes)
   since (steps.Forces_commit n id b call is) now = (omega (arith, now), tt)
   since (steps.Gives_up_commit n b None gives has pending is) now = (now, tt)
   since _ now = (now, tt)
@@ -72,8 +74,10 @@ met_covers scn clock decisions.Rollback met now = now
 
 covers_on : (p : Place) (input : Input) {k : NodeState} {d : TurnDraft} → Step p input k d → Covers k → Covers d.after
 unfolding applied
-covers_on p input (steps.Begins n s call rows fit none step) now = covers_on p input step now
-covers_on p input (steps.Pends n l given call has live code step) now = covers_on p input step now
+covers_on p input (steps.Begins n s read_at call begins fit none step) now = covers_on p input step now
+covers_on p input (steps.Counts_call n s call counts step) now = covers_on p input step now
+covers_on p input (steps.Goes_back x step goes next) now = covers_on p input next now
+covers_on p input (steps.Pends n l given call has live code writer step) now = covers_on p input step now
 covers_on p input (steps.Lets_reads_go l comment site_below live begins step) now = covers_on p input step now
 covers_on p input (steps.Counts_ack s from kept came counts step) now = covers_on p input step now
 covers_on p input (steps.Acts l site_below acts.Seal why) now = omega (arith, now)
@@ -81,14 +85,15 @@ covers_on p input (steps.Acts l site_below (acts.SealAndPass i) why) now = omega
 covers_on p input (steps.Acts l site_below acts.Decide why) now = omega (arith, now)
 covers_on p input (steps.Does {k = k} s from _ kept (steps.Ends_so d brings toward new sealed met)) now = met_covers k.stored.scn k.clock d met now
 covers_on p input (steps.Does {k = k} s from _ kept (steps.Meets_so d brings toward new unsealed uncommitted met)) now = met_covers k.stored.scn k.clock d met now
-covers_on p input (steps.Makes_record {k = k} n s r d call makes) now = made_so (λ x. (applied k.stored x).scn ≤ k.clock) (λ t. now) (λ l. now) (λ y. now) (λ on. now) makes
+covers_on p input (steps.Makes_record {k = k} n s r d call makes) now = made_so (λ x. (applied k.stored x).scn ≤ k.clock) (λ t. now) (λ l. now) (λ y. now) (λ setting. now) makes
 covers_on p input (steps.Forces_commit n id b call is) now = omega (arith, now)
 covers_on p input (steps.Gives_up_commit n b None gives has pending is) now = now
+covers_on p input (steps.Images is) now = omega (arith, now)
 covers_on p input _ now = now
 
 pub covers : KeepsAlone Covers
 covers = record {
-  starts = λ s. omega arith;
+  starts = λ s vs. omega arith;
   hears = λ k scn now. omega (arith, now);
   steps = λ p input k d step now. covers_on p input step now;
 }

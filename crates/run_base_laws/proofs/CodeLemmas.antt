@@ -1,5 +1,5 @@
 -- A transaction that needs a rollback needs it until it ends: no step of a node takes the code from its session before.
-use Rattle.std.proofs.Common.{◌≡◌, ℕ, ◌&&◌, Bool, true, false, if◌then◌else◌, List, [], is_none, Option, Some, None, inl, inr, refl, sym, ap, subst, ◌∙◌}
+use Rattle.std.proofs.Common.{◌≡◌, ℕ, ◌&&◌, Bool, true, false, if◌then◌else◌, List, [], is_none, Option, Some, None, inl, inr, refl, sym, ap, subst, ◌∙◌, ◌+◌}
 use Rattle.std.proofs.lemmas.Bool.{cond_both}
 use Rattle.commit_forget.specs.declared.next.Next.TheVariants as nexts
 use Rattle.node_rules.specs.Data.{Answer, BranchId, Decision, Live, Place, Input}
@@ -13,12 +13,13 @@ use Rattle.node_rules.specs.Refusals.{dtx}
 use Rattle.session_tree.specs.Live.{new_edge}
 use Rattle.node_rules.specs.NodeState.{NodeState, TurnDraft}
 use Rattle.node_rules.specs.Statement.{ran, after_run}
-use Rattle.node_rules.specs.Sessions.{session_at, with_call, needs_rollback, no_transaction, commit_is_pending, commit_ended}
+use Rattle.node_rules.specs.Sessions.{session_at, with_call, needs_rollback, no_transaction, commit_is_pending, commit_ended, with_call_of}
 use Rattle.node_rules.specs.Calls.{call_pends, answered_sessions, heard_sessions, is_gone, with_edge, hears_reply}
 use Rattle.node_rules.specs.Prepare.{abandoned_sessions, is_alone}
 use Rattle.node_rules.specs.Commit.{decided_sessions}
 use Rattle.node_rules.proofs.Steps as steps
 use Rattle.node_rules.proofs.Steps.{Step}
+use Rattle.node_rules.specs.Client.{counted}
 use Rattle.run_base_laws.proofs.RootLemmas.{session_or_before}
 
 -- a session with the same transaction, which needs a rollback where it did
@@ -55,6 +56,10 @@ module _ (ss : List Session) where
 
   call_same : (n : ℕ) (c : PendingCall) → AllSame ss (with_call ss n c)
   call_same n c = set_same n (record (session_at ss n) { call = c }) (refl, (λ none. none))
+
+  counted_same : (n : ℕ) (o : Option BranchId) → AllSame ss (with_call_of ss n o)
+  counted_same n None = λ m. (refl, (λ none. none))
+  counted_same n (Some root) = set_same n (record (session_at ss n) { calls = (session_at ss n).calls + 1 }) (refl, (λ none. none))
 
   needs_same : (n code : ℕ) → AllSame ss (needs_rollback ss n code)
   needs_same n code = set_same n (record (session_at ss n) { code = Some code }) (refl, (λ none. absurd cc))
@@ -100,8 +105,11 @@ module _ (ss : List Session) where
 
 -- each step
 pub codes_on : (p : Place) (input : Input) {k : NodeState} {d : TurnDraft} → Step p input k d → AllNeed k.sessions d.after.sessions
-codes_on p input (steps.Begins {k = k} {d = d} n s call rows fit none step) = begun_needs k.sessions n _ d.after.sessions none (codes_on p input step)
-codes_on p input (steps.Pends {k = k} {d = d} n l given call has live code step) = then_need k.sessions (with_call k.sessions n pending.Commit) d.after.sessions (call_same k.sessions n pending.Commit) (codes_on p input step)
+codes_on p input (steps.Begins {k = k} {d = d} n s read_at call begins fit none step) = begun_needs k.sessions n _ d.after.sessions none (codes_on p input step)
+codes_on p input (steps.Counts_call {k = k} {d = d} n s call counts step) =
+    then_need k.sessions (counted k n).sessions d.after.sessions (counted_same k.sessions n (session_at k.sessions n).root) (codes_on p input step)
+codes_on p input (steps.Goes_back x step goes next) = codes_on p input next
+codes_on p input (steps.Pends {k = k} {d = d} n l given call has live code writer step) = then_need k.sessions (with_call k.sessions n pending.Commit) d.after.sessions (call_same k.sessions n pending.Commit) (codes_on p input step)
 codes_on p input (steps.Lets_reads_go l comment site_below live begins step) = codes_on p input step
 codes_on p input (steps.Counts_ack s from kept came counts step) = codes_on p input step
 codes_on p input (steps.Runs {k = k} x s given t asked way) = let l : Live = after_run x.live (ran p k x.live.me s t) in same_need k.sessions _ (answered_same k.sessions l x.live.parent)
@@ -113,6 +121,8 @@ codes_on p input (steps.Hears_reply {k = k} x weight count a i e answered) =
     let l : Live = (hears_reply x i weight count e).live in
     let zs : List Session = heard_sessions k.sessions l a in
     then_need k.sessions zs _ (heard_same k.sessions l a) (same_need zs _ (answered_same zs l x.live.parent))
+codes_on p input (steps.Backs {k = k} x step from i calls next) = same_need k.sessions _ (pends_same k.sessions x.live)
+codes_on p input (steps.Is_back {k = k} x step from calls none) = same_need k.sessions _ (answered_same k.sessions x.live x.live.parent)
 codes_on p input (steps.Acts {k = k} l site_below acts.Rest why) = no_change k.sessions
 codes_on p input (steps.Acts {k = k} l site_below acts.AskDown why) = no_change k.sessions
 codes_on p input (steps.Acts {k = k} l site_below acts.SayReady why) = no_change k.sessions
@@ -133,7 +143,7 @@ codes_on p input (steps.Forces_given {k = k} n id m b call named) = ended_needs 
 codes_on p input (steps.Forces_commit {k = k} n id b call named) = ended_needs k.sessions b
 codes_on p input (steps.Forces_rollback {k = k} n id b call named) = ended_needs k.sessions b
 codes_on p input (steps.Advises {k = k} n a call) = same_need k.sessions _ (set_same k.sessions n (record (session_at k.sessions n) { advice = a }) (refl, (λ none. none)))
-codes_on p input (steps.Rolls_back {k = k} n x call has live) = done_needs k.sessions n
+codes_on p input (steps.Leaves {k = k} n s d x call ends has live) = done_needs k.sessions n
 codes_on p input (steps.Gives_up {k = k} n x gives has calls live) =
     let zs : List Session = with_call k.sessions n pending.NoCall in then_need k.sessions zs _ (call_same k.sessions n pending.NoCall) (same_need zs _ (needs_same zs n _))
 codes_on p input (steps.Gives_up_commit {k = k} n b (Some l) gives has calls live) = ended_needs k.sessions l.me

@@ -1,11 +1,10 @@
 -- No branch id is given out twice: a branch has one row at a node or is live there once, and not both.
-use Rattle.std.proofs.Common.{◌≡◌, ℕ, ◌+◌, ◌≤◌, not, true, false, if◌then◌else◌, List, [], ◌∷◌, ◌++◌, length, Some, None, refl, sym, ap, subst, ◌∙◌, arith}
+use Rattle.std.proofs.Common.{◌≡◌, ℕ, ◌+◌, ◌≤◌, not, true, false, if◌then◌else◌, List, [], ◌∷◌, ◌++◌, length, Some, None, refl, sym, ap, subst, ◌∙◌, arith, Option}
 use Rattle.std.specs.Prelude.{IfSome}
 use Rattle.std.specs.Option.{option_to_list}
 use Rattle.std.proofs.lemmas.List.{length-append}
 use Rattle.tran_ids.proofs.NumberedLemmas.{set_length}
 use Rattle.node_rules.specs.Data.{BranchId, RedoRecord, Live, Place, Input}
-use Rattle.node_rules.specs.Data.params
 use Rattle.node_rules.specs.Data.decisions
 use Rattle.node_rules.specs.Data.records
 use Rattle.node_rules.specs.Data.acts
@@ -22,7 +21,7 @@ use Rattle.session_tree.specs.Live.{new_edge}
 use Rattle.node_rules.specs.Calls.{next_child, with_edge, hears_reply, heard_sessions, opens_branch}
 use Rattle.node_rules.specs.Prepare.{is_alone, sealed_record, decided_record, ready}
 use Rattle.node_rules.specs.Commit.{acked_by}
-use Rattle.node_rules.specs.Client.{new_root, begun_by}
+use Rattle.node_rules.specs.Client.{new_root, begun_by, counted}
 use Rattle.node_rules.specs.Turn.{start_of}
 use Rattle.node_rules.proofs.Steps as steps
 use Rattle.node_rules.proofs.Steps.{Step}
@@ -30,8 +29,9 @@ use Rattle.node_rules.proofs.StandLemmas.{live_so}
 use Rattle.run_rules.specs.Lawful.{boots}
 use Rattle.run_base_laws.specs.NodeLaws.{IdsAreFresh}
 use Rattle.run_base_laws.proofs.CountingLemmas.{count_put, count_filter, count_moved}
-use Rattle.node_rules.proofs.StepLemmas.{IsLive, asked_live, acting_live, made_so}
-use Rattle.node_rules.proofs.SessionLemmas.{seqs, seq_at, session_seq, set_seqs, still_seqs, call_seqs, needs_seqs, ended_seqs, pends_seqs, answered_seqs, heard_seqs, decided_seqs, abandoned_seqs, ended_if_seqs}
+use Rattle.node_rules.proofs.StepLemmas.{IsLive, asked_live, acting_live, made_so, calling_back_live}
+use Rattle.node_rules.proofs.SessionLemmas.{seqs, seq_at, session_seq, set_seqs, still_seqs, call_seqs, needs_seqs, ended_seqs, pends_seqs, answered_seqs, heard_seqs, decided_seqs, abandoned_seqs, ended_if_seqs, counted_seqs}
+use Rattle.node_rules.specs.Images.{image_at}
 use Rattle.run_base_laws.proofs.CountLemmas.{rows_of, makes_row, rows_applied, rows_unacked}
 use Rattle.run_rules.proofs.BootLemmas.{IsOfTurn, step_of_turn, boots_started, boots_with}
 use Rattle.run_base_laws.proofs.StoredBootLemmas.{booted, BootIs, boot_with}
@@ -70,12 +70,12 @@ module _ (boot : ℕ) where
   -- ---- new ids
 
   -- the root of a session, of the next number
-  begun_ids : (p : Place) (k : NodeState) (n : ℕ) → k.stored.durable.boot ≡ boot → IsSession n → IdsAt k → IdsAt (begun_by p k n None)
-  begun_ids p k n is fit ids =
+  begun_ids : (p : Place) (k : NodeState) (n : ℕ) (read_at : Option ℕ) → k.stored.durable.boot ≡ boot → IsSession n → IdsAt k → IdsAt (begun_by p k n read_at None)
+  begun_ids p k n read_at is fit ids =
       let root : BranchId = new_root p k n in
       let set : seqs (with_root k.sessions n root) ≡ set_numbered (seqs k.sessions) n root.seq = set_seqs k.sessions n _ in
       let was : (session_at k.sessions n).seq ≡ seq_at (seqs k.sessions) n = session_seq k.sessions n in
-      subst (λ ms. Ids boot ms (length k.opens) k.stored.durable.kept (begun_by p k n None).lives) (sym set)
+      subst (λ ms. Ids boot ms (length k.opens) k.stored.durable.kept (begun_by p k n read_at None).lives) (sym set)
       (grown boot (seqs k.sessions) (length k.opens) k.stored.durable.kept k.lives ids (set_numbered (seqs k.sessions) n root.seq) (length k.opens) _
       (set_length (seqs k.sessions) n root.seq ∙ ids.many) (seqs_rise (seqs k.sessions) n root.seq (omega (arith, was))) (omega arith) unused
       (In_session is fit.1 (let now : seq_at (set_numbered (seqs k.sessions) n root.seq) n ≡ root.seq = seq_set (seqs k.sessions) n root.seq fit ids.many in omega (arith, now))))
@@ -86,10 +86,11 @@ module _ (boot : ℕ) where
       unused (Over_link now high given) = omega (arith, high, fit.1)
 
   -- a branch that is opened over a link, of the next session above 64
-  opened_ids : (p : Place) (k : NodeState) (parent : BranchId) (edge : ℕ) (root : BranchId) (depth : ℕ) → k.stored.durable.boot ≡ boot → IdsAt k → IdsAt (opens_branch p k parent edge root depth)
-  opened_ids p k parent edge root depth is ids =
-      let more : length (opens_branch p k parent edge root depth).opens ≡ length k.opens + 1 = length-append k.opens _ in
-      grown boot (seqs k.sessions) (length k.opens) k.stored.durable.kept k.lives ids (seqs k.sessions) (length (opens_branch p k parent edge root depth).opens) _
+  opened_ids : (p : Place) (k : NodeState) (parent : BranchId) (edge : ℕ) (root : BranchId) (depth : ℕ) (read_at : Option ℕ) → k.stored.durable.boot ≡ boot → IdsAt k
+      → IdsAt (opens_branch p k parent edge root depth read_at)
+  opened_ids p k parent edge root depth read_at is ids =
+      let more : length (opens_branch p k parent edge root depth read_at).opens ≡ length k.opens + 1 = length-append k.opens _ in
+      grown boot (seqs k.sessions) (length k.opens) k.stored.durable.kept k.lives ids (seqs k.sessions) (length (opens_branch p k parent edge root depth read_at).opens) _
       ids.many (λ n. omega arith) (omega (arith, more)) unused (Over_link is (omega arith) (omega (arith, more)))
     where
       unused : Given boot (seqs k.sessions) (length k.opens) (next_child p k) → ⊥
@@ -102,8 +103,10 @@ module _ (boot : ℕ) where
   module _ (p : Place) (input : Input) where
     -- each step leaves ids in use once
     ids_on : {k : NodeState} {d : TurnDraft} → Step p input k d → k.stored.durable.boot ≡ boot → IdsAt k → IdsAt d.after
-    ids_on (steps.Begins {k = k} n s call rows fit none step) is ids = ids_on step is (begun_ids p k n is fit ids)
-    ids_on (steps.Pends {k = k} n l given call has live code step) is ids = ids_on step is (still k ids (with_call k.sessions n pending.Commit) (call_seqs k.sessions n pending.Commit))
+    ids_on (steps.Begins {k = k} n s read_at call begins fit none step) is ids = ids_on step is (begun_ids p k n read_at is fit ids)
+    ids_on (steps.Counts_call {k = k} n s call counts step) is ids = ids_on step is (still k ids (counted k n).sessions (counted_seqs k.sessions n (session_at k.sessions n).root))
+    ids_on (steps.Goes_back x step goes next) is ids = ids_on next is ids
+    ids_on (steps.Pends {k = k} n l given call has live code writer step) is ids = ids_on step is (still k ids (with_call k.sessions n pending.Commit) (call_seqs k.sessions n pending.Commit))
     ids_on (steps.Lets_reads_go l comment site_below live begins step) is ids = ids_on step is ids
     ids_on (steps.Counts_ack {k = k} s from kept came counts step) is ids =
         ids_on step is (fewer boot (seqs k.sessions) (length k.opens) _ _ ids _ _ (λ b. omega (arith, count_put kept_row_id b k.stored.durable.kept (acked_by s from) s kept)))
@@ -120,7 +123,9 @@ module _ (boot : ℕ) where
         let l : Live = (hears_reply x i weight count e).live in
         let ss : List Session = heard_sessions k.sessions l a in
         changed k ids l _ (x.live, live_so k x.live.me x answered.live) (answered_seqs ss l x.live.parent ∙ heard_seqs k.sessions l a)
-    ids_on (steps.Opens_branch {k = k} to parent edge root depth came new) is ids = opened_ids p k parent edge root depth is ids
+    ids_on (steps.Backs {k = k} x step from i calls next) is ids = changed k ids x.live _ (calling_back_live calls) (pends_seqs k.sessions x.live)
+    ids_on (steps.Is_back {k = k} x step from calls none) is ids = changed k ids x.live _ (calling_back_live calls) (answered_seqs k.sessions x.live x.live.parent)
+    ids_on (steps.Opens_branch {k = k} to parent edge root depth read_at came new) is ids = opened_ids p k parent edge root depth read_at is ids
     ids_on (steps.Acts {k = k} l site_below acts.Rest why) is ids = changed k ids l k.sessions (acting_live why) refl
     ids_on (steps.Acts {k = k} l site_below acts.AskDown why) is ids = changed k ids l k.sessions (acting_live why) refl
     ids_on (steps.Acts {k = k} l site_below acts.SayReady why) is ids = changed k ids (ready l) k.sessions (acting_live why) refl
@@ -138,13 +143,15 @@ module _ (boot : ℕ) where
     ids_on (steps.Makes_record {k = k} n s r d call makes) is ids =
         made_so (λ x. Ids boot (seqs k.sessions) (length k.opens) (applied k.stored x).durable.kept k.lives)
         (λ t. recorded k ids (records.Table t) k.sessions (λ b. refl) refl) (λ l. recorded k ids (records.Link l) k.sessions (λ b. refl) refl)
-        (λ y. recorded k ids (records.Synonym y) k.sessions (λ b. refl) refl) (λ on. recorded k ids (records.Param (params.Recovery on)) k.sessions (λ b. refl) refl) makes
+        (λ y. recorded k ids (records.Synonym y) k.sessions (λ b. refl) refl) (λ setting. recorded k ids (records.Param setting) k.sessions (λ b. refl) refl) makes
     ids_on (steps.Forces_given {k = k} n id m b call named) is ids = recorded k ids (records.Forced b (decisions.Commit m) true) _ (λ c. refl) (ended_seqs k.sessions b)
     ids_on (steps.Forces_commit {k = k} n id b call named) is ids = recorded k ids (records.Forced b (decisions.Commit (k.clock + 1)) false) _ (λ c. refl) (ended_seqs k.sessions b)
     ids_on (steps.Forces_rollback {k = k} n id b call named) is ids = recorded k ids (records.Forced b decisions.Rollback false) _ (λ c. refl) (ended_seqs k.sessions b)
     ids_on (steps.Hides {k = k} n mixed id s call found) is ids = recorded k ids (records.Hidden s.me) k.sessions (λ b. refl) refl
     ids_on (steps.Advises {k = k} n a call) is ids = still k ids _ (still_seqs k.sessions n (record (session_at k.sessions n) { advice = a }) refl)
-    ids_on (steps.Rolls_back {k = k} n x call has live) is ids = dropped k ids x.live.me _ (still_seqs k.sessions n (no_transaction (session_at k.sessions n)) refl)
+    ids_on (steps.Leaves {k = k} n s d x call ends has live) is ids = dropped k ids x.live.me _ (still_seqs k.sessions n (no_transaction (session_at k.sessions n)) refl)
+    ids_on (steps.Sets_savepoint {k = k} n x name call has code live) is ids = changed k ids x.live k.sessions (x.live, live_so k x.live.me x live) refl
+    ids_on (steps.Images {k = k} is_checkpoint) is ids = recorded k ids (records.Image (image_at k.stored k.clock)) k.sessions (λ b. refl) refl
     ids_on (steps.Gives_up {k = k} n x gives has calls live) is ids =
         changed k ids x.live _ (x.live, live_so k x.live.me x live) (needs_seqs (with_call k.sessions n pending.NoCall) n _ ∙ call_seqs k.sessions n pending.NoCall)
     ids_on (steps.Gives_up_commit {k = k} n b (Some l) gives has calls live) is ids = dropped k ids l.me _ (ended_seqs k.sessions l.me)

@@ -14,10 +14,13 @@ use Rattle.run_rules.specs.Births.{Born}
 use Rattle.run_base_laws.specs.InTurnLaws.{newest_exec, newest_reply, WaitsFor, call_at}
 use Rattle.run_rules.proofs.AtNodeLemmas.{range_of}
 use Rattle.node_rules.specs.LiveBranches.{EachLive}
+use Rattle.node_rules.specs.Marks.{node_back, back_to}
+use Rattle.node_rules.proofs.Steps.{Calls_back}
 use Rattle.run_base_laws.proofs.NeighborLemmas.{reply_is}
-use Rattle.run_base_laws.proofs.CallTurnLemmas.{Free}
+use Rattle.run_base_laws.proofs.CallTurnLemmas.{Free, marked_free}
 use Rattle.run_base_laws.proofs.InTurnLemmas as turns
 use Rattle.run_base_laws.proofs.InTurnLemmas.{peer, numbered_map, map_set, map_last, length_peers, numbered_before, numbered_last, numbered_split, calls_before, reply_for, one_waits, opened_none}
+use Rattle.run_base_laws.proofs.RootLemmas.{SessionsFit}
 
 -- one that waits has a statement
 waits_some : (i : ℕ) (o : Option Going) → WaitsFor i o → (g : Going) × (o ≡ Some g)
@@ -123,3 +126,12 @@ module _ (E : BranchId → Option ℕ) (A : BranchId → Option BranchId) (G Her
         subst (λ n. call_at x.work n ≤ newest_reply said c) here
         (subst (λ b. call_at x.work i ≤ newest_reply said b) (sym over.1 ∙ child) (let low : call_at x.work i ≤ newest_reply said answered.from = omega (arith, told, over.2) in low)))) in
         subst (λ ps. Free E (turns.Goes E A G Here input said x.live) said x.live.me x.live.parent ps x.work) (sym (map_set peer x.live.edges i e (record e { weight = weight; count = count }) at refl)) free
+
+  -- ---- a branch whose children are to go back
+
+  pub calling_free : (k : NodeState) → SessionsFit k → Nodes k → {x : Branch} {step from : ℕ} → Calls_back k input x step from → FreeOf x
+  calling_free k ss now (steps.Has_gone j x step goes is) =
+      let fits : SessionsFit (node_back j x step) = subst SessionsFit is ss in
+      let free : FreeOf x = turns.goes_free E A G Here input said received j (record { roots = fits.roots; above = fits.above }) (subst Nodes is now) goes in
+      marked_free E (turns.Goes E A G Here input said x.live) said x.live.me x.live.parent (children_of x.live) x.work (back_to x.work.marks step) free
+  calling_free k ss now (steps.Has_heard x weight count a i e g step answered going errand done) = heard_free k now x weight count a i e answered

@@ -5,8 +5,10 @@ use Rattle.std.proofs.lemmas.Bool.Decides.{nat_tests}
 use Rattle.std.proofs.lemmas.Bool.{and_parts}
 use Rattle.tran_ids.proofs.BranchLemmas.{equal_from_same}
 use Rattle.link_session.proofs.OnceLemmas.{run_is_new}
+use Rattle.link_session.specs.Calls.{taken}
 use Rattle.session_tree.specs.Live.{children_of, peer_of, edge_at}
-use Rattle.node_rules.specs.Data.{Stmt, Answer, Advice, BranchId, Edge, Kind, Live, Post, Input}
+use Rattle.node_rules.specs.Data.{Stmt, Answer, BranchId, Edge, Kind, Live, Post, Input, Task}
+use Rattle.node_rules.specs.declared.work.Errand.{Errand}
 use Rattle.node_rules.specs.Data.kinds
 use Rattle.node_rules.specs.declared.work.Waits.TheVariants as waiting
 use Rattle.node_rules.specs.declared.session.Session.{Session}
@@ -16,14 +18,17 @@ use Rattle.node_rules.specs.declared.work.Waits.{Waits}
 use Rattle.node_rules.specs.Words.{same, numbered, set_numbered, put_item, drop_item}
 use Rattle.node_rules.specs.Inputs.{Came, IsCall}
 use Rattle.node_rules.specs.NodeState.{NodeState, Branch, TurnDraft, live_id, work_id, live_at, branch_at}
-use Rattle.session_tree.specs.Tree.{room}
-use Rattle.node_rules.specs.Calls.{reply_fields, kept_reply, with_answer, answer_says, advice_of, next_call, called, exec_to, reply_edge, reply_waits, reply_going, reply_of}
+use Rattle.node_rules.specs.Calls.{reply_fields, kept_reply, with_answer, answer_says, next_call, called, exec_to, reply_edge, reply_waits, reply_going, reply_of, admit, task_for}
 use Rattle.node_rules.proofs.Steps as steps
-use Rattle.node_rules.proofs.Steps.{Asked}
+use Rattle.node_rules.proofs.Steps.{Asked, Goes_to}
 use Rattle.node_rules.proofs.StandLemmas.{live_so}
 use Rattle.run_base_laws.specs.InTurnLaws.{exec_number, reply_number, newest_exec, newest_reply, WaitsFor, call_at}
 use Rattle.node_rules.specs.LiveBranches.{EachLive}
 use Rattle.node_rules.proofs.LiveLemmas.{each_put, each_left, each_same, branch_parts}
+use Rattle.node_rules.specs.Data.tasks
+use Rattle.node_rules.specs.Data.stmts
+use Rattle.node_rules.specs.Data.admits
+use Rattle.node_rules.specs.Sessions.{session_at}
 use Rattle.run_base_laws.proofs.RootLemmas.{SessionsFit, root_alone}
 use Rattle.run_base_laws.proofs.KindSayLemmas.{OfDecisions, AllSay}
 use Rattle.run_base_laws.proofs.CallTurnLemmas.{Silent, silent_none, one_exec, one_reply, if_zero, silent_other, Answered, answered_more, InTurn, Free, stays_in_turn, answers_in_turn, calls_nobody, calls_child, call_answered}
@@ -179,7 +184,7 @@ module _ (E : BranchId → Option ℕ) (A : BranchId → Option BranchId) (G Her
 
   -- What is known of the message that came.
   pub record Received : Type 0 where
-    pub exec : (from to : BranchId) (call given : ℕ) (advice : Option Advice) (s : Stmt) → Came input from to (kinds.Exec call given advice s) → (A to ≡ Some from) × (call ≤ newest_exec said from to)
+    pub exec : (from to : BranchId) (call : ℕ) (task : Task) → Came input from to (kinds.Exec call task) → (A to ≡ Some from) × (call ≤ newest_exec said from to)
     pub reply : (from to : BranchId) (call : ℕ) (weight : Option ℕ) (count : ℕ) (a : Answer) → Came input from to (kinds.Reply call weight count a) → call ≤ newest_reply said from
     pub opened : (from to : BranchId) (edge strength : ℕ) → Came input from to (kinds.Opened edge strength) → E from ≡ Some edge
     pub here : (from to : BranchId) (kind : Kind) → Came input from to kind → Here to
@@ -258,15 +263,21 @@ module _ (E : BranchId → Option ℕ) (A : BranchId → Option BranchId) (G Her
     pub branch_begun : (k : NodeState) → EachLive Begun k.lives k.works → (x : Branch) → branch_at k x.live.me ≡ Some x → Begun x.live x.work
     branch_begun k now x found = let parts = branch_parts k x.live.me x found in subst (Begun x.live) (sym parts.1) (now.each x.live.me x.live parts.0)
 
-    pub asked_free : (k : NodeState) → SessionsFit k → EachLive Begun k.lives k.works → {x : Branch} {s : Stmt} {given : ℕ} → Asked k input x s given → FreeOf x
-    asked_free k ss now (steps.By_call n x s call rows has code live) =
+    -- a root whose session calls
+    called_free : (k : NodeState) → SessionsFit k → EachLive Begun k.lives k.works → (n : ℕ) (x : Branch) (s : Stmt) → IsCall input n s → (session_at k.sessions n).root ≡ Some x.live.me → branch_at k x.live.me ≡ Some x
+        → FreeOf x
+    called_free k ss now n x s call has live =
         let was : Begun x.live x.work = branch_begun k now x live in
         let none : x.live.parent ≡ None = root_alone k ss n x.live.me has x.live (live_so k x.live.me x live) in
         let free : x.work.going ≡ None = was.idle none s (subst (λ m. IsCall input m s) (sym (ss.roots.each n x.live.me has)) call) in
         freed x was (λ below. absurd (below none)) (was.turn.alone none) (λ i c at waits. absurd (none_waits i x.work.going free waits))
-    asked_free k ss now (steps.By_exec x from call given advice s came live runs) =
+
+    -- a branch that takes a call
+    taken_free : (k : NodeState) → EachLive Begun k.lives k.works → (x : Branch) (from : BranchId) (call : ℕ) (task : Task) → Came input from x.live.me (kinds.Exec call task) → branch_at k x.live.me ≡ Some x
+        → admit x.work.came call ≡ admits.Run → Free E (Goes x.live) said x.live.me x.live.parent (children_of x.live) (record x.work { came = taken call })
+    taken_free k now x from call task came live runs =
         let was : Begun x.live x.work = branch_begun k now x live in
-        let said_so = received.exec from x.live.me call given advice s came in
+        let said_so = received.exec from x.live.me call task came in
         let parent : x.live.parent ≡ Some from = was.above from said_so.0 in
         let new : x.work.came.last_call < call = run_is_new x.work.came call runs in
         let answered : call ≤ newest_reply said x.live.me + 1 = omega (arith, said_so.1, received.all from x.live.me) in
@@ -284,6 +295,15 @@ module _ (E : BranchId → Option ℕ) (A : BranchId → Option BranchId) (G Her
           no_other = was.turn.makes.no_other;
           heard = λ goes i c at. elim (was.turn.makes.heard goes i c at) [ inl waits ↦ absurd (none_waits i x.work.going free waits) | inr heard ↦ heard ];
         }
+
+    pub asked_free : (k : NodeState) → SessionsFit k → EachLive Begun k.lives k.works → {x : Branch} {s : Stmt} {given : ℕ} → Asked k input x s given → FreeOf x
+    asked_free k ss now (steps.By_call n x s call rows has code live may) = called_free k ss now n x s call has live
+    asked_free k ss now (steps.By_exec x from call given advice s came live runs) = taken_free k now x from call (tasks.Run given advice s) came live runs
+
+    -- a branch that goes back
+    pub goes_free : (k : NodeState) → SessionsFit k → EachLive Begun k.lives k.works → {x : Branch} {step : ℕ} → Goes_to k input x step → FreeOf x
+    goes_free k ss now (steps.By_rollback_to n x name step call has code live set) = called_free k ss now n x (stmts.RollbackTo name) call has live
+    goes_free k ss now (steps.By_back x from call keep came live runs) = taken_free k now x from call (tasks.GoBack keep) came live runs
 
     -- ---- what becomes of the others
 
@@ -342,24 +362,30 @@ module _ (E : BranchId → Option ℕ) (A : BranchId → Option BranchId) (G Her
           )
 
       -- what waits for its Reply, and the message
-      abbrev over_edge : Stmt → ℕ → ℕ → Going
-      over_edge s given i = record { statement = s; room = given; waits = waiting.ForReply i }
+      abbrev over_edge : Errand → ℕ → Going
+      over_edge e i = record { errand = e; waits = waiting.ForReply i }
 
-      abbrev pub exec_kind : List Session → Branch → ℕ → Stmt → ℕ → Kind
-      exec_kind ss x i s given = kinds.Exec (next_call x.work i) (room x.live given) (advice_of ss x.live) s
+      abbrev pub exec_kind : List Session → Branch → ℕ → Errand → Kind
+      exec_kind ss x i e = kinds.Exec (next_call x.work i) (task_for ss x i e)
 
       -- a call over an edge, whose child answered the last
-      pub calls_so : (x : Branch) (i : ℕ) (s : Stmt) (given : ℕ) (ss : List Session) → x.work.branch ≡ x.live.me → Here x.live.me → FreeOf x → ((c : BranchId) → numbered (children_of x.live) i ≡ Some c → call_at x.work i ≤ newest_reply said c)
-          → EachLive (Done (exec_to ss x i s given (peer_of x.live i))) (put_item live_id k.lives x.live) (put_item work_id k.works (called x i s given).work) × Sends (exec_to ss x i s given (peer_of x.live i))
-      calls_so x i s given ss mine here free last = by (peer_of x.live i) (numbered_map x.live.edges i)
+      pub calls_so : (x : Branch) (i : ℕ) (e : Errand) (ss : List Session) → x.work.branch ≡ x.live.me → Here x.live.me → FreeOf x → ((c : BranchId) → numbered (children_of x.live) i ≡ Some c → call_at x.work i ≤ newest_reply said c)
+          → EachLive (Done (exec_to ss x i e (peer_of x.live i))) (put_item live_id k.lives x.live) (put_item work_id k.works (called ss x i e).work) × Sends (exec_to ss x i e (peer_of x.live i))
+      calls_so x i e ss mine here free last = by (peer_of x.live i) (numbered_map x.live.edges i)
         where
           by : (o : Option BranchId) → numbered (children_of x.live) i ≡ o
-              → EachLive (Done (exec_to ss x i s given o)) (put_item live_id k.lives x.live) (put_item work_id k.works (called x i s given).work) × Sends (exec_to ss x i s given o)
+              → EachLive (Done (exec_to ss x i e o)) (put_item live_id k.lives x.live) (put_item work_id k.works (called ss x i e).work) × Sends (exec_to ss x i e o)
           by None at = (
-            changed [] x.live (called x i s given).work mine (calls_nobody E (Goes x.live) said x.live.me x.live.parent (children_of x.live) x.work free i (over_edge s given i) refl at) (λ b other. silent_none b),
+            changed [] x.live (called ss x i e).work mine
+                (calls_nobody E (Goes x.live) said x.live.me x.live.parent (children_of x.live) x.work free i (over_edge e i) refl (called ss x i e).work.marks at) (λ b other. silent_none b),
             dumbly [] tt,
           )
           by (Some c) at = (
-            changed (exec_to ss x i s given (Some c)) x.live (called x i s given).work mine (calls_child E (Goes x.live) said x.live.me x.live.parent (children_of x.live) x.work free i (over_edge s given i) refl c at (exec_kind ss x i s given) refl refl) (λ b other. silent_other x.live.me c b _ other),
-            (call_answered E (Goes x.live) said x.live.me x.live.parent (children_of x.live) x.work free i (over_edge s given i) refl c at (exec_kind ss x i s given) refl refl (last c at) received.all, (λ b not. silent_other x.live.me c b _ (elsewhere x.live.me b here not))),
+            changed (exec_to ss x i e (Some c)) x.live (called ss x i e).work mine
+                (calls_child E (Goes x.live) said x.live.me x.live.parent (children_of x.live) x.work free i (over_edge e i) refl (called ss x i e).work.marks c at (exec_kind ss x i e) refl refl)
+                (λ b other. silent_other x.live.me c b _ other),
+            (
+              call_answered E (Goes x.live) said x.live.me x.live.parent (children_of x.live) x.work free i (over_edge e i) refl (called ss x i e).work.marks c at (exec_kind ss x i e) refl refl (last c at) received.all,
+              (λ b not. silent_other x.live.me c b _ (elsewhere x.live.me b here not)),
+            ),
           )

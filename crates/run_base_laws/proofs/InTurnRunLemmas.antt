@@ -69,6 +69,7 @@ heard_calls P k (inputs.Message m) now = now
 heard_calls P k (inputs.Call n s) now = now
 heard_calls P k (inputs.GiveUp n) now = now
 heard_calls P k inputs.Reco now = now
+heard_calls P k inputs.Checkpoint now = now
 
 -- what comes is for a branch of the node
 message_here : (node : ℕ) (m : Msg) (from to : BranchId) (scn : ℕ) (kind : Kind) → m.to.node ≡ node → inputs.Message m ≡ inputs.Message (record { from = from; to = to; scn = scn; kind = kind }) → to.node ≡ node
@@ -83,6 +84,7 @@ came_here f k node (inputs.Message m) None comes from to kind came = absurd come
 came_here f k node (inputs.Call session statement) took comes from to kind came = absurd (cc (came.is))
 came_here f k node (inputs.GiveUp session) took comes from to kind came = absurd (cc (came.is))
 came_here f k node inputs.Reco took comes from to kind came = absurd (cc (came.is))
+came_here f k node inputs.Checkpoint took comes from to kind came = absurd (cc (came.is))
 
 pub each_both : (P Q : Live → Work → Type 0) (ls : List Live) (ws : List Work) → EachLive P ls ws → EachLive Q ls ws → EachLive (λ l w. P l w × Q l w) ls ws
 each_both P Q ls ws one other = record { there = one.there; each = λ b l found. (one.each b l found, other.each b l found) }
@@ -154,9 +156,9 @@ module _ (places : List Place) (asked : List Command) (each : (n : ℕ) (p : Pla
 
       pub received : turns.Received (edge_of bs) (parent_of bs) May Here u.input said
       received = record {
-        exec = λ from to call given advice s came. (
-          child_parent bs to from (came_so (GoesSo (Began bs)) f stand.1.said k u.node u.input u.took may.comes from to (kinds.Exec call given advice s) came),
-          came_so (λ a b kind. exec_number kind ≤ newest_exec said a b) f (execs_are_low f) k u.node u.input u.took may.comes from to (kinds.Exec call given advice s) came,
+        exec = λ from to call task came. (
+          child_parent bs to from (came_so (GoesSo (Began bs)) f stand.1.said k u.node u.input u.took may.comes from to (kinds.Exec call task) came),
+          came_so (λ a b kind. exec_number kind ≤ newest_exec said a b) f (execs_are_low f) k u.node u.input u.took may.comes from to (kinds.Exec call task) came,
         );
         reply = λ from to call weight count a came. came_so (λ x y kind. reply_number kind ≤ newest_reply said x) f (replies_are_low f) k u.node u.input u.took may.comes from to (kinds.Reply call weight count a) came;
         opened = λ from to edge strength came. child_edge bs from to edge (came_so (GoesSo (Began bs)) f stand.1.said k u.node u.input u.took may.comes from to (kinds.Opened edge strength) came);
@@ -171,7 +173,11 @@ module _ (places : List Place) (asked : List Command) (each : (n : ℕ) (p : Pla
           (all_unborn places asked each f t bs u k stand.0.1 stand.0.0.even (node_so places asked each f t stand.0) (owned_so places asked each f t stand.0) may number stand.1))
 
       pub granted : Granted (edge_of bs) (parent_of bs) May Here u.input said received d
-      granted = record { grants = λ b l found none code. (l, found, none, code); sees = λ b goes. goes.3 }
+      granted = record {
+        grants = λ b l found none code. (l, found, none, code);
+        sees = λ b goes. goes.3;
+        waits = λ b l found none some. subst (λ c. (session_at d.after.sessions c.session).code ≡ None) (item_is live_id d.after.lives b l found) ((rests_after.1.each b l found none).code some);
+      }
 
       pub left : turns.Leaves (edge_of bs) (parent_of bs) May Here u.input said d
       left = turns_on (edge_of bs) (parent_of bs) May Here u.input said received p (λ b is. is) step granted (heard_rests k u.input rests).0 news begun

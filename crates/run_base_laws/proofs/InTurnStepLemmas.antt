@@ -1,5 +1,5 @@
 -- Each step of a node leaves the calls of its live branches in turn, and makes none before the last was answered.
-use Rattle.std.proofs.Common.{◌≡◌, ◌≢◌, ℕ, ◌+◌, ◌-◌, ◌≤◌, ◌&&◌, Bool, true, false, if◌then◌else◌, List, [], ◌∷◌, ◌++◌, map, length, is_none, unwrap_or, Option, Some, None, inl, inr, refl, sym, ap, subst, ◌∙◌, arith}
+use Rattle.std.proofs.Common.{◌≡◌, ◌≢◌, ℕ, ◌+◌, ◌≤◌, ◌&&◌, Bool, true, false, if◌then◌else◌, List, [], ◌∷◌, ◌++◌, map, length, is_none, unwrap_or, Option, Some, None, inl, inr, refl, sym, ap, subst, ◌∙◌, arith}
 use Rattle.std.proofs.lemmas.Bool.{cond_both}
 use Rattle.tran_ids.proofs.BranchLemmas.{equal_from_same}
 use Rattle.tran_ids.proofs.ListedLemmas.{item_is, put_found}
@@ -7,6 +7,7 @@ use Rattle.commit_forget.specs.declared.next.Next.TheVariants as nexts
 use Rattle.session_tree.specs.Live.{children_of, peer_of, new_edge, next_edge, fresh_live}
 use Rattle.session_tree.specs.Tree.{step as step_from}
 use Rattle.node_rules.specs.Data.{Stmt, Answer, BranchId, Edge, Kind, Live, Act, Post, ReplyFields, Vote, Place, Input}
+use Rattle.node_rules.specs.declared.work.Errand.{Errand}
 use Rattle.node_rules.specs.Data.acts
 use Rattle.node_rules.specs.Data.answers
 use Rattle.node_rules.specs.Data.kinds
@@ -17,18 +18,18 @@ use Rattle.node_rules.specs.declared.work.Work.{Work}
 use Rattle.node_rules.specs.declared.work.Going.{Going}
 use Rattle.node_rules.specs.Words.{same, numbered, item_at, put_item, drop_item}
 use Rattle.node_rules.specs.Refusals.{dtx}
-use Rattle.node_rules.specs.NodeState.{NodeState, Branch, TurnDraft, live_id, work_id, live_at, branch_at, post, to_one, with_work, no_work, kept_row_at}
+use Rattle.node_rules.specs.NodeState.{NodeState, Branch, TurnDraft, live_id, work_id, live_at, branch_at, post, to_one, with_work, no_work, kept_row_at, work_or}
 use Rattle.node_rules.specs.Sessions.{fresh_session, session_at, with_call, needs_rollback}
 use Rattle.node_rules.specs.Names.{passed_on}
-use Rattle.node_rules.specs.Statement.{ran, after_run}
-use Rattle.node_rules.specs.Calls.{call_pends, next_child, strength_of, with_edge, waits_for_opened, hears_reply, replies, nobody_at}
-use Rattle.node_rules.specs.Client.{new_root, fresh_root, gives_up}
+use Rattle.node_rules.specs.Statement.{ran}
+use Rattle.node_rules.specs.Calls.{call_pends, next_child, strength_of, with_edge, waits_for_opened, hears_reply, replies, nobody_at, branch_ran, called, calls_over, less_room}
+use Rattle.node_rules.specs.Client.{new_root, fresh_root, gives_up, marked}
 use Rattle.node_rules.specs.Prepare.{path_of, site_neighbors, with_prepare_sent, has_voted, answers_first, ready, act_turn}
 use Rattle.node_rules.specs.Commit.{beyond}
 use Rattle.node_rules.specs.Recovery.{kept_told}
 use Rattle.node_rules.specs.Turn.{live_or, status_of, Is_gone}
 use Rattle.node_rules.proofs.Steps as steps
-use Rattle.node_rules.proofs.Steps.{Step, Asked, Acting, Says}
+use Rattle.node_rules.proofs.Steps.{Step, Asked, Acting, Says, Goes_to, Calls_back}
 use Rattle.node_rules.proofs.StandLemmas.{live_so, session_set, call_set}
 use Rattle.run_rules.specs.Births.{Born}
 use Rattle.run_base_laws.specs.InTurnLaws.{newest_reply}
@@ -36,13 +37,16 @@ use Rattle.run_rules.proofs.ListLemmas.{all_append, map_after}
 use Rattle.node_rules.proofs.StepLemmas.{acting_so}
 use Rattle.node_rules.specs.LiveBranches.{EachLive, works_of}
 use Rattle.node_rules.proofs.LiveLemmas.{each_changed, each_begun, branch_parts, work_is}
-use Rattle.run_base_laws.proofs.RootLemmas.{SessionsFit, session_or_before, root_alone, pends_so, begun_so}
+use Rattle.node_rules.specs.Data.tasks
+use Rattle.node_rules.specs.declared.work.Errand.TheVariants as errands
+use Rattle.node_rules.specs.Marks.{step_of, marks_after}
+use Rattle.run_base_laws.proofs.RootLemmas.{SessionsFit, session_or_before, root_alone, pends_so, begun_so, counted_so, back_so}
 use Rattle.run_base_laws.proofs.NeighborLemmas.{News}
-use Rattle.run_base_laws.proofs.NeighborStepLemmas.{begun_news, pends_news, lets_news, acked_news}
+use Rattle.run_base_laws.proofs.NeighborStepLemmas.{begun_news, pends_news, lets_news, acked_news, counted_news, back_news}
 use Rattle.run_base_laws.proofs.KindSayLemmas.{AllSay, one_says, each_says, prepares_say, told_says, passes_say, askings_say}
-use Rattle.run_base_laws.proofs.CallTurnLemmas.{Silent, silent_none, one_exec, one_reply, if_zero, silent_other, silent_kind, answered_more, again_in_turn, opens_in_turn, gives_up_in_turn}
+use Rattle.run_base_laws.proofs.CallTurnLemmas.{Silent, silent_none, one_exec, one_reply, if_zero, silent_other, silent_kind, answered_more, again_in_turn, opens_in_turn, gives_up_in_turn, marked_free, marked_in_turn}
 use Rattle.run_base_laws.proofs.InTurnLemmas as turns
-use Rattle.run_base_laws.proofs.InTurnEdgeLemmas.{opened_free, opened_first, heard_free}
+use Rattle.run_base_laws.proofs.InTurnEdgeLemmas.{opened_free, opened_first, heard_free, calling_free}
 use Rattle.run_base_laws.proofs.InTurnLemmas.{IsDumb, dumb_decisions, dumb_silent, peer}
 
 -- a gone branch is not live
@@ -154,13 +158,13 @@ module _ (E : BranchId → Option ℕ) (A : BranchId → Option BranchId) (G Her
             (silent_other x.live.me to l.me _ (subst (λ c. same x.live.me c ≡ false) (sym (item_is live_id k.lives b l live)) is)) (now.each b l live)
 
     says_so : {says : List Post} → Says k input says → EachLive (Done says) k.lives k.works × turns.Sends E A G Here input said says
-    says_so (steps.Gone_replies to from call given advice s came gone) = (
+    says_so (steps.Gone_replies to from call task came gone) = (
       gone_says to from call None 1 (answers.Refused (dtx 8 [])) (gone_none k to gone),
-      (answered_more said (post to from (refused_kind call)) (λ a b. one_exec to from a b (refused_kind call) ∙ if_zero (same to a && same from b) 0 refl) received.all, (λ b not. silent_other to from b _ (turns.elsewhere E A G Here input said to b (received.here from to (kinds.Exec call given advice s) came) not))),
+      (answered_more said (post to from (refused_kind call)) (λ a b. one_exec to from a b (refused_kind call) ∙ if_zero (same to a && same from b) 0 refl) received.all, (λ b not. silent_other to from b _ (turns.elsewhere E A G Here input said to b (received.here from to (kinds.Exec call task) came) not))),
     )
-    says_so (steps.Replies_again x to call given advice s t came live last kept) = (
+    says_so (steps.Replies_again x to call task t came live last kept) = (
       again_says x to t live kept,
-      (answered_more said (replies x to t) (λ a b. one_exec x.live.me to a b (again_kind x t) ∙ if_zero (same x.live.me a && same to b) 0 refl) received.all, (λ b not. silent_other x.live.me to b _ (turns.elsewhere E A G Here input said x.live.me b (received.here to x.live.me (kinds.Exec call given advice s) came) not))),
+      (answered_more said (replies x to t) (λ a b. one_exec x.live.me to a b (again_kind x t) ∙ if_zero (same x.live.me a && same to b) 0 refl) received.all, (λ b not. silent_other x.live.me to b _ (turns.elsewhere E A G Here input said x.live.me b (received.here to x.live.me (kinds.Exec call task) came) not))),
     )
     says_so (steps.Tells s from came kept) = quiet _ (told_says IsDumb dumb_decisions (kept_told s from), tt)
     says_so (steps.Recovers reco) = quiet _ (askings_say IsDumb dumb_decisions k)
@@ -168,7 +172,7 @@ module _ (E : BranchId → Option ℕ) (A : BranchId → Option BranchId) (G Her
     says_so (steps.Gone_rolls_back to from came gone) = quiet _ ((refl, refl), tt)
     says_so (steps.Gone_acks to from n came gone) = quiet _ ((refl, refl), tt)
     says_so (steps.Gone_forgets to from came gone) = quiet _ ((refl, refl), tt)
-    says_so (steps.Opened_again to parent edge root depth o came found) = quiet _ ((refl, refl), tt)
+    says_so (steps.Opened_again to parent edge root depth read_at o came found) = quiet _ ((refl, refl), tt)
     says_so (steps.Prepared_again s from site_below comment came kept again) = quiet _ ((refl, refl), tt)
     says_so (steps.Knows_commit s from n came kept knows) = quiet _ ((refl, refl), tt)
     says_so (steps.Knows_rollback s from came kept knows) = quiet _ ((refl, refl), tt)
@@ -219,25 +223,51 @@ module _ (E : BranchId → Option ℕ) (A : BranchId → Option BranchId) (G Her
   pub record Granted (d : TurnDraft) : Type 0 where
     pub grants : (b : BranchId) (l : Live) → item_at live_id d.after.lives b ≡ Some l → l.parent ≡ None → (session_at d.after.sessions b.session).code ≡ None → G b
     pub sees : (b : BranchId) → G b → (session_at d.after.sessions b.session).code ≡ None
+    pub waits : (b : BranchId) (l : Live) → item_at live_id d.after.lives b ≡ Some l → l.parent ≡ None → (works_of d.after.works b).going ≢ None → (session_at d.after.sessions b.session).code ≡ None
+
+  -- so does a root that waits for a child
+  pub waits_goes : (k : NodeState) (x : Branch) (i : ℕ) (e : Errand) → x.work.branch ≡ x.live.me → Granted (calls_over k x i e) → turns.Goes E A G Here input said x.live
+  waits_goes k x i e mine granted none =
+      let there : item_at live_id (put_item live_id k.lives x.live) x.live.me ≡ Some x.live = put_found live_id k.lives x.live in
+      let w : Work = (called k.sessions x i e).work in
+      let its : works_of (put_item work_id k.works w) x.live.me ≡ w = ap (work_or x.live.me) (subst (λ b. item_at work_id (put_item work_id k.works w) b ≡ Some w) mine (put_found work_id k.works w)) in
+      granted.grants x.live.me x.live there none (granted.waits x.live.me x.live there none (subst (λ (v : Work). v.going ≢ None) (sym its) (λ rests. absurd cc)))
 
   -- one that was asked goes on
   asked_goes : (k : NodeState) → SessionsFit k → Nodes k → {x : Branch} {s : Stmt} {given : ℕ} → Asked k input x s given → (x.live.parent ≡ None → (session_at k.sessions x.live.me.session).code ≡ None → G x.live.me) → turns.Goes E A G Here input said x.live
-  asked_goes k ss now (steps.By_call n x s call rows has code live) may none = may none (subst (λ m. (session_at k.sessions m).code ≡ None) (sym (ss.roots.each n x.live.me has)) code)
+  asked_goes k ss now (steps.By_call n x s call rows has code live reads) may none = may none (subst (λ m. (session_at k.sessions m).code ≡ None) (sym (ss.roots.each n x.live.me has)) code)
   asked_goes k ss now (steps.By_exec x from call given advice s came live runs) may none =
       let was : Begun x.live x.work = turns.branch_begun E A G Here input said received k now x live in
-      let parent : x.live.parent ≡ Some from = was.above from (received.exec from x.live.me call given advice s came).0 in
+      let parent : x.live.parent ≡ Some from = was.above from (received.exec from x.live.me call (tasks.Run given advice s) came).0 in
       absurd (cc (parent, none))
 
   pub asked_mine : (k : NodeState) {x : Branch} {s : Stmt} {given : ℕ} → Asked k input x s given → x.work.branch ≡ x.live.me
-  asked_mine k (steps.By_call n x s call rows has code live) = work_is k x.live.me x live
+  asked_mine k (steps.By_call n x s call rows has code live may) = work_is k x.live.me x live
   asked_mine k (steps.By_exec x from call given advice s came live runs) = work_is k x.live.me x live
+
+  -- of a branch that goes back, and of one whose children are to go back
+  pub goes_mine : (k : NodeState) {x : Branch} {step : ℕ} → Goes_to k input x step → x.work.branch ≡ x.live.me
+  goes_mine k (steps.By_rollback_to n x name step call has code live set) = work_is k x.live.me x live
+  goes_mine k (steps.By_back x from call keep came live runs) = work_is k x.live.me x live
+
+  pub calling_mine : (k : NodeState) {x : Branch} {step from : ℕ} → Calls_back k input x step from → x.work.branch ≡ x.live.me
+  calling_mine k (steps.Has_gone j x step goes is) = goes_mine j goes
+  calling_mine k (steps.Has_heard x weight count a i e g step answered going errand done) = work_is k x.live.me x answered.live
 
   branch_here : (k : NodeState) → Nodes k → (x : Branch) → branch_at k x.live.me ≡ Some x → Here x.live.me
   branch_here k now x live = (turns.branch_begun E A G Here input said received k now x live).here
 
   asked_here : (k : NodeState) → Nodes k → {x : Branch} {s : Stmt} {given : ℕ} → Asked k input x s given → Here x.live.me
-  asked_here k now (steps.By_call n x s call rows has code live) = branch_here k now x live
+  asked_here k now (steps.By_call n x s call rows has code live may) = branch_here k now x live
   asked_here k now (steps.By_exec x from call given advice s came live runs) = branch_here k now x live
+
+  goes_here : (k : NodeState) → Nodes k → {x : Branch} {step : ℕ} → Goes_to k input x step → Here x.live.me
+  goes_here k now (steps.By_rollback_to n x name step call has code live set) = branch_here k now x live
+  goes_here k now (steps.By_back x from call keep came live runs) = branch_here k now x live
+
+  calling_here : (k : NodeState) → Nodes k → {x : Branch} {step from : ℕ} → Calls_back k input x step from → Here x.live.me
+  calling_here k now (steps.Has_gone j x step goes is) = goes_here j (subst Nodes is now) goes
+  calling_here k now (steps.Has_heard x weight count a i e g step answered going errand done) = branch_here k now x answered.live
 
   pub begins_so : (k : NodeState) → Nodes k → (l : Live) → l.edges ≡ [] → Here l.me → turns.IsNew E A G Here input said l.me → EachLive Begun (k.lives ++ l ∷ []) k.works
   begins_so k now l edges here new =
@@ -251,41 +281,52 @@ module _ (E : BranchId → Option ℕ) (A : BranchId → Option BranchId) (G Her
 
   module _ (p : Place) (place : (b : BranchId) → b.node ≡ p.number → Here b) where
     pub turns_on : {k : NodeState} {d : TurnDraft} → Step p input k d → Granted d → SessionsFit k → News NewBorn p input k → Nodes k → turns.Leaves E A G Here input said d
-    turns_on (steps.Begins {k = k} n s call rows range none step) granted ss news now =
-        turns_on step granted (begun_so k ss p n) (begun_news NewBorn p input k n news) (begins_so k now (fresh_root p k (new_root p k n)) refl (place (new_root p k n) refl) (news.root n s call rows none))
-    turns_on (steps.Pends {k = k} n l given call has live code step) granted ss news now = turns_on step granted (pends_so k ss n pending.Commit) (pends_news NewBorn p input k n given call news) now
+    turns_on (steps.Begins {k = k} n s read_at call begins range none step) granted ss news now =
+        turns_on step granted (begun_so k ss p n read_at) (begun_news NewBorn p input k n read_at news)
+        (begins_so k now (fresh_root p k (new_root p k n) read_at) refl (place (new_root p k n) refl) (news.root n s read_at call begins none))
+    turns_on (steps.Counts_call {k = k} n s call counts step) granted ss news now = turns_on step granted (counted_so k ss n) (counted_news NewBorn p input k n news) now
+    turns_on (steps.Goes_back {k = k} x step goes next) granted ss news now = turns_on next granted (back_so k ss x step) (back_news NewBorn p input k x step news) now
+    turns_on (steps.Pends {k = k} n l given call has live code writer step) granted ss news now = turns_on step granted (pends_so k ss n pending.Commit) (pends_news NewBorn p input k n given call news) now
     turns_on (steps.Lets_reads_go {k = k} l comment site_below live begins step) granted ss news now =
         turns_on step granted (record { roots = ss.roots; above = ss.above }) (lets_news NewBorn p input k l.me news) now
     turns_on (steps.Counts_ack {k = k} s from kept came counts step) granted ss news now =
         turns_on step granted (record { roots = ss.roots; above = ss.above }) (acked_news NewBorn p input k _ news) now
     turns_on (steps.Sends {k = k} says why) granted ss news now = says_so k now why
     turns_on (steps.Runs {k = k} x s given t asked way) granted ss news now =
-        turns.answers_so E A G Here input said received k now (record x { live = after_run x.live (ran p k x.live.me s t) }) _ (asked_mine k asked) (asked_here k now asked) (turns.asked_free E A G Here input said received k ss now asked)
+        turns.answers_so E A G Here input said received k now (branch_ran k.sessions x t (ran p k x.live.me s t)) _ (asked_mine k asked) (asked_here k now asked)
+        (marked_free E (turns.Goes E A G Here input said x.live) said x.live.me x.live.parent (children_of x.live) x.work (marks_after x.work (step_of k.sessions x) t (ran p k x.live.me s t))
+        (turns.asked_free E A G Here input said received k ss now asked))
     turns_on (steps.Goes_nowhere {k = k} x s given r asked way) granted ss news now =
         turns.answers_so E A G Here input said received k now x _ (asked_mine k asked) (asked_here k now asked) (turns.asked_free E A G Here input said received k ss now asked)
     turns_on (steps.Calls {k = k} x s given i table asked way) granted ss news now =
         let free : FreeOf x = turns.asked_free E A G Here input said received k ss now asked in
         let goes : turns.Goes E A G Here input said x.live = asked_goes k ss now asked (λ root none. granted.grants x.live.me x.live (put_found live_id k.lives x.live) root (pends_code k.sessions x.live x.live.me.session ∙ none)) in
-        turns.calls_so E A G Here input said received k now x i (passed_on s table) given k.sessions (asked_mine k asked) (asked_here k now asked) free (λ c at. free.heard goes i c at)
+        turns.calls_so E A G Here input said received k now x i (errands.Statement (passed_on s table) given) k.sessions (asked_mine k asked) (asked_here k now asked) free (λ c at. free.heard goes i c at)
     turns_on (steps.Opens {k = k} x s given node link table asked way) granted ss news now =
-        let says : List Post = post x.live.me (nobody_at node) (kinds.Open (next_edge x.live) x.live.root (x.live.depth + 1)) in (
+        let says : List Post = post x.live.me (nobody_at node) (kinds.Open (next_edge x.live) x.live.root (x.live.depth + 1) x.live.read_at) in (
           turns.changed E A G Here input said received k now says x.live (waits_for_opened x link (passed_on s table) given).work (asked_mine k asked)
               (opens_in_turn (turns.Goes E A G Here input said x.live) said says x.live.me x.live.parent (children_of x.live) E x.work (turns.asked_free E A G Here input said received k ss now asked) _ (silent_kind x.live.me (nobody_at node) x.live.me _ refl refl))
               (λ b other. silent_kind x.live.me (nobody_at node) b _ refl refl),
           dumbly k now says ((refl, refl), tt),
         )
     turns_on (steps.Goes_on {k = k} x from strength g link opened) granted ss news now =
-        turns.calls_so E A G Here input said received k now (with_edge x (new_edge from link strength)) (length x.live.edges + 1) g.statement (g.room - 1) k.sessions (work_is k x.live.me x opened.live) (branch_here k now x opened.live)
+        turns.calls_so E A G Here input said received k now (with_edge x (new_edge from link strength)) (length x.live.edges + 1) (less_room g.errand) k.sessions (work_is k x.live.me x opened.live) (branch_here k now x opened.live)
         (opened_free E A G Here input said received k now x from strength g link opened) (λ c at. opened_first E A G Here input said received k now x from strength g link opened c)
     turns_on (steps.Hears_reply {k = k} x weight count a i e answered) granted ss news now =
         turns.answers_so E A G Here input said received k now (hears_reply x i weight count e) _ (work_is k x.live.me x answered.live) (branch_here k now x answered.live) (heard_free E A G Here input said received k now x weight count a i e answered)
-    turns_on (steps.Opens_branch {k = k} to parent edge root depth came new) granted ss news now =
+    turns_on (steps.Backs {k = k} x step from i calls next) granted ss news now =
+        let free : FreeOf x = calling_free E A G Here input said received k ss now calls in
+        turns.calls_so E A G Here input said received k now x i (errands.GoBack step) k.sessions (calling_mine k calls) (calling_here k now calls) free
+        (λ c at. free.heard (waits_goes k x i (errands.GoBack step) (calling_mine k calls) granted) i c at)
+    turns_on (steps.Is_back {k = k} x step from calls none) granted ss news now =
+        turns.answers_so E A G Here input said received k now x _ (calling_mine k calls) (calling_here k now calls) (calling_free E A G Here input said received k ss now calls)
+    turns_on (steps.Opens_branch {k = k} to parent edge root depth read_at came new) granted ss news now =
         let says : List Post = post (next_child p k) parent (kinds.Opened edge (strength_of p k)) in (
-          each_begun Begun (Done says) k.lives k.works now (fresh_live (next_child p k) root (Some parent) depth (strength_of p k))
-              (turns.others_stay E A G Here input said received k now says (fresh_live (next_child p k) root (Some parent) depth (strength_of p k)) (no_work (next_child p k)) (silent_kind (next_child p k) parent (next_child p k) _ refl refl) (record {
-                turn = turns.begun_fresh E A G Here input said (fresh_live (next_child p k) root (Some parent) depth (strength_of p k)) (no_work (next_child p k)) refl refl refl refl refl (news.child to parent edge root depth came new).0;
+          each_begun Begun (Done says) k.lives k.works now (fresh_live (next_child p k) root (Some parent) depth (strength_of p k) read_at)
+              (turns.others_stay E A G Here input said received k now says (fresh_live (next_child p k) root (Some parent) depth (strength_of p k) read_at) (no_work (next_child p k)) (silent_kind (next_child p k) parent (next_child p k) _ refl refl) (record {
+                turn = turns.begun_fresh E A G Here input said (fresh_live (next_child p k) root (Some parent) depth (strength_of p k) read_at) (no_work (next_child p k)) refl refl refl refl refl (news.child to parent edge root depth read_at came new).0;
                 kids = λ i c at. absurd (turns.none_at E A G Here input said i c at);
-                above = λ q at. (let none : A (next_child p k) ≡ None = (news.child to parent edge root depth came new).1 in absurd (cc (at, none)));
+                above = λ q at. (let none : A (next_child p k) ≡ None = (news.child to parent edge root depth read_at came new).1 in absurd (cc (at, none)));
                 idle = λ none s call. refl;
                 here = place (next_child p k) refl;
               }))
@@ -301,7 +342,14 @@ module _ (E : BranchId → Option ℕ) (A : BranchId → Option BranchId) (G Her
     turns_on (steps.Does {k = k} s from nexts.Forget kept why) granted ss news now = quiet k now _ (each_says IsDumb s.me kinds.Forgotten (map (λ b. b.branch) (beyond s)) (refl, refl))
     turns_on (steps.Does {k = k} s from nexts.SayForgotten kept why) granted ss news now = quiet k now _ ((refl, refl), tt)
     turns_on (steps.Does {k = k} s from nexts.SayAck kept why) granted ss news now = quiet k now _ ((refl, refl), tt)
-    turns_on (steps.Rolls_back {k = k} n x call has live) granted ss news now = goes_away k now x.live.me _ (each_says IsDumb x.live.me kinds.Rollback (children_of x.live) (refl, refl))
+    turns_on (steps.Leaves {k = k} n s d x call ends has live) granted ss news now = goes_away k now x.live.me _ (each_says IsDumb x.live.me kinds.Rollback (children_of x.live) (refl, refl))
+    turns_on (steps.Sets_savepoint {k = k} n x name call has code live) granted ss news now =
+        let was : Begun x.live x.work = turns.branch_begun E A G Here input said received k now x live in (
+          turns.changed E A G Here input said received k now [] x.live (marked k.sessions x name).work (work_is k x.live.me x live)
+              (marked_in_turn (turns.Goes E A G Here input said x.live) (said ++ []) x.live.me x.live.parent (children_of x.live) x.work (marked k.sessions x name).work.marks
+              (turns.others_stay E A G Here input said received k now [] x.live x.work (silent_none x.live.me) was)) (λ b other. silent_none b),
+          dumbly k now [] tt,
+        )
     turns_on (steps.Gives_up {k = k} n x gives has calls live) granted ss news now =
         let was : Begun x.live x.work = turns.branch_begun E A G Here input said received k now x live in
         let refused : G x.live.me → ⊥ = λ goes. given_code k.sessions n _ x.live.me has (subst (λ m. (session_at (needs_rollback (with_call k.sessions n pending.NoCall) n (dtx 3 []).code) m).code ≡ None) (ss.roots.each n x.live.me has) (granted.sees x.live.me goes)) in

@@ -26,6 +26,7 @@ pub mod SaidLemmas
 pub mod NodesStandLemmas
 pub mod TurnEventLemmas
 pub mod EventsStandLemmas
+pub mod BeginLemmas
 pub mod NeighborLemmas
 pub mod NeighborSayLemmas
 pub mod NeighborStepLemmas

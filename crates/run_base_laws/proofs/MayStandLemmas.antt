@@ -15,7 +15,7 @@ use Rattle.node_rules.specs.Data.acts
 use Rattle.commit_forget.specs.declared.next.Next.{Next}
 use Rattle.commit_forget.specs.declared.next.Next.TheVariants as nexts
 use Rattle.node_rules.specs.Words.{same, put_item, drop_item, set_numbered}
-use Rattle.node_rules.specs.NodeState.{NodeState, TurnDraft, live_id, kept_row_id, with_kept_row}
+use Rattle.node_rules.specs.NodeState.{NodeState, TurnDraft, live_id, kept_row_id, with_kept_row, Branch}
 use Rattle.node_rules.specs.Sessions.{session_at, with_call}
 use Rattle.node_rules.specs.Statement.{ran, after_run}
 use Rattle.session_tree.specs.Live.{new_edge}
@@ -23,7 +23,7 @@ use Rattle.node_rules.specs.Calls.{next_child, with_edge, hears_reply}
 use Rattle.node_rules.specs.Prepare.{own_changes, ready, without_read_keys}
 use Rattle.node_rules.specs.Commit.{is_mixed, knows_commit, acked_by}
 use Rattle.node_rules.specs.Force.{is_sealed, is_named_by, only_one, branch_to_force}
-use Rattle.node_rules.specs.Client.{new_root, begun_by}
+use Rattle.node_rules.specs.Client.{new_root, begun_by, counted}
 use Rattle.node_rules.specs.declared.session.PendingCall.TheVariants as pending
 use Rattle.node_rules.specs.Inputs.{IsSession}
 use Rattle.node_rules.proofs.Steps as steps
@@ -31,8 +31,10 @@ use Rattle.node_rules.proofs.Steps.{Step, Doing, IsKept}
 use Rattle.node_rules.proofs.StandLemmas.{live_so}
 use Rattle.run_base_laws.specs.RunEvents.{with_event, wrote_event}
 use Rattle.run_rules.proofs.ListLemmas.{all_weaker, all_filter}
-use Rattle.node_rules.proofs.StepLemmas.{IsLive, asked_live, acting_live, made_so}
-use Rattle.node_rules.proofs.SessionLemmas.{seqs, seq_at, session_seq, set_seqs, call_seqs}
+use Rattle.node_rules.proofs.StepLemmas.{IsLive, asked_live, acting_live, made_so, calling_back_live}
+use Rattle.node_rules.proofs.SessionLemmas.{seqs, seq_at, session_seq, set_seqs, call_seqs, counted_seqs}
+use Rattle.node_rules.specs.declared.session.Session.{Session}
+use Rattle.node_rules.specs.Marks.{node_back}
 use Rattle.run_base_laws.proofs.IdLemmas.{Given, Before, In_session, Over_link, seq_set}
 use Rattle.run_base_laws.proofs.GivenLemmas.{begun_given, given_on}
 use Rattle.run_base_laws.proofs.OwnLemmas.{all_found, all_with, all_without, all_last}
@@ -160,38 +162,48 @@ module _ (t : List Event) (n boot : ℕ) (untaught : IsUntaught t) where
         all_with (RowIs t) kept_row_id k.stored.durable.kept (acked_by s from) fits.rows (record { left = row.left; known = row.known; force = row.force; forgot = row.forgot })
 
   -- the node with a new transaction in a session
-  begun_fits : (p : Place) (k : NodeState) (m : ℕ) → p.number ≡ n → m ≤ 64 → Fits t n boot k → AllByRecursion (λ l. exit t l.me ≡ None) (begun_by p k m None).lives
-  begun_fits p k m is fit fits =
+  begun_fits : (p : Place) (k : NodeState) (m : ℕ) (read_at : Option ℕ) → p.number ≡ n → m ≤ 64 → Fits t n boot k → AllByRecursion (λ l. exit t l.me ≡ None) (begun_by p k m read_at None).lives
+  begun_fits p k m read_at is fit fits =
       all_last (λ l. exit t l.me ≡ None) live_id k.lives _ fits.lives (new_exit k (new_root p k m) fits is (unused_root p k m fits.started fit))
 
-  pub begun_all : (p : Place) (k : NodeState) (m : ℕ) → p.number ≡ n → IsSession m → Fits t n boot k → Fits t n boot (begun_by p k m None)
-  begun_all p k m is fit fits =
+  pub begun_all : (p : Place) (k : NodeState) (m : ℕ) (read_at : Option ℕ) → p.number ≡ n → IsSession m → Fits t n boot k → Fits t n boot (begun_by p k m read_at None)
+  begun_all p k m read_at is fit fits =
       let root : BranchId = new_root p k m in
-      let set : seqs (begun_by p k m None).sessions ≡ set_numbered (seqs k.sessions) m root.seq = set_seqs k.sessions m _ in
-      let new : Given boot (seqs (begun_by p k m None).sessions) (length k.opens) root
+      let set : seqs (begun_by p k m read_at None).sessions ≡ set_numbered (seqs k.sessions) m root.seq = set_seqs k.sessions m _ in
+      let new : Given boot (seqs (begun_by p k m read_at None).sessions) (length k.opens) root
       = subst (λ ms. Given boot ms (length k.opens) root) (sym set)
       (In_session fits.started fit.1 (let now : seq_at (set_numbered (seqs k.sessions) m root.seq) m ≡ root.seq = seq_set (seqs k.sessions) m root.seq fit fits.many in omega (arith, now))) in
       record {
         started = fits.started;
-        lives = begun_fits p k m is fit.1 fits;
+        lives = begun_fits p k m read_at is fit.1 fits;
         rows = fits.rows;
         many = ap length set ∙ (set_length (seqs k.sessions) m root.seq ∙ fits.many);
-        told = all_last (λ l. Given boot (seqs (begun_by p k m None).sessions) (length k.opens) l.me) live_id k.lives _ (all_weaker _ _ (λ l given. begun_given boot l.me p k m given) k.lives fits.told) new;
-        given = λ b left here. begun_given boot b p k m (fits.given b left here);
+        told = all_last (λ l. Given boot (seqs (begun_by p k m read_at None).sessions) (length k.opens) l.me) live_id k.lives _ (all_weaker _ _ (λ l given. begun_given boot l.me p k m read_at given) k.lives fits.told) new;
+        given = λ b left here. begun_given boot b p k m read_at (fits.given b left here);
       }
+
+  -- sessions change, and their numbers do not
+  same_all : (k : NodeState) (ss : List Session) → seqs k.sessions ≡ seqs ss → Fits t n boot k → Fits t n boot (record k { sessions = ss })
+  same_all k ss same_seqs fits = record {
+    started = fits.started;
+    lives = fits.lives;
+    rows = fits.rows;
+    many = subst (λ ms. length ms ≡ 64) same_seqs fits.many;
+    told = subst (λ ms. AllByRecursion (λ l. Given boot ms (length k.opens) l.me) k.lives) same_seqs fits.told;
+    given = λ b left here. subst (λ ms. Given boot ms (length k.opens) b) same_seqs (fits.given b left here);
+  }
 
   -- a COMMIT is pending
   pub pends_all : (k : NodeState) (m : ℕ) → Fits t n boot k → Fits t n boot (record k { sessions = with_call k.sessions m pending.Commit })
-  pends_all k m fits =
-      let same_seqs : seqs k.sessions ≡ seqs (with_call k.sessions m pending.Commit) = sym (call_seqs k.sessions m pending.Commit) in
-      record {
-        started = fits.started;
-        lives = fits.lives;
-        rows = fits.rows;
-        many = subst (λ ms. length ms ≡ 64) same_seqs fits.many;
-        told = subst (λ ms. AllByRecursion (λ l. Given boot ms (length k.opens) l.me) k.lives) same_seqs fits.told;
-        given = λ b left here. subst (λ ms. Given boot ms (length k.opens) b) same_seqs (fits.given b left here);
-      }
+  pends_all k m fits = same_all k (with_call k.sessions m pending.Commit) (sym (call_seqs k.sessions m pending.Commit)) fits
+
+  -- a call is counted
+  pub counted_all : (k : NodeState) (m : ℕ) → Fits t n boot k → Fits t n boot (counted k m)
+  counted_all k m fits = same_all k (counted k m).sessions (sym (counted_seqs k.sessions m (session_at k.sessions m).root)) fits
+
+  -- a branch goes back
+  pub back_all : (k : NodeState) (x : Branch) (step : ℕ) → Fits t n boot k → Fits t n boot (node_back k x step)
+  back_all k x step fits = record { started = fits.started; lives = fits.lives; rows = fits.rows; many = fits.many; told = fits.told; given = fits.given }
 
   -- keys are let go
   pub lets_all : (k : NodeState) (b : BranchId) → Fits t n boot k → Fits t n boot (without_read_keys k b)
@@ -204,8 +216,10 @@ module _ (t : List Event) (n boot : ℕ) (untaught : IsUntaught t) where
   module _ (p : Place) (input : Input) (is : p.number ≡ n) where
     -- the record of each step may stand
     pub may_on : {k : NodeState} {d : TurnDraft} → Step p input k d → Fits t n boot k → IfSome d.wrote (MayStand t)
-    may_on (steps.Begins {k = k} m s call rows fit none step) fits = may_on step (begun_all p k m is fit fits)
-    may_on (steps.Pends {k = k} m l given call has live code step) fits = may_on step (pends_all k m fits)
+    may_on (steps.Begins {k = k} m s read_at call begins fit none step) fits = may_on step (begun_all p k m read_at is fit fits)
+    may_on (steps.Counts_call {k = k} m s call counts step) fits = may_on step (counted_all k m fits)
+    may_on (steps.Goes_back {k = k} x step goes next) fits = may_on next (back_all k x step fits)
+    may_on (steps.Pends {k = k} m l given call has live code writer step) fits = may_on step (pends_all k m fits)
     may_on (steps.Lets_reads_go {k = k} l comment site_below live begins step) fits = may_on step (lets_all k l.me fits)
     may_on (steps.Counts_ack {k = k} s from kept came counts step) fits = may_on step (acked_all k s from kept fits)
     may_on (steps.Acts {k = k} l site_below acts.Seal why) fits = seal_may k fits l.me (acting_live why)
@@ -245,8 +259,10 @@ module _ (t : List Event) (n boot : ℕ) (untaught : IsUntaught t) where
           (λ l passes is. ap (λ o. first o (exit_by e l.me)) is ∙ none l.me (not-true (same l.me m) passes)) k.lives fits.lives
 
     pub lives_on : {k : NodeState} {d : TurnDraft} → Step p input k d → Fits t n boot k → Unended d.wrote d.after.lives
-    lives_on (steps.Begins {k = k} m s call rows fit none step) fits = lives_on step (begun_all p k m is fit fits)
-    lives_on (steps.Pends {k = k} m l given call has live code step) fits = lives_on step (pends_all k m fits)
+    lives_on (steps.Begins {k = k} m s read_at call begins fit none step) fits = lives_on step (begun_all p k m read_at is fit fits)
+    lives_on (steps.Counts_call {k = k} m s call counts step) fits = lives_on step (counted_all k m fits)
+    lives_on (steps.Goes_back {k = k} x step goes next) fits = lives_on next (back_all k x step fits)
+    lives_on (steps.Pends {k = k} m l given call has live code writer step) fits = lives_on step (pends_all k m fits)
     lives_on (steps.Lets_reads_go {k = k} l comment site_below live begins step) fits = lives_on step (lets_all k l.me fits)
     lives_on (steps.Counts_ack {k = k} s from kept came counts step) fits = lives_on step (acked_all k s from kept fits)
     lives_on (steps.Runs {k = k} x s given table asked way) fits = changed_lives k fits (after_run x.live (ran p k x.live.me s table)) (asked_live asked)
@@ -255,7 +271,9 @@ module _ (t : List Event) (n boot : ℕ) (untaught : IsUntaught t) where
     lives_on (steps.Opens {k = k} x s given node link table asked way) fits = changed_lives k fits x.live (asked_live asked)
     lives_on (steps.Goes_on {k = k} x from strength g link opened) fits = changed_lives k fits (with_edge x (new_edge from link strength)).live (x.live, live_so k x.live.me x opened.live)
     lives_on (steps.Hears_reply {k = k} x weight count a i e answered) fits = changed_lives k fits (hears_reply x i weight count e).live (x.live, live_so k x.live.me x answered.live)
-    lives_on (steps.Opens_branch {k = k} to parent edge root depth came new) fits =
+    lives_on (steps.Backs {k = k} x step from i calls next) fits = changed_lives k fits x.live (calling_back_live calls)
+    lives_on (steps.Is_back {k = k} x step from calls none) fits = changed_lives k fits x.live (calling_back_live calls)
+    lives_on (steps.Opens_branch {k = k} to parent edge root depth read_at came new) fits =
         all_last (λ l. exit t l.me ≡ None) live_id k.lives _ fits.lives (new_exit k (next_child p k) fits is (unused_child p k fits.started))
     lives_on (steps.Acts {k = k} l site_below acts.Rest why) fits = changed_lives k fits l (acting_live why)
     lives_on (steps.Acts {k = k} l site_below acts.AskDown why) fits = changed_lives k fits l (acting_live why)
@@ -275,7 +293,8 @@ module _ (t : List Event) (n boot : ℕ) (untaught : IsUntaught t) where
     lives_on (steps.Forces_given {k = k} m id scn b call named) fits = same_lives k fits (Force b (decisions.Commit scn)) (λ c. refl)
     lives_on (steps.Forces_commit {k = k} m id b call named) fits = same_lives k fits (Force b (decisions.Commit (k.clock + 1))) (λ c. refl)
     lives_on (steps.Forces_rollback {k = k} m id b call named) fits = same_lives k fits (Force b decisions.Rollback) (λ c. refl)
-    lives_on (steps.Rolls_back {k = k} m x call has live) fits = fewer_lives k fits x.live.me
+    lives_on (steps.Leaves {k = k} m s d x call ends has live) fits = fewer_lives k fits x.live.me
+    lives_on (steps.Sets_savepoint {k = k} m x name call has code live) fits = changed_lives k fits x.live (x.live, live_so k x.live.me x live)
     lives_on (steps.Gives_up {k = k} m x gives has calls live) fits = changed_lives k fits x.live (x.live, live_so k x.live.me x live)
     lives_on (steps.Gives_up_commit {k = k} m b (Some l) gives has calls live) fits = fewer_lives k fits l.me
     lives_on _ fits = fits.lives
@@ -292,8 +311,10 @@ module _ (t : List Event) (n boot : ℕ) (untaught : IsUntaught t) where
 
     -- was given out
     pub ended_given : {k : NodeState} {d : TurnDraft} → Step p input k d → Fits t n boot k → IfSome d.wrote (EndsSo (GivenAfter d))
-    ended_given (steps.Begins {k = k} m s call rows fit none step) fits = ended_given step (begun_all p k m is fit fits)
-    ended_given (steps.Pends {k = k} m l given call has live code step) fits = ended_given step (pends_all k m fits)
+    ended_given (steps.Begins {k = k} m s read_at call begins fit none step) fits = ended_given step (begun_all p k m read_at is fit fits)
+    ended_given (steps.Counts_call {k = k} m s call counts step) fits = ended_given step (counted_all k m fits)
+    ended_given (steps.Goes_back {k = k} x step goes next) fits = ended_given next (back_all k x step fits)
+    ended_given (steps.Pends {k = k} m l given call has live code writer step) fits = ended_given step (pends_all k m fits)
     ended_given (steps.Lets_reads_go {k = k} l comment site_below live begins step) fits = ended_given step (lets_all k l.me fits)
     ended_given (steps.Counts_ack {k = k} s from kept came counts step) fits = ended_given step (acked_all k s from kept fits)
     ended_given (steps.Acts {k = k} l site_below acts.Seal why) fits = live_told k l.me fits (acting_live why)

@@ -16,11 +16,11 @@ use Rattle.session_tree.specs.Live.{children_of, peer_of, edge_at}
 use Rattle.node_rules.specs.NodeState.{NodeState, Branch, Stored}
 use Rattle.node_rules.specs.Records.{applied, stored_by}
 use Rattle.node_rules.specs.Sessions.{session_at}
-use Rattle.node_rules.specs.Calls.{is_opening, next_child, reply_edge, reply_waits, reply_going, reply_of}
+use Rattle.node_rules.specs.Calls.{is_opening, next_child, reply_edge, reply_waits, reply_going, reply_of, strength_of}
 use Rattle.node_rules.specs.Prepare.{is_place, is_prepared, named_children, toward_in, sealed_of, decided_of, site_neighbors}
 use Rattle.node_rules.specs.Commit.{acked_by}
 use Rattle.node_rules.specs.Client.{new_root}
-use Rattle.node_rules.proofs.Steps.{IsOfRows}
+use Rattle.node_rules.proofs.Steps.{BeginsBy}
 use Rattle.run_rules.specs.Births.{Born, root_born, child_born}
 use Rattle.run_base_laws.specs.BirthLaws.{IsChild, IsChildAt, AreNeighbors, ChildrenAre, LiveIs, TowardIs, KeptIs, RecordNames}
 use Rattle.run_base_laws.proofs.RowRecordLemmas.{RowCases, rows_applied as applied_so, rows_stored as stored_so}
@@ -62,9 +62,9 @@ reply_is x from call j e is = reply_going_is x from call x.work.going j e is
 
 -- What is known of the branches that a turn begins.
 pub record News (B : Born → Type 0) (p : Place) (input : Input) (k : NodeState) : Type 0 where
-  pub root : (n : ℕ) (s : Stmt) → IsCall input n s → IsOfRows s → (session_at k.sessions n).root ≡ None → B (root_born (new_root p k n))
-  pub child : (to parent : BranchId) (edge : ℕ) (root : BranchId) (depth : ℕ) → Came input parent to (kinds.Open edge root depth) → find (is_opening parent edge) k.opens ≡ None
-      → B (child_born (next_child p k) parent edge root depth)
+  pub root : (n : ℕ) (s : Stmt) (read_at : Option ℕ) → IsCall input n s → BeginsBy k.clock s read_at → (session_at k.sessions n).root ≡ None → B (root_born (new_root p k n) (strength_of p k) read_at)
+  pub child : (to parent : BranchId) (edge : ℕ) (root : BranchId) (depth : ℕ) (read_at : Option ℕ) → Came input parent to (kinds.Open edge root depth read_at) → find (is_opening parent edge) k.opens ≡ None
+      → B (child_born (next_child p k) parent edge root depth (strength_of p k) read_at)
 
 module _ (B : Born → Type 0) where
   -- ---- neighbours

@@ -8,7 +8,8 @@ use Rattle.commit_forget.specs.Beyond.{parent_beyond, kid_beyond}
 use Rattle.reco.specs.declared.post.Post.{Post}
 use Rattle.reco.specs.declared.told.Told.{Told}
 use Rattle.reco.specs.declared.told.Told.TheVariants as tolds
-use Rattle.node_rules.specs.Data.{Stmt, Answer, BranchId, Decision, Kind, Edge, KeptRow}
+use Rattle.node_rules.specs.Data.{Answer, BranchId, Decision, Kind, Edge, KeptRow}
+use Rattle.node_rules.specs.declared.work.Errand.{Errand}
 use Rattle.node_rules.specs.Data.decisions
 use Rattle.node_rules.specs.Data.kinds
 use Rattle.node_rules.specs.declared.session.Session.{Session}
@@ -44,9 +45,9 @@ module _ (B : Born → Type 0) where
   answer_goes x a None above = tt
   answer_goes x a (Some parent) above = (above parent refl, tt)
 
-  pub exec_goes : (ss : List Session) (x : Branch) (i : ℕ) (s : Stmt) (given : ℕ) (to : Option BranchId) → ((b : BranchId) → to ≡ Some b → IsChild B b x.live.me) → GoAll (exec_to ss x i s given to)
-  exec_goes ss x i s given None below = tt
-  exec_goes ss x i s given (Some to) below = (below to refl, tt)
+  pub exec_goes : (ss : List Session) (x : Branch) (i : ℕ) (e : Errand) (to : Option BranchId) → ((b : BranchId) → to ≡ Some b → IsChild B b x.live.me) → GoAll (exec_to ss x i e to)
+  exec_goes ss x i e None below = tt
+  exec_goes ss x i e (Some to) below = (below to refl, tt)
 
   pub prepares_go : (me : BranchId) (comment : List ℕ) (path : Option ℕ) (i : ℕ) (es : List Edge) → AllByRecursion (λ e. IsChild B e.peer me) es → GoAll (prepares me comment path i es)
   prepares_go me comment path i [] all = tt

@@ -22,6 +22,7 @@ use Rattle.run_rules.specs.Lawful.{MayHappen, MayTurn, IsOwed, boots, History, I
 use Rattle.run_base_laws.specs.NodeLaws.{AtEachFact, OfEachNode}
 use Rattle.run_rules.proofs.ListLemmas.{set_both}
 use Rattle.run_base_laws.proofs.LawfulLemmas.{lawful_keeps, lawful_each, of_facts, Serves, of_wrote, serves}
+use Rattle.read_only_tx.specs.Versions.{Versions}
 
 -- ---- what a happening does to one node
 
@@ -218,7 +219,7 @@ each_that_may So so t lawful =
 
 -- What a law has to show that speaks of what a node keeps and of nothing else.
 pub record KeepsAlone (I : NodeState → Type 0) : Type 0 where
-  pub starts : (s : Stored) → I (kept_by s)
+  pub starts : (s : Stored) (vs : Versions) → I (kept_by s vs)
   pub hears : (k : NodeState) (scn : ℕ) → I k → I (raised k scn)
   pub steps : (p : Place) (input : Input) (k : NodeState) (d : TurnDraft) → Step p input k d → I k → I d.after
 
@@ -227,7 +228,7 @@ pub keeps_alone : {I : NodeState → Type 0} → KeepsAlone I → Keeps (λ p rs
 unfolding start_of
 keeps_alone each = record {
   empty = λ p. tt;
-  starts = λ p rs boot disk next. each.starts _;
+  starts = λ p rs boot disk next. each.starts _ _;
   hears = λ p rs k scn now. each.hears k scn now;
   steps = λ p rs input k d step now. each.steps p input k d step now;
   rests = λ p rs k now. tt;

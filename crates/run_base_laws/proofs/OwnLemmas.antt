@@ -6,7 +6,6 @@ use Rattle.std.specs.List.{AllByRecursion}
 use Rattle.std.proofs.lemmas.Bool.{cond_both}
 use Rattle.node_rules.specs.Data.{BranchId, KeptRow, RedoRecord, Live, Place, Input}
 use Rattle.node_rules.specs.Data.decisions
-use Rattle.node_rules.specs.Data.params
 use Rattle.node_rules.specs.Data.records
 use Rattle.node_rules.specs.Data.acts
 use Rattle.commit_forget.specs.declared.next.Next.TheVariants as nexts
@@ -26,7 +25,8 @@ use Rattle.tran_ids.proofs.ListedLemmas.{item_is}
 use Rattle.node_rules.proofs.StandLemmas.{live_so}
 use Rattle.run_base_laws.specs.IdLaws.{IsRecordOf}
 use Rattle.run_rules.proofs.ListLemmas.{all_filter, all_append}
-use Rattle.node_rules.proofs.StepLemmas.{IsLive, asked_live, acting_live, made_so}
+use Rattle.node_rules.proofs.StepLemmas.{IsLive, asked_live, acting_live, made_so, calling_back_live}
+use Rattle.node_rules.specs.Images.{image_at}
 use Rattle.run_base_laws.proofs.NodeLemmas.{Keeps}
 use Rattle.run_base_laws.proofs.RowRecordLemmas.{RowCases, rows_applied as applied_so, rows_stored as stored_so}
 
@@ -125,8 +125,10 @@ module _ (n : ℕ) where
   module _ (p : Place) (input : Input) (is : p.number ≡ n) where
     -- each step is of the node's own branches
     pub own_on : {k : NodeState} {d : TurnDraft} → Step p input k d → Own k → Own d.after × Writes d.wrote
-    own_on (steps.Begins {k = k} m s call rows fit none step) own = own_on step (all_last (λ l. Here l.me) live_id k.lives _ own.0 is, own.1, own.2)
-    own_on (steps.Pends m l given call has live code step) own = own_on step own
+    own_on (steps.Begins {k = k} m s read_at call begins fit none step) own = own_on step (all_last (λ l. Here l.me) live_id k.lives _ own.0 is, own.1, own.2)
+    own_on (steps.Counts_call m s call counts step) own = own_on step own
+    own_on (steps.Goes_back x step goes next) own = own_on next own
+    own_on (steps.Pends m l given call has live code writer step) own = own_on step own
     own_on (steps.Lets_reads_go l comment site_below live begins step) own = own_on step own
     own_on (steps.Counts_ack {k = k} s from kept came counts step) own =
         own_on step (own.0, all_with (λ x. Here x.me) kept_row_id k.stored.durable.kept (acked_by s from) own.1 (kept_here k s own kept), own.2)
@@ -137,7 +139,9 @@ module _ (n : ℕ) where
     own_on (steps.Goes_on {k = k} x from strength g link opened) own =
         ((changed k own (with_edge x (new_edge from link strength)).live (x.live, live_so k x.live.me x opened.live), own.1, own.2), tt)
     own_on (steps.Hears_reply {k = k} x weight count a i e answered) own = ((changed k own (hears_reply x i weight count e).live (x.live, live_so k x.live.me x answered.live), own.1, own.2), tt)
-    own_on (steps.Opens_branch {k = k} to parent edge root depth came new) own =
+    own_on (steps.Backs {k = k} x step from i calls next) own = ((changed k own x.live (calling_back_live calls), own.1, own.2), tt)
+    own_on (steps.Is_back {k = k} x step from calls none) own = ((changed k own x.live (calling_back_live calls), own.1, own.2), tt)
+    own_on (steps.Opens_branch {k = k} to parent edge root depth read_at came new) own =
         ((all_last (λ l. Here l.me) live_id k.lives _ own.0 is, own.1, all_append (λ o. Here o.child) k.opens _ own.2 (is, tt)), tt)
     own_on (steps.Acts {k = k} l site_below acts.Rest why) own = ((changed k own l (acting_live why), own.1, own.2), tt)
     own_on (steps.Acts {k = k} l site_below acts.AskDown why) own = ((changed k own l (acting_live why), own.1, own.2), tt)
@@ -159,7 +163,7 @@ module _ (n : ℕ) where
     own_on (steps.Makes_record {k = k} m s r d call makes) own =
         made_so (λ x. Own (record k { stored = applied k.stored x }) × Writes (Some x)) (λ t. ((own.0, recorded k own (records.Table t) tt, own.2), tt))
         (λ l. ((own.0, recorded k own (records.Link l) tt, own.2), tt)) (λ y. ((own.0, recorded k own (records.Synonym y) tt, own.2), tt))
-        (λ on. ((own.0, recorded k own (records.Param (params.Recovery on)) tt, own.2), tt)) makes
+        (λ setting. ((own.0, recorded k own (records.Param setting) tt, own.2), tt)) makes
     own_on (steps.Forces_given {k = k} m id scn b call named) own =
         let at : Here b = forced_here p k id b own named in ((own.0, recorded k own (records.Forced b (decisions.Commit scn) true) at, own.2), at)
     own_on (steps.Forces_commit {k = k} m id b call named) own =
@@ -168,7 +172,9 @@ module _ (n : ℕ) where
         let at : Here b = forced_here p k id b own named in ((own.0, recorded k own (records.Forced b decisions.Rollback false) at, own.2), at)
     own_on (steps.Hides {k = k} m mixed id s call found) own =
         let at : Here s.me = sought (λ x. Here x.me) (may_purge mixed id) k.stored.durable.kept s own.1 found in ((own.0, recorded k own (records.Hidden s.me) at, own.2), at)
-    own_on (steps.Rolls_back {k = k} m x call has live) own = ((gone k own x.live.me, own.1, own.2), tt)
+    own_on (steps.Leaves {k = k} m s d x call ends has live) own = ((gone k own x.live.me, own.1, own.2), tt)
+    own_on (steps.Sets_savepoint {k = k} m x name call has code live) own = ((changed k own x.live (x.live, live_so k x.live.me x live), own.1, own.2), tt)
+    own_on (steps.Images {k = k} checkpoint) own = ((own.0, recorded k own (records.Image (image_at k.stored k.clock)) tt, own.2), tt)
     own_on (steps.Gives_up {k = k} m x gives has calls live) own = ((changed k own x.live (x.live, live_so k x.live.me x live), own.1, own.2), tt)
     own_on (steps.Gives_up_commit {k = k} m b (Some l) gives has calls live) own = ((gone k own l.me, own.1, own.2), tt)
     own_on _ own = (own, tt)

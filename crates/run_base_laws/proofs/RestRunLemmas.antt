@@ -54,12 +54,14 @@ heard_rests k (inputs.Message m) now = (record { roots = now.0.roots; above = no
 heard_rests k (inputs.Call n s) now = now
 heard_rests k (inputs.GiveUp n) now = now
 heard_rests k inputs.Reco now = now
+heard_rests k inputs.Checkpoint now = now
 
 pub heard_before : (k : NodeState) (input what : Input) → Before what k → Before what (heard k input)
 heard_before k (inputs.Message m) what before = record { free = before.free; asked = before.asked; prepared = before.prepared; either = before.either }
 heard_before k (inputs.Call n s) what before = before
 heard_before k (inputs.GiveUp n) what before = before
 heard_before k inputs.Reco what before = before
+heard_before k inputs.Checkpoint what before = before
 
 turn_rests : (p : Place) (k : NodeState) (input : Input) → Before input k → NodeRests k → Step p input (heard k input) (draft_of p k input) → NodeRests (draft_of p k input).after
 turn_rests p k input before now step =
@@ -128,8 +130,8 @@ module _ (places : List Place) (asked : List Command) (each : (n : ℕ) (p : Pla
         let names : NamesAre (Began bs) k = subst (λ o. IfSome o (NamesAre (Began bs))) may.up (stand.1.lives u.node) in
         record {
           free = λ n s call. free_by f k u.node n (Some s) u.took (subst (λ i. Comes f k u.node i u.took) call may.comes);
-          asked = λ from to call given advice s came. asked_parent bs k names from to
-              (came_so (GoesSo (Began bs)) f stand.1.said k u.node u.input u.took may.comes from to (kinds.Exec call given advice s) came);
+          asked = λ from to call task came. asked_parent bs k names from to
+              (came_so (GoesSo (Began bs)) f stand.1.said k u.node u.input u.took may.comes from to (kinds.Exec call task) came);
           prepared = λ from to site_below comment came. asked_parent bs k names from to
               (came_so (GoesSo (Began bs)) f stand.1.said k u.node u.input u.took may.comes from to (kinds.Prepare site_below comment) came);
           either = λ not. not_both (records_at f u.node) k (node_so places asked each f t stand.0 u.node k may.up);
@@ -141,7 +143,7 @@ module _ (places : List Place) (asked : List Command) (each : (n : ℕ) (p : Pla
 
     started : (zs : List RedoRecord) → NodeRests (start_of zs)
     unfolding start_of
-    started zs = (started_fits _, none_live _)
+    started zs = (started_fits _ _, none_live _)
 
     goes_rests : (n : ℕ) {o : Option NodeState} {rs : List RedoRecord} → Goes places f n o rs → IfSome o NodeRests
     goes_rests n Stays = now n
@@ -160,7 +162,7 @@ module _ (places : List Place) (asked : List Command) (each : (n : ℕ) (p : Pla
 
   made_rests : NodeRests made
   unfolding start_of
-  made_rests = (started_fits _, none_live _)
+  made_rests = (started_fits _ _, none_live _)
 
   roots_keep : (f : Facts) (hs : List Happening) (t : List Event) (bs : List Born) → StandBorn places asked each f t bs → RootsStand f → IsLawful places asked f hs → RootsStand (facts_of places asked f hs)
   unfolding facts_of IsLawful
@@ -187,7 +189,8 @@ run_roots t lawful =
     (first_rests t.places t.commands t.of_a_script.each) lawful
 
 pub roots_wait : RootsWait
-roots_wait t lawful n k up x found root = let now : NodeRests k = subst (λ o. IfSome o NodeRests) up (run_roots t lawful n) in branch_root k now.1 x found root
+roots_wait t lawful n k up x found root =
+    let now : NodeRests k = subst (λ o. IfSome o NodeRests) up (run_roots t lawful n) in let is = branch_root k now.1 x found root in record { root = is.root; waits = is.waits }
 
 commit_rests : (c : PendingCall) (phase : Phase) (o : Option Going) → RootWaits c phase o → phase ≢ phases.Working → o ≡ None
 commit_rests pending.NoCall phase o is other = is.1

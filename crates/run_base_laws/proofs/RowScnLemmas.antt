@@ -61,6 +61,7 @@ rows_below scn ks (records.Met b (decisions.Commit n) false) all =
 rows_below scn ks (records.Met b decisions.Rollback false) all = below_left scn (stands_at b) ks all
 rows_below scn ks (records.Forgot b) all = below_changed scn b forgot_as (λ x. refl) (drop_where (is_done b) ks) (below_left scn (is_done b) ks all)
 rows_below scn ks (records.Hidden b) all = below_changed scn b hidden_as (λ x. refl) ks all
+rows_below scn ks (records.Image i) all = below_further scn (max scn i.clock) (omega arith) ks all
 rows_below scn ks _ all = all
 
 applied_below : (s : Stored) (r : RedoRecord) → Below s.scn s.durable.kept → Below (applied s r).scn (applied s r).durable.kept

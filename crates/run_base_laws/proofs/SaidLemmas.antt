@@ -171,6 +171,7 @@ module _ (f : Facts) (t : List Event) (said : NetIsSaid f t) where
   came_said k node (inputs.Call session statement) took comes from to kind came = absurd (cc (came.is))
   came_said k node (inputs.GiveUp session) took comes from to kind came = absurd (cc (came.is))
   came_said k node inputs.Reco took comes from to kind came = absurd (cc (came.is))
+  came_said k node inputs.Checkpoint took comes from to kind came = absurd (cc (came.is))
 
   pub acks_came : (k : NodeState) (node : ℕ) (input : Input) (took : Option Took) → Comes f k node input took → AcksWereSent t input
   acks_came k node input took comes from to came = came_said k node input took comes from to kinds.Ack came

@@ -165,7 +165,7 @@ module _ (bs : List Born) (trees : AllByRecursion (λ x. StandsBelow (Began bs) 
   no_child_is p child = let is : born_at bs b ≡ Some child.0 = subst (λ c. born_at bs c ≡ Some child.0) child.2 child.1 in absurd (cc (is, unborn))
 
   no_exec : (to : BranchId) (kind : Kind) → GoesSo (Began bs) b to kind → exec_number kind ≡ 0
-  no_exec to (kinds.Exec call given advice s) goes = absurd (no_child_of to goes)
+  no_exec to (kinds.Exec call task) goes = absurd (no_child_of to goes)
   no_exec to _ goes = refl
 
   no_reply : (to : BranchId) (kind : Kind) → GoesSo (Began bs) b to kind → reply_number kind ≡ 0

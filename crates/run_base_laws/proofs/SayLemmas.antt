@@ -1,12 +1,13 @@
 -- Each message of a step may be said by the events with its record, where that hangs on no session tree: votes, decisions
 -- to commit, and Forgotten.
-use Rattle.std.proofs.Common.{◌≡◌, ℕ, ◌+◌, ◌-◌, ◌≤◌, ◌&&◌, not, Bool, false, true≢false, List, [], ◌∷◌, ◌++◌, length, map, filter, fold, is_none, Option, Some, None, inl, inr, refl, sym, ap, subst, ◌∙◌, arith}
+use Rattle.std.proofs.Common.{◌≡◌, ℕ, ◌+◌, ◌≤◌, ◌&&◌, not, Bool, false, true≢false, List, [], ◌∷◌, ◌++◌, length, map, filter, fold, is_none, Option, Some, None, inl, inr, refl, sym, ap, subst, ◌∙◌, arith}
 use Rattle.std.specs.Prelude.{flat_map}
 use Rattle.std.specs.List.{AllByRecursion}
 use Rattle.std.proofs.lemmas.Bool.{cond_both, and_parts}
 use Rattle.agreement.specs.Events.{Sealed, Decided, Event, Seal, Decide, Learn, Forget, Send_ack, only_at, exit, learned, Has, Knows}
 use Rattle.agreement.proofs.EventLemmas.{only_at_same}
-use Rattle.node_rules.specs.Data.{Answer, BranchId, Decision, Edge, Stmt, Kind, KeptRow, Live, Place, Input}
+use Rattle.node_rules.specs.Data.{Answer, BranchId, Decision, Edge, Kind, KeptRow, Live, Place, Input}
+use Rattle.node_rules.specs.declared.work.Errand.{Errand}
 use Rattle.node_rules.specs.Data.decisions
 use Rattle.node_rules.specs.Data.kinds
 use Rattle.node_rules.specs.Data.acts
@@ -18,8 +19,8 @@ use Rattle.commit_forget.specs.declared.next.Next.TheVariants as nexts
 use Rattle.node_rules.specs.Words.{put_by_branch}
 use Rattle.node_rules.specs.NodeState.{NodeState, Branch, TurnDraft, post_one, to_each, to_one, kept_row_id}
 use Rattle.session_tree.specs.Tree.{step as step_from}
-use Rattle.node_rules.specs.Calls.{answer_says, exec_to, with_edge, hears_reply}
-use Rattle.node_rules.specs.Statement.{ran, after_run}
+use Rattle.node_rules.specs.Calls.{answer_says, exec_to, with_edge, hears_reply, branch_ran, less_room}
+use Rattle.node_rules.specs.Statement.{ran}
 use Rattle.node_rules.specs.Prepare.{path_of, prepares, site_neighbors, own_changes}
 use Rattle.node_rules.specs.Commit.{acked_by, all_acked, beyond, is_neighbor, passes_commit, rollback_to, passes}
 use Rattle.reco.specs.declared.told.Told.TheVariants as tolds
@@ -31,10 +32,12 @@ use Rattle.run_base_laws.specs.RunEvents.{with_event, wrote_event}
 use Rattle.run_base_laws.specs.EventRows.{RowIs, RowsAre, IsKnown, MaySayByEvents}
 use Rattle.run_rules.proofs.ListLemmas.{all_weaker, all_append, all_map, all_each, all_put}
 use Rattle.node_rules.proofs.StepLemmas.{IsLive, acting_live}
+use Rattle.node_rules.specs.declared.work.Errand.TheVariants as errands
+use Rattle.node_rules.specs.Names.{passed_on}
 use Rattle.run_base_laws.proofs.OwnLemmas.{all_found, all_with}
 use Rattle.run_base_laws.proofs.RowEventLemmas.{first_new, learned_now}
 use Rattle.run_base_laws.proofs.RowScnLemmas.{Below}
-use Rattle.run_base_laws.proofs.MayStandLemmas.{IsUntaught, Fits, live_exit, row_is, begun_all, pends_all, lets_all, acked_all, next_may}
+use Rattle.run_base_laws.proofs.MayStandLemmas.{IsUntaught, Fits, live_exit, row_is, begun_all, pends_all, lets_all, acked_all, next_may, counted_all, back_all}
 
 -- ---- lists of messages
 
@@ -57,9 +60,9 @@ module _ (r : List Event) (scn : ℕ) where
   answer_told x a None = tt
   answer_told x a (Some parent) = (tt, tt)
 
-  exec_told : (ss : List Session) (x : Branch) (i : ℕ) (s : Stmt) (given : ℕ) (to : Option BranchId) → Told (exec_to ss x i s given to)
-  exec_told ss x i s given None = tt
-  exec_told ss x i s given (Some to) = (tt, tt)
+  exec_told : (ss : List Session) (x : Branch) (i : ℕ) (e : Errand) (to : Option BranchId) → Told (exec_to ss x i e to)
+  exec_told ss x i e None = tt
+  exec_told ss x i e (Some to) = (tt, tt)
 
   prepares_told : (me : BranchId) (comment : List ℕ) (path : Option ℕ) (i : ℕ) (es : List Edge) → Told (prepares me comment path i es)
   prepares_told me comment path i [] = tt
@@ -148,20 +151,24 @@ module _ (t : List Event) (n boot : ℕ) (untaught : IsUntaught t) (p : Place) (
 
   -- each step
   pub step_told : {k : NodeState} {d : TurnDraft} → Step p input k d → Fits t n boot k → Below k.clock k.stored.durable.kept → Told (with_event (wrote_event n d.wrote) t) d.after.clock d.says
-  step_told (steps.Begins {k = k} m s call rows fit none step) fits below = step_told step (begun_all t n boot untaught p k m is fit fits) below
-  step_told (steps.Pends {k = k} m l given call has live code step) fits below = step_told step (pends_all t n boot untaught k m fits) below
+  step_told (steps.Begins {k = k} m s read_at call begins fit none step) fits below = step_told step (begun_all t n boot untaught p k m read_at is fit fits) below
+  step_told (steps.Counts_call {k = k} m s call counts step) fits below = step_told step (counted_all t n boot untaught k m fits) below
+  step_told (steps.Goes_back {k = k} x step goes next) fits below = step_told next (back_all t n boot untaught k x step fits) below
+  step_told (steps.Pends {k = k} m l given call has live code writer step) fits below = step_told step (pends_all t n boot untaught k m fits) below
   step_told (steps.Lets_reads_go {k = k} l comment site_below live begins step) fits below = step_told step (lets_all t n boot untaught k l.me fits) below
   step_told (steps.Counts_ack {k = k} s from kept came counts step) fits below =
       step_told step (acked_all t n boot untaught k s from kept fits)
       (all_with (λ x. x.scn ≤ k.clock) kept_row_id k.stored.durable.kept (acked_by s from) below (all_found (λ x. x.scn ≤ k.clock) kept_row_id k.stored.durable.kept s.me s below kept))
   step_told (steps.Sends {k = k} says why) fits below = says_told k why fits.rows below
-  step_told (steps.Runs {k = k} x s given table asked way) fits below = answer_told t _ (record x { live = after_run x.live (ran p k x.live.me s table) }) _ x.live.parent
+  step_told (steps.Runs {k = k} x s given table asked way) fits below = answer_told t _ (branch_ran k.sessions x table (ran p k x.live.me s table)) _ x.live.parent
   step_told (steps.Goes_nowhere {k = k} x s given r asked way) fits below = answer_told t _ x _ x.live.parent
-  step_told (steps.Calls {k = k} x s given i table asked way) fits below = exec_told t _ k.sessions x i _ given (peer_of x.live i)
+  step_told (steps.Calls {k = k} x s given i table asked way) fits below = exec_told t _ k.sessions x i (errands.Statement (passed_on s table) given) (peer_of x.live i)
   step_told (steps.Opens x s given node link table asked way) fits below = (tt, tt)
-  step_told (steps.Goes_on {k = k} x from strength g link opened) fits below = exec_told t _ k.sessions (with_edge x (new_edge from link strength)) (length x.live.edges + 1) g.statement (g.room - 1) _
+  step_told (steps.Goes_on {k = k} x from strength g link opened) fits below = exec_told t _ k.sessions (with_edge x (new_edge from link strength)) (length x.live.edges + 1) (less_room g.errand) _
   step_told (steps.Hears_reply {k = k} x weight count a i e answered) fits below = answer_told t _ (hears_reply x i weight count e) _ x.live.parent
-  step_told (steps.Opens_branch to parent edge root depth came new) fits below = (tt, tt)
+  step_told (steps.Backs {k = k} x step from i calls next) fits below = exec_told t _ k.sessions x i (errands.GoBack step) (peer_of x.live i)
+  step_told (steps.Is_back {k = k} x step from calls none) fits below = answer_told t _ x _ x.live.parent
+  step_told (steps.Opens_branch to parent edge root depth read_at came new) fits below = (tt, tt)
   step_told (steps.Acts {k = k} l site_below acts.AskDown why) fits below = prepares_told t _ l.me l.comment (path_of site_below (step_from l)) 1 l.edges
   step_told (steps.Acts {k = k} l site_below acts.SayReadOnly why) fits below = one_told t _ l.me kinds.ReadOnly l.parent (λ b. tt)
   step_told (steps.Acts {k = k} l site_below acts.SayReady why) fits below = one_told t _ l.me kinds.Ready l.parent (λ b. tt)
@@ -183,6 +190,6 @@ module _ (t : List Event) (n boot : ℕ) (untaught : IsUntaught t) (p : Place) (
   step_told (steps.Does {k = k} s from nexts.Forget kept why) fits below = each_told (Forget s.me ∷ t) k.clock s.me kinds.Forgotten (map (λ b. b.branch) (beyond s)) (λ b. inl (inl refl))
   step_told (steps.Does {k = k} s from nexts.SayForgotten kept (steps.Has_forgotten came knows forgot)) fits below = (inl ((row_is t n boot untaught k fits s kept).forgot forgot), tt)
   step_told (steps.Does s from nexts.SayAck kept why) fits below = (tt, tt)
-  step_told (steps.Rolls_back {k = k} m x call has live) fits below = each_told t k.clock x.live.me kinds.Rollback (children_of x.live) (λ b. tt)
+  step_told (steps.Leaves {k = k} m s d x call ends has live) fits below = each_told t k.clock x.live.me kinds.Rollback (children_of x.live) (λ b. tt)
   step_told (steps.Gives_up_commit {k = k} m b (Some l) gives has pending live) fits below = each_told t k.clock l.me kinds.Rollback (children_of l) (λ c. tt)
   step_told _ fits below = tt

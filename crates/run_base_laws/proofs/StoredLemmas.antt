@@ -26,8 +26,10 @@ wrote_same s t (Some r) same = unacked_applied s r ∙ (ap (λ x. applied x r) s
 module _ (p : Place) (input : Input) where
   -- a step stores its record
   pub step_stores : {k : NodeState} {d : TurnDraft} → Step p input k d → unacked d.after.stored ≡ unacked (with_wrote k.stored d.wrote)
-  step_stores (steps.Begins n s call rows fit none step) = step_stores step
-  step_stores (steps.Pends n l given call has live code step) = step_stores step
+  step_stores (steps.Begins n s read_at call begins fit none step) = step_stores step
+  step_stores (steps.Counts_call n s call counts step) = step_stores step
+  step_stores (steps.Goes_back x step goes next) = step_stores next
+  step_stores (steps.Pends n l given call has live code writer step) = step_stores step
   step_stores (steps.Lets_reads_go l comment site_below live begins step) = step_stores step
   step_stores (steps.Counts_ack {k = k} {d = d} s from kept came counts step) =
       step_stores step ∙ wrote_same _ k.stored d.wrote (ap (λ ks. record k.stored { durable = record k.stored.durable { kept = ks } }) (rows_acked k s from kept))

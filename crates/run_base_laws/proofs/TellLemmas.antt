@@ -1,9 +1,10 @@
 -- A branch tells Committed only where its row knows the commit, or the record of this turn says it.
-use Rattle.std.proofs.Common.{◌≡◌, ℕ, ◌+◌, ◌&&◌, not, Bool, true, false, if◌then◌else◌, List, [], ◌∷◌, ◌++◌, ◌-◌, length, map, filter, fold, Option, Some, None, inl, inr, refl, ap, subst, ◌∙◌}
+use Rattle.std.proofs.Common.{◌≡◌, ℕ, ◌+◌, ◌&&◌, not, Bool, true, false, if◌then◌else◌, List, [], ◌∷◌, ◌++◌, length, map, filter, fold, Option, Some, None, inl, inr, refl, ap, subst, ◌∙◌}
 use Rattle.std.proofs.lemmas.Bool.{cond_both}
 use Rattle.std.specs.Prelude.{flat_map}
 use Rattle.std.specs.List.{AllByRecursion}
-use Rattle.node_rules.specs.Data.{Answer, BranchId, Decision, Edge, Stmt, Kind, Msg, RedoRecord, KeptRow, Place, Input}
+use Rattle.node_rules.specs.Data.{Answer, BranchId, Decision, Edge, Kind, Msg, RedoRecord, KeptRow, Place, Input}
+use Rattle.node_rules.specs.declared.work.Errand.{Errand}
 use Rattle.node_rules.specs.Data.decisions
 use Rattle.node_rules.specs.Data.kinds
 use Rattle.node_rules.specs.Data.records
@@ -17,8 +18,8 @@ use Rattle.commit_forget.specs.declared.next.Next.TheVariants as nexts
 use Rattle.node_rules.specs.Words.{same, item_at, put_item, put_by_branch}
 use Rattle.node_rules.specs.NodeState.{NodeState, Branch, TurnDraft, post_one, to_each, to_one, kept_row_id}
 use Rattle.session_tree.specs.Tree.{step as step_from}
-use Rattle.node_rules.specs.Calls.{answer_says, exec_to, with_edge, hears_reply}
-use Rattle.node_rules.specs.Statement.{ran, after_run}
+use Rattle.node_rules.specs.Calls.{answer_says, exec_to, with_edge, hears_reply, branch_ran, less_room}
+use Rattle.node_rules.specs.Statement.{ran}
 use Rattle.node_rules.specs.Prepare.{path_of, prepares, site_neighbors, sealed_record, decided_record}
 use Rattle.node_rules.specs.Commit.{acked_by, all_acked, beyond, is_neighbor, passes_commit, rollback_to, passes}
 use Rattle.reco.specs.declared.told.Told.TheVariants as tolds
@@ -26,6 +27,8 @@ use Rattle.node_rules.specs.Recovery.{Asking, asking_id, told_by, told_kind, ask
 use Rattle.node_rules.specs.Turn.{turn_of, heard, draft_of, stamped}
 use Rattle.node_rules.proofs.Steps as steps
 use Rattle.node_rules.proofs.Steps.{Step, Says, IsKept}
+use Rattle.node_rules.specs.declared.work.Errand.TheVariants as errands
+use Rattle.node_rules.specs.Names.{passed_on}
 use Rattle.run_rules.specs.Data.{Turn, Happening, Command}
 use Rattle.run_rules.specs.Data.happenings
 use Rattle.run_rules.specs.Facts.{Facts, place_at}
@@ -88,9 +91,9 @@ module _ (rows : List KeptRow) (w : Option RedoRecord) where
   answer_told x a None = tt
   answer_told x a (Some parent) = (tt, tt)
 
-  exec_told : (ss : List Session) (x : Branch) (i : ℕ) (s : Stmt) (given : ℕ) (to : Option BranchId) → Told (exec_to ss x i s given to)
-  exec_told ss x i s given None = tt
-  exec_told ss x i s given (Some to) = (tt, tt)
+  exec_told : (ss : List Session) (x : Branch) (i : ℕ) (e : Errand) (to : Option BranchId) → Told (exec_to ss x i e to)
+  exec_told ss x i e None = tt
+  exec_told ss x i e (Some to) = (tt, tt)
 
   prepares_told : (me : BranchId) (comment : List ℕ) (path : Option ℕ) (i : ℕ) (es : List Edge) → Told (prepares me comment path i es)
   prepares_told me comment path i [] = tt
@@ -165,18 +168,22 @@ untaught k s from w kept b _ may = tt
 
 module _ (p : Place) (input : Input) where
   pub step_tells : {k : NodeState} {d : TurnDraft} → Step p input k d → Told (rows_at k) d.wrote d.says
-  step_tells (steps.Begins n s call rows fit none step) = step_tells step
-  step_tells (steps.Pends n l given call has live code step) = step_tells step
+  step_tells (steps.Begins n s read_at call begins fit none step) = step_tells step
+  step_tells (steps.Counts_call n s call counts step) = step_tells step
+  step_tells (steps.Goes_back x step goes next) = step_tells next
+  step_tells (steps.Pends n l given call has live code writer step) = step_tells step
   step_tells (steps.Lets_reads_go l comment site_below live begins step) = step_tells step
   step_tells (steps.Counts_ack {k = k} {d = d} s from kept came counts step) = all_weaker _ _ (λ x may. untaught k s from d.wrote kept x.from x.kind may) d.says (step_tells step)
   step_tells (steps.Sends {k = k} says why) = said k input why
-  step_tells (steps.Runs {k = k} x s given t asked way) = answer_told (rows_at k) None (record x { live = after_run x.live (ran p k x.live.me s t) }) _ x.live.parent
+  step_tells (steps.Runs {k = k} x s given t asked way) = answer_told (rows_at k) None (branch_ran k.sessions x t (ran p k x.live.me s t)) _ x.live.parent
   step_tells (steps.Goes_nowhere {k = k} x s given r asked way) = answer_told (rows_at k) None x _ x.live.parent
-  step_tells (steps.Calls {k = k} x s given i table asked way) = exec_told (rows_at k) None k.sessions x i _ given (peer_of x.live i)
+  step_tells (steps.Calls {k = k} x s given i table asked way) = exec_told (rows_at k) None k.sessions x i (errands.Statement (passed_on s table) given) (peer_of x.live i)
   step_tells (steps.Opens x s given node link table asked way) = (tt, tt)
-  step_tells (steps.Goes_on {k = k} x from strength g link opened) = exec_told (rows_at k) None k.sessions (with_edge x (new_edge from link strength)) (length x.live.edges + 1) g.statement (g.room - 1) _
+  step_tells (steps.Goes_on {k = k} x from strength g link opened) = exec_told (rows_at k) None k.sessions (with_edge x (new_edge from link strength)) (length x.live.edges + 1) (less_room g.errand) _
+  step_tells (steps.Backs {k = k} x step from i calls next) = exec_told (rows_at k) None k.sessions x i (errands.GoBack step) (peer_of x.live i)
+  step_tells (steps.Is_back {k = k} x step from calls none) = answer_told (rows_at k) None x _ x.live.parent
   step_tells (steps.Hears_reply {k = k} x weight count a i e answered) = answer_told (rows_at k) None (hears_reply x i weight count e) _ x.live.parent
-  step_tells (steps.Opens_branch to parent edge root depth came new) = (tt, tt)
+  step_tells (steps.Opens_branch to parent edge root depth read_at came new) = (tt, tt)
   step_tells (steps.Acts {k = k} l site_below acts.AskDown why) = prepares_told (rows_at k) None l.me l.comment (path_of site_below (step_from l)) 1 l.edges
   step_tells (steps.Acts {k = k} l site_below acts.SayReadOnly why) = one_told (rows_at k) None l.me kinds.ReadOnly l.parent tt
   step_tells (steps.Acts {k = k} l site_below acts.SayReady why) = one_told (rows_at k) None l.me kinds.Ready l.parent tt
@@ -193,7 +200,7 @@ module _ (p : Place) (input : Input) where
   step_tells (steps.Does {k = k} s from nexts.Forget kept why) = each_told (rows_at k) (Some (records.Forgot s.me)) s.me kinds.Forgotten (map (λ b. b.branch) (beyond s)) tt
   step_tells (steps.Does s from nexts.SayForgotten kept why) = (tt, tt)
   step_tells (steps.Does s from nexts.SayAck kept why) = (tt, tt)
-  step_tells (steps.Rolls_back {k = k} n x call has live) = each_told (rows_at k) None x.live.me kinds.Rollback (children_of x.live) tt
+  step_tells (steps.Leaves {k = k} n s d x call ends has live) = each_told (rows_at k) None x.live.me kinds.Rollback (children_of x.live) tt
   step_tells (steps.Gives_up_commit {k = k} n b (Some l) gives has pending live) = each_told (rows_at k) None l.me kinds.Rollback (children_of l) tt
   step_tells _ = tt
 

@@ -72,9 +72,9 @@ module _ (B C : Born → Type 0) (each : (x : Born) → B x → C x) where
   node_wider (Some k) is = names_wider k is
 
   pub goes_wider : (from to : BranchId) (kind : Kind) → GoesSo B from to kind → GoesSo C from to kind
-  goes_wider from to (kinds.Open edge root depth) is = (is.0, each is.0 is.1, is.2, is.3, is.4)
+  goes_wider from to (kinds.Open edge root depth read_at) is = (is.0, each is.0 is.1, is.2, is.3, is.4)
   goes_wider from to (kinds.Opened edge strength) is = child_at_wider from to edge is
-  goes_wider from to (kinds.Exec call given advice s) is = child_wider to from is
+  goes_wider from to (kinds.Exec call task) is = child_wider to from is
   goes_wider from to (kinds.Reply call weight count a) is = child_wider from to is
   goes_wider from to (kinds.Prepare site_below comment) is = child_wider to from is
   goes_wider from to kinds.Prepared is = child_wider from to is

@@ -101,9 +101,9 @@ RecordNames B _ = Unit {0}
 -- An Open tells its sender's root and the depth below it. Opened comes from the child that began over that edge. Exec, Prepare,
 -- CommitPoint and Rollback go to a child, Reply and answers to Prepare to the parent, all others between neighbours.
 abbrev pub GoesSo : (Born → Type 0) → BranchId → BranchId → Kind → Type 0
-GoesSo B from to (kinds.Open edge root depth) = (x : Born) × B x × (x.me ≡ from) × (x.root ≡ root) × (x.depth + 1 ≡ depth)
+GoesSo B from to (kinds.Open edge root depth read_at) = (x : Born) × B x × (x.me ≡ from) × (x.root ≡ root) × (x.depth + 1 ≡ depth)
 GoesSo B from to (kinds.Opened edge strength) = IsChildAt B from to edge
-GoesSo B from to (kinds.Exec call given advice s) = IsChild B to from
+GoesSo B from to (kinds.Exec call task) = IsChild B to from
 GoesSo B from to (kinds.Reply call weight count a) = IsChild B from to
 GoesSo B from to (kinds.Prepare site_below comment) = IsChild B to from
 GoesSo B from to kinds.Prepared = IsChild B from to

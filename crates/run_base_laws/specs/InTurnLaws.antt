@@ -30,7 +30,7 @@ said_in f = map packet_post f.net.packets
 
 -- the call number of an Exec, and 0 of any other message
 abbrev pub exec_number : Kind → ℕ
-exec_number (kinds.Exec call given advice s) = call
+exec_number (kinds.Exec call task) = call
 exec_number _ = 0
 
 -- the call number of a Reply, and 0 of any other message

@@ -1,14 +1,15 @@
 -- Laws of every turn of a lawful run, and of what its nodes keep: their clocks, their locks, their records, the ids that
 -- they give out, and the commits that they tell.
-use Rattle.std.specs.Prelude.{◌≡◌, ℕ, ◌+◌, ◌<◌, ◌≤◌, ◌||◌, ◌⊎◌, Bool, true, false, if◌then◌else◌, List, [], ◌∷◌, ◌++◌, map, option_to_list, Option, Some, None, IfSome}
+use Rattle.std.specs.Prelude.{◌≡◌, ℕ, ◌+◌, ◌<◌, ◌≤◌, ◌||◌, ◌⊎◌, Bool, true, if◌then◌else◌, List, [], ◌∷◌, ◌++◌, option_to_list, Option, Some, None, IfSome}
 use Rattle.std.specs.List.{AllByRecursion, list_any}
-use Rattle.node_rules.specs.Data.{BranchId, Kind, Kid, KeptRow, RedoRecord, Place}
+use Rattle.node_rules.specs.Data.{BranchId, Kind, KeptRow, RedoRecord, Place}
 use Rattle.node_rules.specs.Data.decisions
 use Rattle.node_rules.specs.Data.kinds
 use Rattle.node_rules.specs.Data.records
 use Rattle.node_rules.specs.Words.{is_item_of}
-use Rattle.node_rules.specs.NodeState.{NodeState, Stored, live_id, doubt_id, kept_row_id}
+use Rattle.node_rules.specs.NodeState.{NodeState, live_id, doubt_id, kept_row_id}
 use Rattle.node_rules.specs.Records.{nothing_stored, stored_by}
+pub use Rattle.node_rules.specs.Records.{unacked_kid, unacked_row, unacked}
 use Rattle.node_rules.specs.Turn.{turn_of}
 use Rattle.run_rules.specs.Data.{Command, Happening}
 use Rattle.run_rules.specs.Data.happenings
@@ -61,18 +62,6 @@ abbrev pub HoldersAreThere : Type 0
 HoldersAreThere = OfEachNode (λ p rs k. AllByRecursion (λ l. may_hold k l.branch ≡ true) k.locks)
 
 -- ---- the records
-
--- a child whose Ack was not heard
-abbrev pub unacked_kid : Kid → Kid
-unacked_kid c = record c { acked = false }
-
--- a row with no Ack heard
-abbrev pub unacked_row : KeptRow → KeptRow
-unacked_row s = record s { parent_acked = false; children = map unacked_kid s.children }
-
--- what is stored, with no Ack heard
-abbrev pub unacked : Stored → Stored
-unacked s = record s { durable = record s.durable { kept = map unacked_row s.durable.kept } }
 
 -- what a node stores is what its records make of nothing, apart from the Acks that it heard
 abbrev pub RecordsAreKept : Type 0

@@ -1,12 +1,13 @@
 -- Each step of a node leaves working branches that asked nobody, and others that were asked: only working branches call.
-use Rattle.std.proofs.Common.{◌∷◌, ◌≡◌, ◌≢◌, ℕ, suc, ◌+◌, ◌-◌, ◌<◌, ◌≤◌, ◌&&◌, ◌⊎◌, Bool, true, false, List, [], ◌++◌, map, length, Option, Some, None, inl, inr, refl, sym, subst, ◌∙◌, arith}
+use Rattle.std.proofs.Common.{◌∷◌, ◌≡◌, ◌≢◌, ℕ, suc, ◌+◌, ◌<◌, ◌≤◌, ◌&&◌, ◌⊎◌, Bool, true, false, List, [], ◌++◌, map, length, Option, Some, None, inl, inr, refl, sym, subst, ◌∙◌, arith}
 use Rattle.tran_ids.proofs.BranchLemmas.{equal_from_same}
 use Rattle.tran_ids.proofs.ListedLemmas.{item_is, put_found}
 use Rattle.link_session.proofs.OnceLemmas.{run_is_new}
 use Rattle.commit_forget.specs.declared.next.Next.TheVariants as nexts
 use Rattle.session_tree.specs.Live.{children_of, peer_of, new_edge, next_edge, fresh_live}
 use Rattle.session_tree.specs.Tree.{step as step_from}
-use Rattle.node_rules.specs.Data.{Stmt, Answer, BranchId, Live, Act, Post, Place, Input}
+use Rattle.node_rules.specs.Data.{Stmt, Answer, BranchId, Live, Act, Post, Place, Input, Task}
+use Rattle.node_rules.specs.declared.work.Errand.{Errand}
 use Rattle.node_rules.specs.Data.acts
 use Rattle.node_rules.specs.Data.kinds
 use Rattle.node_rules.specs.Data.phases
@@ -20,14 +21,14 @@ use Rattle.node_rules.specs.Inputs.{Came, IsCall}
 use Rattle.node_rules.specs.NodeState.{NodeState, Branch, TurnDraft, live_id, work_id, live_at, branch_at, post, to_one, to_each, no_work}
 use Rattle.node_rules.specs.Sessions.{session_at}
 use Rattle.node_rules.specs.Names.{passed_on}
-use Rattle.node_rules.specs.Statement.{ran, after_run}
-use Rattle.node_rules.specs.Calls.{with_answer, answer_says, called, exec_to, next_child, strength_of, with_edge, waits_for_opened, hears_reply, nobody_at}
-use Rattle.node_rules.specs.Client.{new_root, fresh_root, gives_up}
+use Rattle.node_rules.specs.Statement.{ran}
+use Rattle.node_rules.specs.Calls.{with_answer, answer_says, called, exec_to, next_child, strength_of, with_edge, waits_for_opened, hears_reply, nobody_at, branch_ran, less_room, admit}
+use Rattle.node_rules.specs.Client.{new_root, fresh_root, gives_up, marked}
 use Rattle.node_rules.specs.Prepare.{path_of, prepares, site_neighbors, with_prepare_sent, ready, act_turn}
 use Rattle.node_rules.specs.Commit.{beyond}
 use Rattle.node_rules.specs.Recovery.{kept_told}
 use Rattle.node_rules.proofs.Steps as steps
-use Rattle.node_rules.proofs.Steps.{Step, Asked, Acting, Collects, Says}
+use Rattle.node_rules.proofs.Steps.{Step, Asked, Acting, Collects, Says, Goes_to, Calls_back}
 use Rattle.node_rules.proofs.StandLemmas.{live_so}
 use Rattle.run_rules.specs.Births.{Born}
 use Rattle.run_base_laws.specs.InTurnLaws.{newest_exec, newest_reply, call_at}
@@ -37,9 +38,13 @@ use Rattle.run_rules.proofs.ListLemmas.{all_append, map_after}
 use Rattle.node_rules.proofs.StepLemmas.{acting_live}
 use Rattle.node_rules.specs.LiveBranches.{EachLive, works_of}
 use Rattle.node_rules.proofs.LiveLemmas.{each_put, each_changed, each_left, each_begun, each_same, branch_parts, work_is}
-use Rattle.run_base_laws.proofs.RootLemmas.{SessionsFit, root_alone, pends_so, begun_so}
+use Rattle.node_rules.specs.declared.work.Errand.TheVariants as errands
+use Rattle.node_rules.specs.Data.tasks
+use Rattle.node_rules.specs.Data.admits
+use Rattle.node_rules.specs.Marks.{node_back}
+use Rattle.run_base_laws.proofs.RootLemmas.{SessionsFit, root_alone, pends_so, begun_so, counted_so, back_so}
 use Rattle.run_base_laws.proofs.NeighborLemmas.{News}
-use Rattle.run_base_laws.proofs.NeighborStepLemmas.{begun_news, pends_news, lets_news, acked_news}
+use Rattle.run_base_laws.proofs.NeighborStepLemmas.{begun_news, pends_news, lets_news, acked_news, counted_news, back_news}
 use Rattle.run_base_laws.proofs.KindSayLemmas.{AllSay, one_says, each_says, prepares_say, told_says, passes_say, askings_say}
 use Rattle.run_base_laws.proofs.CallTurnLemmas.{one_exec, if_zero, silent_other, exec_more, reply_more}
 use Rattle.run_base_laws.proofs.InTurnLemmas as turns
@@ -106,22 +111,39 @@ module _ (E : BranchId → Option ℕ) (A : BranchId → Option BranchId) (G Her
       live_ice : (l : Live) → live_at k l.me ≡ Some l → Ice l (works_of k.works l.me)
       live_ice l live = ice.each l.me l live
 
-      -- only a working branch is asked for a statement
-      pub asked_works : {x : Branch} {s : Stmt} {given : ℕ} → Asked k input x s given → x.live.phase ≡ phases.Working
-      asked_works (steps.By_call n x s call rows has code live) =
+      -- a root is working where its session calls
+      pub calls_working : (n : ℕ) (x : Branch) (s : Stmt) → IsCall input n s → (session_at k.sessions n).root ≡ Some x.live.me → branch_at k x.live.me ≡ Some x → x.live.phase ≡ phases.Working
+      calls_working n x s call has live =
           (found_ice x live).calls (root_alone k ss n x.live.me has x.live (live_so k x.live.me x live)) s (subst (λ m. IsCall input m s) (sym (ss.roots.each n x.live.me has)) call)
-      asked_works (steps.By_exec x from call given advice s came live runs) = elim (working_or x.live.phase) [
+
+      -- and a branch where it takes a call
+      takes_working : (x : Branch) (from : BranchId) (call : ℕ) (task : Task) → Came input from x.live.me (kinds.Exec call task) → branch_at k x.live.me ≡ Some x → admit x.work.came call ≡ admits.Run → x.live.phase ≡ phases.Working
+      takes_working x from call task came live runs = elim (working_or x.live.phase) [
         | inl working ↦ working
         | inr other ↦ (let was : Begun x.live x.work = found_begun x live in
-            let said_so = received.exec from x.live.me call given advice s came in
+            let said_so = received.exec from x.live.me call task came in
             let parent : x.live.parent ≡ Some from = was.above from said_so.0 in
             let low : newest_exec said from x.live.me ≤ newest_reply said x.live.me = prepared.all from x.live.me ((found_ice x live).frozen.asked other from parent) in
             let new : x.work.came.last_call < call = run_is_new x.work.came call runs in
             absurd (omega (arith, new, said_so.1, low, was.turn.takes.told)))
       ]
 
+      -- only a working branch is asked for a statement
+      pub asked_works : {x : Branch} {s : Stmt} {given : ℕ} → Asked k input x s given → x.live.phase ≡ phases.Working
+      asked_works (steps.By_call n x s call rows has code live may) = calls_working n x s call has live
+      asked_works (steps.By_exec x from call given advice s came live runs) = takes_working x from call (tasks.Run given advice s) came live runs
+
+      -- and only a working branch goes back
+      pub goes_working : {x : Branch} {step : ℕ} → Goes_to k input x step → x.live.phase ≡ phases.Working
+      goes_working (steps.By_rollback_to n x name step call has code live set) = calls_working n x (stmts.RollbackTo name) call has live
+      goes_working (steps.By_back x from call keep came live runs) = takes_working x from call (tasks.GoBack keep) came live runs
+
+      goes_frozen : {x : Branch} {step : ℕ} → Goes_to k input x step → Frozen said x.live
+      goes_frozen (steps.By_rollback_to n x name step call has code live set) = (found_ice x live).frozen
+      goes_frozen (steps.By_back x from call keep came live runs) = (found_ice x live).frozen
+
       asked_frozen_so : {x : Branch} {s : Stmt} {given : ℕ} → Asked k input x s given → Frozen said x.live
-      asked_frozen_so (steps.By_call n x s call rows has code live) = (found_ice x live).frozen
+      asked_frozen_so (steps.By_call n x s call rows has code live may) = (found_ice x live).frozen
       asked_frozen_so (steps.By_exec x from call given advice s came live runs) = (found_ice x live).frozen
 
       -- only a working branch waits
@@ -176,28 +198,28 @@ module _ (E : BranchId → Option ℕ) (A : BranchId → Option BranchId) (G Her
           → EachLive (Then (answer_says x a x.live.parent)) (put_item live_id k.lives x.live) (put_item work_id k.works (with_answer x a).work) × Asks (answer_says x a x.live.parent)
       answers x a mine frozen = put (answer_says x a x.live.parent) x.live (with_answer x a).work mine (answer_plain x a x.live.parent) (λ p c. inl (answer_execs x a x.live.parent p c)) frozen
 
-      exec_plain : (ss : List Session) (x : Branch) (i : ℕ) (s : Stmt) (given : ℕ) (o : Option BranchId) → AllSay IsPlain (exec_to ss x i s given o)
-      exec_plain ss x i s given None = tt
-      exec_plain ss x i s given (Some c) = (refl, tt)
+      exec_plain : (ss : List Session) (x : Branch) (i : ℕ) (e : Errand) (o : Option BranchId) → AllSay IsPlain (exec_to ss x i e o)
+      exec_plain ss x i e None = tt
+      exec_plain ss x i e (Some c) = (refl, tt)
 
-      exec_other : (ss : List Session) (x : Branch) (i : ℕ) (s : Stmt) (given : ℕ) (o : Option BranchId) (p c : BranchId) → same x.live.me p ≡ false → newest_exec (exec_to ss x i s given o) p c ≡ 0
-      exec_other ss x i s given None p c other = refl
-      exec_other ss x i s given (Some d) p c other = (silent_other x.live.me d p (turns.exec_kind E A G Here input said received k now ss x i s given) other).calls c
+      exec_other : (ss : List Session) (x : Branch) (i : ℕ) (e : Errand) (o : Option BranchId) (p c : BranchId) → same x.live.me p ≡ false → newest_exec (exec_to ss x i e o) p c ≡ 0
+      exec_other ss x i e None p c other = refl
+      exec_other ss x i e (Some d) p c other = (silent_other x.live.me d p (turns.exec_kind E A G Here input said received k now ss x i e) other).calls c
 
-      calls : (x : Branch) (i : ℕ) (s : Stmt) (given : ℕ) (ss : List Session) → x.work.branch ≡ x.live.me → Frozen said x.live → x.live.phase ≡ phases.Working
-          → EachLive (Then (exec_to ss x i s given (peer_of x.live i))) (put_item live_id k.lives x.live) (put_item work_id k.works (called x i s given).work) × Asks (exec_to ss x i s given (peer_of x.live i))
-      calls x i s given ss mine frozen working =
-          put (exec_to ss x i s given (peer_of x.live i)) x.live (called x i s given).work mine (exec_plain ss x i s given (peer_of x.live i)) (λ p c. by p c (same x.live.me p) refl) frozen
+      calls : (x : Branch) (i : ℕ) (e : Errand) (ss : List Session) → x.work.branch ≡ x.live.me → Frozen said x.live → x.live.phase ≡ phases.Working
+          → EachLive (Then (exec_to ss x i e (peer_of x.live i))) (put_item live_id k.lives x.live) (put_item work_id k.works (called ss x i e).work) × Asks (exec_to ss x i e (peer_of x.live i))
+      calls x i e ss mine frozen working =
+          put (exec_to ss x i e (peer_of x.live i)) x.live (called ss x i e).work mine (exec_plain ss x i e (peer_of x.live i)) (λ p c. by p c (same x.live.me p) refl) frozen
         where
-          by : (p c : BranchId) (q : Bool) → same x.live.me p ≡ q → (newest_exec (exec_to ss x i s given (peer_of x.live i)) p c ≡ 0) ⊎ (was_asked said p c ≡ false)
+          by : (p c : BranchId) (q : Bool) → same x.live.me p ≡ q → (newest_exec (exec_to ss x i e (peer_of x.live i)) p c ≡ 0) ⊎ (was_asked said p c ≡ false)
           by p c true is = inr (subst (λ b. was_asked said b c ≡ false) (equal_from_same x.live.me p is) (frozen.working working c))
-          by p c false is = inl (exec_other ss x i s given (peer_of x.live i) p c is)
+          by p c false is = inl (exec_other ss x i e (peer_of x.live i) p c is)
 
       -- ---- acts of the prepare phase
 
       -- a branch that begins its collect below a root was asked by its parent
       collects_asked : {comment : List ℕ} {site_below : Bool} (l : Live) → live_at k l.me ≡ Some l → Collects k input l comment site_below → (q : BranchId) → l.parent ≡ Some q → was_asked said q l.me ≡ true
-      collects_asked l live (steps.By_commit n given call has free is) q above = let none : l.parent ≡ None = root_alone k ss n l.me has l live in absurd (cc (none, above))
+      collects_asked l live (steps.By_commit n given call has free writer is) q above = let none : l.parent ≡ None = root_alone k ss n l.me has l live in absurd (cc (none, above))
       collects_asked {comment = comment} l live (steps.By_prepare from site_below came working) q above =
           let so = prepared.came from l.me site_below comment came in
           let parent : l.parent ≡ Some from = (live_begun l live).above from so.0 in
@@ -216,7 +238,7 @@ module _ (E : BranchId → Option ℕ) (A : BranchId → Option BranchId) (G Her
       -- a branch that begins its collect has its children's Replies
       module _ (l : Live) (live : live_at k l.me ≡ Some l) (may : l.parent ≡ None → (session_at k.sessions l.me.session).code ≡ None → G l.me) where
         collects_rests : {comment : List ℕ} {site_below : Bool} → Collects k input l comment site_below → ((works_of k.works l.me).going ≡ None) × turns.Goes E A G Here input said l
-        collects_rests (steps.By_commit n given call has free is) =
+        collects_rests (steps.By_commit n given call has free writer is) =
             let none : l.parent ≡ None = root_alone k ss n l.me has l live in
             let at : l.me.session ≡ n = ss.roots.each n l.me has in (
               (live_begun l live).idle none (stmts.Commit given) (subst (λ m. IsCall input m (stmts.Commit given)) (sym at) call),
@@ -244,7 +266,7 @@ module _ (E : BranchId → Option ℕ) (A : BranchId → Option BranchId) (G Her
 
       -- a branch asks its children once
       asks_first : {l : Live} {site_below : Bool} → Acting k input l site_below acts.AskDown → (c : BranchId) → was_asked said l.me c ≡ false
-      asks_first (steps.Asks_down l comment site_below e es live (steps.By_commit n given call has free is) has_edges) c =
+      asks_first (steps.Asks_down l comment site_below e es live (steps.By_commit n given call has free writer is) has_edges) c =
           (live_ice l live).frozen.working ((live_ice l live).calls (root_alone k ss n l.me has l live) (stmts.Commit given) (subst (λ m. IsCall input m (stmts.Commit given)) (sym (ss.roots.each n l.me has)) call)) c
       asks_first (steps.Asks_down l comment site_below e es live (steps.By_prepare from _ came working) has_edges) c = (live_ice l live).frozen.working working c
       asks_first (steps.Has_no_children l comment site_below _ live begins none collected) c = absurd (no_ask collected)
@@ -290,11 +312,22 @@ module _ (E : BranchId → Option ℕ) (A : BranchId → Option BranchId) (G Her
           ),
         )
 
+    -- a branch whose children are to go back is working
+    pub calling_working : (k : NodeState) → SessionsFit k → Nodes k → Ices k → {x : Branch} {step from : ℕ} → Calls_back k input x step from → x.live.phase ≡ phases.Working
+    calling_working k ss now ice (steps.Has_gone j x step goes is) =
+        let fits : SessionsFit (node_back j x step) = subst SessionsFit is ss in goes_working j (record { roots = fits.roots; above = fits.above }) (subst Nodes is now) (subst Ices is ice) goes
+    calling_working k ss now ice (steps.Has_heard x weight count a i e g step answered going errand done) = waits_working k ss now ice x g answered.live going
+
+    calling_frozen : (k : NodeState) → SessionsFit k → Nodes k → Ices k → {x : Branch} {step from : ℕ} → Calls_back k input x step from → Frozen said x.live
+    calling_frozen k ss now ice (steps.Has_gone j x step goes is) =
+        let fits : SessionsFit (node_back j x step) = subst SessionsFit is ss in goes_frozen j (record { roots = fits.roots; above = fits.above }) (subst Nodes is now) (subst Ices is ice) goes
+    calling_frozen k ss now ice (steps.Has_heard x weight count a i e g step answered going errand done) = (found_ice k ss now ice x answered.live).frozen
+
     -- ---- every step
 
     says_freeze : (k : NodeState) (ss : SessionsFit k) (now : Nodes k) (ice : Ices k) {says : List Post} → Says k input says → EachLive (Then says) k.lives k.works × Asks says
-    says_freeze k ss now ice (steps.Gone_replies to from call given advice s came gone) = replies_freeze k ss now ice _ (refl, tt) (λ p c. one_exec to from p c (drafts.refused_kind call) ∙ if_zero (same to p && same from c) 0 refl)
-    says_freeze k ss now ice (steps.Replies_again x to call given advice s t came live last kept) =
+    says_freeze k ss now ice (steps.Gone_replies to from call task came gone) = replies_freeze k ss now ice _ (refl, tt) (λ p c. one_exec to from p c (drafts.refused_kind call) ∙ if_zero (same to p && same from c) 0 refl)
+    says_freeze k ss now ice (steps.Replies_again x to call task t came live last kept) =
         replies_freeze k ss now ice _ (refl, tt) (λ p c. one_exec x.live.me to p c (drafts.again_kind x t) ∙ if_zero (same x.live.me p && same to c) 0 refl)
     says_freeze k ss now ice (steps.Tells s from came kept) = quiet k ss now ice _ (told_says IsPlain plain_decisions (kept_told s from), tt) (told_says IsDumb dumb_decisions (kept_told s from), tt)
     says_freeze k ss now ice (steps.Recovers reco) = quiet k ss now ice _ (askings_say IsPlain plain_decisions k) (askings_say IsDumb dumb_decisions k)
@@ -302,7 +335,7 @@ module _ (E : BranchId → Option ℕ) (A : BranchId → Option BranchId) (G Her
     says_freeze k ss now ice (steps.Gone_rolls_back to from came gone) = quiet k ss now ice _ (refl, tt) ((refl, refl), tt)
     says_freeze k ss now ice (steps.Gone_acks to from n came gone) = quiet k ss now ice _ (refl, tt) ((refl, refl), tt)
     says_freeze k ss now ice (steps.Gone_forgets to from came gone) = quiet k ss now ice _ (refl, tt) ((refl, refl), tt)
-    says_freeze k ss now ice (steps.Opened_again to parent edge root depth o came found) = quiet k ss now ice _ (refl, tt) ((refl, refl), tt)
+    says_freeze k ss now ice (steps.Opened_again to parent edge root depth read_at o came found) = quiet k ss now ice _ (refl, tt) ((refl, refl), tt)
     says_freeze k ss now ice (steps.Prepared_again s from site_below comment came kept again) = quiet k ss now ice _ (refl, tt) ((refl, refl), tt)
     says_freeze k ss now ice (steps.Knows_commit s from n came kept knows) = quiet k ss now ice _ (refl, tt) ((refl, refl), tt)
     says_freeze k ss now ice (steps.Knows_rollback s from came kept knows) = quiet k ss now ice _ (refl, tt) ((refl, refl), tt)
@@ -341,32 +374,38 @@ module _ (E : BranchId → Option ℕ) (A : BranchId → Option BranchId) (G Her
 
     module _ (p : Place) (place : (b : BranchId) → b.node ≡ p.number → Here b) where
       pub freezes_on : {k : NodeState} {d : TurnDraft} → Step p input k d → drafts.Granted E A G Here input said received d → SessionsFit k → News Unasking p input k → Nodes k → Ices k → Freezes d
-      freezes_on (steps.Begins {k = k} n s call rows range none step) granted ss news now ice =
-          let root = news.root n s call rows none in
-          freezes_on step granted (begun_so k ss p n) (begun_news Unasking p input k n news)
-          (drafts.begins_so E A G Here input said received k now (fresh_root p k (new_root p k n)) refl (place (new_root p k n) refl) root.0)
-          (each_begun Ice Ice k.lives k.works ice (fresh_root p k (new_root p k n)) (begun_ice _ (no_work (new_root p k n)) refl refl root.1) (λ y v live any is. is))
-      freezes_on (steps.Pends {k = k} n l given call has live code step) granted ss news now ice = freezes_on step granted (pends_so k ss n pending.Commit) (pends_news Unasking p input k n given call news) now ice
+      freezes_on (steps.Begins {k = k} n s read_at call begins range none step) granted ss news now ice =
+          let root = news.root n s read_at call begins none in
+          freezes_on step granted (begun_so k ss p n read_at) (begun_news Unasking p input k n read_at news)
+          (drafts.begins_so E A G Here input said received k now (fresh_root p k (new_root p k n) read_at) refl (place (new_root p k n) refl) root.0)
+          (each_begun Ice Ice k.lives k.works ice (fresh_root p k (new_root p k n) read_at) (begun_ice _ (no_work (new_root p k n)) refl refl root.1) (λ y v live any is. is))
+      freezes_on (steps.Counts_call {k = k} n s call counts step) granted ss news now ice = freezes_on step granted (counted_so k ss n) (counted_news Unasking p input k n news) now ice
+      freezes_on (steps.Goes_back {k = k} x step goes next) granted ss news now ice = freezes_on next granted (back_so k ss x step) (back_news Unasking p input k x step news) now ice
+      freezes_on (steps.Pends {k = k} n l given call has live code writer step) granted ss news now ice = freezes_on step granted (pends_so k ss n pending.Commit) (pends_news Unasking p input k n given call news) now ice
       freezes_on (steps.Lets_reads_go {k = k} l comment site_below live begins step) granted ss news now ice = freezes_on step granted (record { roots = ss.roots; above = ss.above }) (lets_news Unasking p input k l.me news) now ice
       freezes_on (steps.Counts_ack {k = k} s from kept came counts step) granted ss news now ice = freezes_on step granted (record { roots = ss.roots; above = ss.above }) (acked_news Unasking p input k _ news) now ice
       freezes_on (steps.Sends {k = k} posts why) granted ss news now ice = says_freeze k ss now ice why
       freezes_on (steps.Runs {k = k} x s given t asked way) granted ss news now ice =
-          answers k ss now ice (record x { live = after_run x.live (ran p k x.live.me s t) }) _ (drafts.asked_mine E A G Here input said received k asked) (asked_frozen_so k ss now ice asked)
+          answers k ss now ice (branch_ran k.sessions x t (ran p k x.live.me s t)) _ (drafts.asked_mine E A G Here input said received k asked) (asked_frozen_so k ss now ice asked)
       freezes_on (steps.Goes_nowhere {k = k} x s given r asked way) granted ss news now ice = answers k ss now ice x _ (drafts.asked_mine E A G Here input said received k asked) (asked_frozen_so k ss now ice asked)
       freezes_on (steps.Calls {k = k} x s given i table asked way) granted ss news now ice =
-          calls k ss now ice x i (passed_on s table) given k.sessions (drafts.asked_mine E A G Here input said received k asked) (asked_frozen_so k ss now ice asked) (asked_works k ss now ice asked)
+          calls k ss now ice x i (errands.Statement (passed_on s table) given) k.sessions (drafts.asked_mine E A G Here input said received k asked) (asked_frozen_so k ss now ice asked) (asked_works k ss now ice asked)
       freezes_on (steps.Opens {k = k} x s given node link table asked way) granted ss news now ice =
-          let says : List Post = post x.live.me (nobody_at node) (kinds.Open (next_edge x.live) x.live.root (x.live.depth + 1)) in
+          let says : List Post = post x.live.me (nobody_at node) (kinds.Open (next_edge x.live) x.live.root (x.live.depth + 1) x.live.read_at) in
           put k ss now ice says x.live (waits_for_opened x link (passed_on s table) given).work (drafts.asked_mine E A G Here input said received k asked) (refl, tt) (λ p c. inl (dumb_execs p c says ((refl, refl), tt))) (asked_frozen_so k ss now ice asked)
       freezes_on (steps.Goes_on {k = k} x from strength g link opened) granted ss news now ice =
-          calls k ss now ice (with_edge x (new_edge from link strength)) (length x.live.edges + 1) g.statement (g.room - 1) k.sessions (work_is k x.live.me x opened.live)
+          calls k ss now ice (with_edge x (new_edge from link strength)) (length x.live.edges + 1) (less_room g.errand) k.sessions (work_is k x.live.me x opened.live)
           (found_ice k ss now ice x opened.live).frozen (waits_working k ss now ice x g opened.live opened.going)
       freezes_on (steps.Hears_reply {k = k} x weight count a i e answered) granted ss news now ice =
           answers k ss now ice (hears_reply x i weight count e) _ (work_is k x.live.me x answered.live) (found_ice k ss now ice x answered.live).frozen
-      freezes_on (steps.Opens_branch {k = k} to parent edge root depth came new) granted ss news now ice =
+      freezes_on (steps.Backs {k = k} x step from i calling next) granted ss news now ice =
+          calls k ss now ice x i (errands.GoBack step) k.sessions (drafts.calling_mine E A G Here input said received k calling) (calling_frozen k ss now ice calling) (calling_working k ss now ice calling)
+      freezes_on (steps.Is_back {k = k} x step from calling none) granted ss news now ice =
+          answers k ss now ice x _ (drafts.calling_mine E A G Here input said received k calling) (calling_frozen k ss now ice calling)
+      freezes_on (steps.Opens_branch {k = k} to parent edge root depth read_at came new) granted ss news now ice =
           let says : List Post = post (next_child p k) parent (kinds.Opened edge (strength_of p k)) in
-          let l : Live = fresh_live (next_child p k) root (Some parent) depth (strength_of p k) in (
-            each_begun Ice (Then says) k.lives k.works ice l (stay k ss now ice says (refl, tt) l (no_work (next_child p k)) (begun_ice l (no_work (next_child p k)) refl refl (news.child to parent edge root depth came new).1))
+          let l : Live = fresh_live (next_child p k) root (Some parent) depth (strength_of p k) read_at in (
+            each_begun Ice (Then says) k.lives k.works ice l (stay k ss now ice says (refl, tt) l (no_work (next_child p k)) (begun_ice l (no_work (next_child p k)) refl refl (news.child to parent edge root depth read_at came new).1))
                 (λ y v live any is. stay k ss now ice says (refl, tt) y v is),
             plain_dumb k ss now ice says (refl, tt) ((refl, refl), tt),
           )
@@ -380,7 +419,9 @@ module _ (E : BranchId → Option ℕ) (A : BranchId → Option BranchId) (G Her
           quiet k ss now ice _ (each_says IsPlain s.me kinds.Forgotten (map (λ b. b.branch) (beyond s)) refl) (each_says IsDumb s.me kinds.Forgotten (map (λ b. b.branch) (beyond s)) (refl, refl))
       freezes_on (steps.Does {k = k} s from nexts.SayForgotten kept why) granted ss news now ice = quiet k ss now ice _ (refl, tt) ((refl, refl), tt)
       freezes_on (steps.Does {k = k} s from nexts.SayAck kept why) granted ss news now ice = quiet k ss now ice _ (refl, tt) ((refl, refl), tt)
-      freezes_on (steps.Rolls_back {k = k} n x call has live) granted ss news now ice = left k ss now ice x.live.me _ (rolled x.live).0 (rolled x.live).1
+      freezes_on (steps.Leaves {k = k} n s d x call ends has live) granted ss news now ice = left k ss now ice x.live.me _ (rolled x.live).0 (rolled x.live).1
+      freezes_on (steps.Sets_savepoint {k = k} n x name call has code live) granted ss news now ice =
+          put k ss now ice [] x.live (marked k.sessions x name).work (work_is k x.live.me x live) tt (λ p c. inl refl) (found_ice k ss now ice x live).frozen
       freezes_on (steps.Gives_up {k = k} n x gives has calls live) granted ss news now ice =
           put k ss now ice [] x.live (gives_up x).work (work_is k x.live.me x live) tt (λ p c. inl refl) (found_ice k ss now ice x live).frozen
       freezes_on (steps.Gives_up_commit {k = k} n b (Some l) gives has calls live) granted ss news now ice = left k ss now ice l.me _ (rolled l).0 (rolled l).1

@@ -7,7 +7,6 @@ use Rattle.agreement.specs.Events.{Quiet, Event, Send_vote, Send_ack, exit, Has}
 use Rattle.session_tree.specs.Live.{new_edge}
 use Rattle.node_rules.specs.Data.{BranchId, Edge, Vote, Kind, Live, KeptRow, Place, Input}
 use Rattle.node_rules.specs.Data.votes
-use Rattle.node_rules.specs.Data.acts
 use Rattle.node_rules.specs.Data.kinds
 use Rattle.node_rules.specs.Words.{same, numbered, set_numbered}
 use Rattle.node_rules.specs.Inputs.{Came}
@@ -98,10 +97,11 @@ module _ (t : List Event) (c : ℕ) (p : Place) (input : Input) (heard : (from t
     each : LiveCases p input (λ k. Unit {0}) (λ d. Unit {0}) (AnswersAre t clock)
     each = record {
       lasts = nothing_lasts p input;
-      root = λ k n s call rows free known. tt;
-      child = λ k to parent edge root depth came new known. tt;
+      root = λ k n s read_at call begins free known. tt;
+      child = λ k to parent edge root depth read_at came new known. tt;
       advised = λ l advice so. so;
       runs = λ k x s table so. so;
+      backs = λ l changed so. so;
       opens = λ k x from strength g link opened known so. all_append (EdgeIs t clock) x.live.edges (new_edge from link strength ∷ []) so (tt, tt);
       replies = λ k x weight count a i e answered so. known_edges clock x.live.edges i e _ (reply_is x answered.from answered.call i e answered.waits) refl refl so;
       acts = λ k l below a why known q all.

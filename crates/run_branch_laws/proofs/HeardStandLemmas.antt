@@ -77,6 +77,7 @@ heard_lives k (inputs.Message m) b live = live
 heard_lives k (inputs.Call n s) b live = live
 heard_lives k (inputs.GiveUp n) b live = live
 heard_lives k inputs.Reco b live = live
+heard_lives k inputs.Checkpoint b live = live
 
 module _ (places : List Place) (asked : List Command) (each : (n : ℕ) (p : Place) → numbered places n ≡ Some p → IsPlace places n p) where
   module _ (f : Facts) (t : List Event) (stand : BranchStatus places asked each f t) (now : HeardStand f t) where

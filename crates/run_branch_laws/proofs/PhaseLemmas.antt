@@ -6,7 +6,6 @@ use Rattle.std.proofs.lemmas.List.Folds.{list_any-append}
 use Rattle.node_rules.specs.Data.{BranchId, Edge, Vote, Phase, Live, Act, RedoRecord, Place, Input}
 use Rattle.node_rules.specs.Data.votes
 use Rattle.node_rules.specs.Data.phases
-use Rattle.node_rules.specs.Data.acts
 use Rattle.node_rules.specs.Data.records
 use Rattle.node_rules.specs.Words.{numbered, set_numbered}
 use Rattle.session_tree.specs.Live.{new_edge}
@@ -129,10 +128,11 @@ module _ (k : NodeState) (live_fits : (l : Live) → live_at k l.me ≡ Some l �
 each : (p : Place) (input : Input) → LiveCases p input (λ k. Unit {0}) (λ d. Unit {0}) Fits
 each p input = record {
   lasts = nothing_lasts p input;
-  root = λ k n s call rows free c. tt;
-  child = λ k to parent edge root depth came new c. tt;
+  root = λ k n s read_at call begins free c. tt;
+  child = λ k to parent edge root depth read_at came new c. tt;
   advised = λ l advice fits. fits;
   runs = λ k x s t fits. fits;
+  backs = λ l changed fits. fits;
   opens = λ k x from strength g link opened c fits. more_fits x.live.parent x.live.edges (new_edge from link strength) x.live.phase refl fits;
   replies = λ k x weight count a i e answered fits. numbered_fits x.live.parent x.live.edges i e _ x.live.phase (reply_is x answered.from answered.call i e answered.waits) refl fits;
   acts = λ k l below a why c q all. acting_fits k all why;

@@ -1,5 +1,5 @@
 -- A branch that says ReadOnly was live, and is gone without a record.
-use Rattle.std.proofs.Common.{◌≡◌, ℕ, ◌+◌, ◌-◌, ◌&&◌, ◌||◌, not, Bool, true, false, true≢false, if◌then◌else◌, List, [], ◌∷◌, map, length, is_none, Option, Some, None, refl, sym, ap, subst, ◌∙◌}
+use Rattle.std.proofs.Common.{◌≡◌, ℕ, ◌+◌, ◌&&◌, ◌||◌, not, Bool, true, false, true≢false, if◌then◌else◌, List, [], ◌∷◌, map, length, is_none, Option, Some, None, refl, sym, ap, subst, ◌∙◌}
 use Rattle.std.specs.List.{AllByRecursion, list_any}
 use Rattle.std.proofs.lemmas.Bool.{cond_both, or_left, or_right}
 use Rattle.tran_ids.proofs.BranchLemmas.{same_from_equal, equal_from_same}
@@ -10,6 +10,7 @@ use Rattle.reco.specs.declared.post.Post.{Post}
 use Rattle.session_tree.specs.Live.{children_of, peer_of, new_edge}
 use Rattle.session_tree.specs.Tree.{step as step_from}
 use Rattle.node_rules.specs.Data.{Answer, Stmt, BranchId, Decision, Edge, Kind, Msg, Live, Act, KeptRow, Place, Input}
+use Rattle.node_rules.specs.declared.work.Errand.{Errand}
 use Rattle.node_rules.specs.Data.acts
 use Rattle.node_rules.specs.Data.kinds
 use Rattle.node_rules.specs.Data.stmts
@@ -18,20 +19,23 @@ use Rattle.node_rules.specs.declared.session.Session.{Session}
 use Rattle.node_rules.specs.Words.{same, drop_item}
 use Rattle.node_rules.specs.Inputs.{Came, IsCall}
 use Rattle.node_rules.specs.NodeState.{NodeState, Branch, TurnDraft, live_id, to_each, to_one}
-use Rattle.node_rules.specs.Calls.{answer_says, exec_to, with_edge, hears_reply}
-use Rattle.node_rules.specs.Statement.{ran, after_run}
+use Rattle.node_rules.specs.Calls.{answer_says, exec_to, with_edge, hears_reply, branch_ran, less_room, goes_back}
+use Rattle.node_rules.specs.Statement.{ran}
 use Rattle.node_rules.specs.Prepare.{path_of, prepares, site_neighbors}
 use Rattle.node_rules.specs.Commit.{beyond, passes}
 use Rattle.node_rules.specs.Recovery.{kept_told}
 use Rattle.node_rules.proofs.Steps as steps
-use Rattle.node_rules.proofs.Steps.{Step, Says, IsOfRows, Collects, Acting}
+use Rattle.node_rules.proofs.Steps.{Step, Says, Collects, Acting}
 use Rattle.run_rules.specs.Branches.{is_among}
 use Rattle.run_rules.specs.Trail.{is_read_only, is_quiet}
 use Rattle.run_base_laws.specs.RunEvents.{leave_event, has_left, with_leaver, with_leavers}
 use Rattle.run_base_laws.proofs.KindSayLemmas.{OfDecisions, one_says, each_says, prepares_say, told_says, passes_say, askings_say}
 use Rattle.run_rules.proofs.ListLemmas.{all_weaker, all_append}
 use Rattle.node_rules.proofs.StepLemmas.{IsLive, acting_live}
+use Rattle.node_rules.specs.declared.work.Errand.TheVariants as errands
+use Rattle.node_rules.specs.Names.{passed_on}
 use Rattle.run_base_laws.proofs.RowEventLemmas.{only_none, first_new, same_turned}
+use Rattle.run_base_laws.proofs.BeginLemmas.{MayBegin, may_begin}
 
 -- ---- messages of other kinds
 
@@ -58,9 +62,9 @@ answer_plain : (x : Branch) (a : Answer) (parent : Option BranchId) → PlainAll
 answer_plain x a None = tt
 answer_plain x a (Some parent) = (refl, tt)
 
-exec_plain : (ss : List Session) (x : Branch) (i : ℕ) (s : Stmt) (given : ℕ) (to : Option BranchId) → PlainAll (exec_to ss x i s given to)
-exec_plain ss x i s given None = tt
-exec_plain ss x i s given (Some to) = (refl, tt)
+exec_plain : (ss : List Session) (x : Branch) (i : ℕ) (e : Errand) (to : Option BranchId) → PlainAll (exec_to ss x i e to)
+exec_plain ss x i e None = tt
+exec_plain ss x i e (Some to) = (refl, tt)
 
 prepares_plain : (me : BranchId) (comment : List ℕ) (path : Option ℕ) (i : ℕ) (es : List Edge) → PlainAll (prepares me comment path i es)
 prepares_plain me comment path i es = prepares_say PlainKind (λ site_below c. refl) me comment path i es
@@ -75,9 +79,9 @@ says_plain _ = (refl, tt)
 
 -- ---- a turn that says ReadOnly
 
--- the input is no call of a statement with a table
+-- the input is no call of a statement that begins a transaction
 abbrev pub NoRows : Input → Type 0
-NoRows input = (n : ℕ) (s : Stmt) → IsCall input n s → IsOfRows s → ⊥
+NoRows input = (n : ℕ) (s : Stmt) → IsCall input n s → MayBegin s → ⊥
 
 -- Its sender was live, and is gone without a record.
 pub record Quits (input : Input) (k : NodeState) (d : TurnDraft) (b : BranchId) : Type 0 where
@@ -104,7 +108,7 @@ pub came_apart : {input : Input} {from to : BranchId} {kind : Kind} (n : ℕ) (s
 came_apart n s came call = let it : inputs.Call n (Some s) ≡ inputs.Message (record { from = _; to = _; scn = came.scn; kind = _ }) = sym call ∙ came.is in absurd cc
 
 collects_apart : {k : NodeState} {input : Input} {l : Live} {comment : List ℕ} {site_below : Bool} → Collects k input l comment site_below → NoRows input
-collects_apart (steps.By_commit n given call has code is) m s other rows = subst IsOfRows (call_apart m n s (stmts.Commit given) other call) rows
+collects_apart (steps.By_commit n given call has code writer is) m s other rows = subst MayBegin (call_apart m n s (stmts.Commit given) other call) rows
 collects_apart (steps.By_prepare from site_below came working) m s other rows = came_apart m s came other
 
 pub acting_apart : {k : NodeState} {input : Input} {l : Live} {site_below : Bool} {a : Act} → Acting k input l site_below a → NoRows input
@@ -121,23 +125,30 @@ module _ (p : Place) (input : Input) where
   plainly k d posts all = all_weaker Plain (QuitsSo input k d) (λ x no yes. absurd (true≢false (sym yes ∙ no))) posts all
 
   pub quits_on : {k : NodeState} {d : TurnDraft} → Step p input k d → AllByRecursion (QuitsSo input k d) d.says
-  quits_on (steps.Begins {k = k} {d = d} n s call rows fit none step) =
-      all_weaker (QuitsSo input _ d) (QuitsSo input k d) (λ x so yes. absurd ((so yes).no_rows n s call rows)) d.says (quits_on step)
-  quits_on (steps.Pends {k = k} {d = d} n l comment call has live code step) =
+  quits_on (steps.Begins {k = k} {d = d} n s read_at call begins fit none step) =
+      all_weaker (QuitsSo input _ d) (QuitsSo input k d) (λ x so yes. absurd ((so yes).no_rows n s call (may_begin begins))) d.says (quits_on step)
+  quits_on (steps.Counts_call {k = k} {d = d} n s call counts step) =
+      all_weaker (QuitsSo input _ d) (QuitsSo input k d) (λ x so yes. (let q = so yes in record { was = q.was; unwritten = q.unwritten; left = q.left; no_rows = q.no_rows })) d.says (quits_on step)
+  quits_on (steps.Goes_back {k = k} y step goes next) =
+      let d : TurnDraft = goes_back k y step in
+      all_weaker (QuitsSo input _ d) (QuitsSo input k d) (λ x so yes. (let q = so yes in record { was = q.was; unwritten = q.unwritten; left = q.left; no_rows = q.no_rows })) d.says (quits_on next)
+  quits_on (steps.Pends {k = k} {d = d} n l comment call has live code writer step) =
       all_weaker (QuitsSo input _ d) (QuitsSo input k d) (λ x so yes. (let q = so yes in record { was = q.was; unwritten = q.unwritten; left = q.left; no_rows = q.no_rows })) d.says (quits_on step)
   quits_on (steps.Lets_reads_go {k = k} {d = d} l comment site_below live begins step) =
       all_weaker (QuitsSo input _ d) (QuitsSo input k d) (λ x so yes. (let q = so yes in record { was = q.was; unwritten = q.unwritten; left = q.left; no_rows = q.no_rows })) d.says (quits_on step)
   quits_on (steps.Counts_ack {k = k} {d = d} s from kept came counts step) =
       all_weaker (QuitsSo input _ d) (QuitsSo input k d) (λ x so yes. (let q = so yes in record { was = q.was; unwritten = q.unwritten; left = q.left; no_rows = q.no_rows })) d.says (quits_on step)
   quits_on (steps.Sends says why) = plainly _ _ says (says_plain why)
-  quits_on (steps.Runs {k = k} x s given t asked way) = plainly _ _ _ (answer_plain (record x { live = after_run x.live (ran p k x.live.me s t) }) _ x.live.parent)
+  quits_on (steps.Runs {k = k} x s given t asked way) = plainly _ _ _ (answer_plain (branch_ran k.sessions x t (ran p k x.live.me s t)) _ x.live.parent)
   quits_on (steps.Goes_nowhere x s given r asked way) = plainly _ _ _ (answer_plain x _ x.live.parent)
-  quits_on (steps.Calls {k = k} x s given i table asked way) = plainly _ _ _ (exec_plain k.sessions x i _ given (peer_of x.live i))
+  quits_on (steps.Calls {k = k} x s given i table asked way) = plainly _ _ _ (exec_plain k.sessions x i (errands.Statement (passed_on s table) given) (peer_of x.live i))
   quits_on (steps.Opens x s given node link table asked way) = ((λ yes. absurd cc), tt)
   quits_on (steps.Goes_on {k = k} x from strength g link opened) =
-      plainly _ _ _ (exec_plain k.sessions (with_edge x (new_edge from link strength)) (length x.live.edges + 1) g.statement (g.room - 1) (peer_of (with_edge x (new_edge from link strength)).live (length x.live.edges + 1)))
+      plainly _ _ _ (exec_plain k.sessions (with_edge x (new_edge from link strength)) (length x.live.edges + 1) (less_room g.errand) (peer_of (with_edge x (new_edge from link strength)).live (length x.live.edges + 1)))
   quits_on (steps.Hears_reply x weight count a i e answered) = plainly _ _ _ (answer_plain (hears_reply x i weight count e) _ x.live.parent)
-  quits_on (steps.Opens_branch to parent edge root depth came new) = ((λ yes. absurd cc), tt)
+  quits_on (steps.Backs {k = k} x step from i calls next) = plainly _ _ _ (exec_plain k.sessions x i (errands.GoBack step) (peer_of x.live i))
+  quits_on (steps.Is_back x step from calls none) = plainly _ _ _ (answer_plain x _ x.live.parent)
+  quits_on (steps.Opens_branch to parent edge root depth read_at came new) = ((λ yes. absurd cc), tt)
   quits_on (steps.Acts {k = k} l site_below acts.SayReadOnly why) =
       all_weaker (λ x. x.from ≡ l.me) (QuitsSo input k _)
       (λ x is yes. record {
@@ -165,7 +176,7 @@ module _ (p : Place) (input : Input) where
   quits_on (steps.Does s from nexts.Forget kept why) = plainly _ _ _ (each_plain s.me kinds.Forgotten (map (λ b. b.branch) (beyond s)) refl)
   quits_on (steps.Does s from nexts.SayForgotten kept why) = ((λ yes. absurd cc), tt)
   quits_on (steps.Does s from nexts.SayAck kept why) = ((λ yes. absurd cc), tt)
-  quits_on (steps.Rolls_back n x call has live) = plainly _ _ _ (each_plain x.live.me kinds.Rollback (children_of x.live) refl)
+  quits_on (steps.Leaves n s d x call ends has live) = plainly _ _ _ (each_plain x.live.me kinds.Rollback (children_of x.live) refl)
   quits_on (steps.Gives_up_commit n b (Some l) gives has calls live) = plainly _ _ _ (each_plain l.me kinds.Rollback (children_of l) refl)
   quits_on _ = tt
 

@@ -1,5 +1,5 @@
 -- Each step acknowledges a commit once all beyond did, and tells a rollback that is known, or of a branch that it ends.
-use Rattle.std.proofs.Common.{◌≡◌, ℕ, ◌+◌, ◌-◌, ◌&&◌, not, Bool, false, List, [], ◌∷◌, ◌++◌, map, filter, fold, length, Option, Some, None, inl, inr, refl, sym, ap, subst, ◌∙◌, ◌⊎◌}
+use Rattle.std.proofs.Common.{◌≡◌, ℕ, ◌+◌, ◌&&◌, not, Bool, false, List, [], ◌∷◌, ◌++◌, map, filter, fold, length, Option, Some, None, inl, inr, refl, sym, ap, subst, ◌∙◌, ◌⊎◌}
 use Rattle.std.specs.Prelude.{flat_map}
 use Rattle.std.specs.List.{AllByRecursion}
 use Rattle.std.proofs.lemmas.Bool.{cond_both, and_parts}
@@ -13,6 +13,7 @@ use Rattle.reco.specs.declared.told.Told.TheVariants as tolds
 use Rattle.session_tree.specs.Live.{children_of, peer_of, new_edge}
 use Rattle.session_tree.specs.Tree.{step as step_from}
 use Rattle.node_rules.specs.Data.{Answer, Stmt, BranchId, Decision, Edge, Kind, Msg, Live, KeptRow, RedoRecord, Place, Input}
+use Rattle.node_rules.specs.declared.work.Errand.{Errand}
 use Rattle.node_rules.specs.Data.acts
 use Rattle.node_rules.specs.Data.decisions
 use Rattle.node_rules.specs.Data.inputs
@@ -23,23 +24,27 @@ use Rattle.node_rules.specs.declared.session.Session.{Session}
 use Rattle.node_rules.specs.Words.{put_by_branch}
 use Rattle.node_rules.specs.Inputs.{Came, IsCall}
 use Rattle.node_rules.specs.NodeState.{NodeState, Branch, TurnDraft, live_id, kept_row_id, live_at, post_one, to_each, to_one}
-use Rattle.node_rules.specs.Calls.{answer_says, exec_to, with_edge, hears_reply}
-use Rattle.node_rules.specs.Statement.{ran, after_run}
+use Rattle.node_rules.specs.Calls.{answer_says, exec_to, with_edge, hears_reply, branch_ran, less_room, goes_back}
+use Rattle.node_rules.specs.Statement.{ran}
 use Rattle.node_rules.specs.Prepare.{path_of, prepares, site_neighbors}
 use Rattle.node_rules.specs.Commit.{beyond, all_acked, acked_by, passes_commit, rollback_to, passes}
 use Rattle.node_rules.specs.Recovery.{told_by, kept_told, told_kind, Asking, asking_id, asks_live, asks_kept, acks_again, recovers, askings}
 use Rattle.node_rules.specs.Turn.{Is_gone, status_of}
 use Rattle.node_rules.proofs.Steps as steps
-use Rattle.node_rules.proofs.Steps.{Step, Says, IsOfRows, IsKept, Collects}
+use Rattle.node_rules.proofs.Steps.{Step, Says, IsKept, Collects, Goes_to}
 use Rattle.node_rules.proofs.StandLemmas.{live_so}
 use Rattle.run_rules.specs.Branches.{is_among}
 use Rattle.run_branch_laws.specs.HeardLaws.{AcksAre}
 use Rattle.run_branch_laws.specs.TowardLaws.{IsRowLike, AllAcked}
 use Rattle.run_rules.proofs.ListLemmas.{all_weaker, all_append, all_each, all_put}
 use Rattle.node_rules.proofs.StepLemmas.{IsLive, acting_live}
+use Rattle.node_rules.specs.declared.work.Errand.TheVariants as errands
+use Rattle.node_rules.specs.Data.tasks
+use Rattle.node_rules.specs.Names.{passed_on}
 use Rattle.run_base_laws.proofs.OwnLemmas.{all_found, all_with}
+use Rattle.run_base_laws.proofs.BeginLemmas.{MayBegin, may_begin, ends_begin_none}
 use Rattle.run_branch_laws.proofs.HeardLemmas.{acked_so}
-use Rattle.run_branch_laws.proofs.QuietLemmas.{NoRows, came_apart, acting_apart, dropped_gone}
+use Rattle.run_branch_laws.proofs.QuietLemmas.{NoRows, came_apart, acting_apart, dropped_gone, call_apart}
 use Rattle.run_branch_laws.proofs.TowardLemmas.{itself, like_acked, acked_all, ToldSo}
 
 -- ---- why a rollback is told
@@ -134,9 +139,9 @@ module _ (t : List Event) where
       answer_so x a None = tt
       answer_so x a (Some parent) = (tt, tt)
 
-      exec_so : (ss : List Session) (x : Branch) (i : ℕ) (s : Stmt) (given : ℕ) (to : Option BranchId) → AllSo (exec_to ss x i s given to)
-      exec_so ss x i s given None = tt
-      exec_so ss x i s given (Some to) = (tt, tt)
+      exec_so : (ss : List Session) (x : Branch) (i : ℕ) (e : Errand) (to : Option BranchId) → AllSo (exec_to ss x i e to)
+      exec_so ss x i e None = tt
+      exec_so ss x i e (Some to) = (tt, tt)
 
       prepares_so : (me : BranchId) (comment : List ℕ) (path : Option ℕ) (i : ℕ) (es : List Edge) → AllSo (prepares me comment path i es)
       prepares_so me comment path i [] = tt
@@ -221,12 +226,20 @@ module _ (t : List Event) where
     call_uncommitted n s call from to m came = came_apart n s came call
 
     collects_unasked : {k : NodeState} {l : Live} {comment : List ℕ} {site_below : Bool} → Collects k input l comment site_below → (from to : BranchId) → IsAsked input from to → ⊥
-    collects_unasked (steps.By_commit n given call has code is) from to asked = asked_call n (stmts.Commit given) asked call
+    collects_unasked (steps.By_commit n given call has code writer is) from to asked = asked_call n (stmts.Commit given) asked call
     collects_unasked (steps.By_prepare x site_below came working) from to asked = asked_other (kinds.Prepare site_below _) asked came (λ e. absurd cc) (λ e. absurd cc)
 
     collects_uncommitted : {k : NodeState} {l : Live} {comment : List ℕ} {site_below : Bool} → Collects k input l comment site_below → (from to : BranchId) (m : ℕ) → Came input from to (kinds.Committed m) → ⊥
-    collects_uncommitted (steps.By_commit n given call has code is) from to m came = came_apart n (stmts.Commit given) came call
+    collects_uncommitted (steps.By_commit n given call has code writer is) from to m came = came_apart n (stmts.Commit given) came call
     collects_uncommitted (steps.By_prepare x site_below other working) from to m came = (let it = kinds_apart came other in absurd cc)
+
+    goes_unasked : {k : NodeState} {y : Branch} {step : ℕ} → Goes_to k input y step → (from to : BranchId) → IsAsked input from to → ⊥
+    goes_unasked (steps.By_rollback_to n y name step call has code live set) from to asked = asked_call n (stmts.RollbackTo name) asked call
+    goes_unasked (steps.By_back y by call keep came live runs) from to asked = asked_other (kinds.Exec call (tasks.GoBack keep)) asked came (λ e. absurd cc) (λ e. absurd cc)
+
+    goes_uncommitted : {k : NodeState} {y : Branch} {step : ℕ} → Goes_to k input y step → (from to : BranchId) (m : ℕ) → Came input from to (kinds.Committed m) → ⊥
+    goes_uncommitted (steps.By_rollback_to n y name step call has code live set) from to m came = came_apart n (stmts.RollbackTo name) came call
+    goes_uncommitted (steps.By_back y by call keep other live runs) from to m came = (let it = kinds_apart came other in absurd cc)
 
     ack_uncommitted : (a b : BranchId) → Came input a b kinds.Ack → (from to : BranchId) (m : ℕ) → Came input from to (kinds.Committed m) → ⊥
     ack_uncommitted a b other from to m came = let it : kinds.Committed m ≡ kinds.Ack = kinds_apart came other in absurd cc
@@ -243,9 +256,14 @@ module _ (t : List Event) where
     StepSo k d = AllByRecursion (λ x. SaysSo k input d x.from x.to x.kind) d.says
 
     pub says_on : {k : NodeState} {d : TurnDraft} → Step p input k d → RowsFound k → AllByRecursion (AcksAre t) k.stored.durable.kept → StepSo k d
-    says_on (steps.Begins {k = k} {d = d} n s call rows fit none step) found acks =
-        all_before k _ input d (λ b live no_rows. absurd (no_rows n s call rows)) (λ b x like. like) (call_unasked n s call) (call_uncommitted n s call) d.says (says_on step found acks)
-    says_on (steps.Pends {k = k} {d = d} n l comment call has live code step) found acks =
+    says_on (steps.Begins {k = k} {d = d} n s read_at call begins fit none step) found acks =
+        all_before k _ input d (λ b live no_rows. absurd (no_rows n s call (may_begin begins))) (λ b x like. like) (call_unasked n s call) (call_uncommitted n s call) d.says (says_on step found acks)
+    says_on (steps.Counts_call {k = k} {d = d} n s call counts step) found acks =
+        all_before k _ input d (λ b alive no_rows. alive) (λ b x like. like) (call_unasked n s call) (call_uncommitted n s call) d.says (says_on step found acks)
+    says_on (steps.Goes_back {k = k} y step goes next) found acks =
+        let d : TurnDraft = goes_back k y step in
+        all_before k _ input d (λ b alive no_rows. alive) (λ b x like. like) (goes_unasked goes) (goes_uncommitted goes) d.says (says_on next found acks)
+    says_on (steps.Pends {k = k} {d = d} n l comment call has live code writer step) found acks =
         all_before k _ input d (λ b alive no_rows. alive) (λ b x like. like) (call_unasked n (stmts.Commit comment) call) (call_uncommitted n (stmts.Commit comment) call) d.says (says_on step found acks)
     says_on (steps.Lets_reads_go {k = k} {d = d} l comment site_below live begins step) found acks =
         all_before k _ input d (λ b alive no_rows. alive) (λ b x like. like) (collects_unasked begins) (collects_uncommitted begins) d.says (says_on step found acks)
@@ -254,14 +272,16 @@ module _ (t : List Event) where
         (says_on step (λ reco. absurd (no_reco from s.me came reco))
         (all_with (AcksAre t) kept_row_id k.stored.durable.kept (acked_by s from) acks (acked_so t s from (told from s.me kinds.Ack came) (all_found (AcksAre t) kept_row_id k.stored.durable.kept s.me s acks kept))))
     says_on (steps.Sends {k = k} says why) found acks = says_so k _ found acks why
-    says_on (steps.Runs {k = k} x s given table asked way) found acks = answer_so k _ (record x { live = after_run x.live (ran p k x.live.me s table) }) _ x.live.parent
+    says_on (steps.Runs {k = k} x s given table asked way) found acks = answer_so k _ (branch_ran k.sessions x table (ran p k x.live.me s table)) _ x.live.parent
     says_on (steps.Goes_nowhere {k = k} x s given r asked way) found acks = answer_so k _ x _ x.live.parent
-    says_on (steps.Calls {k = k} x s given i table asked way) found acks = exec_so k _ k.sessions x i _ given (peer_of x.live i)
+    says_on (steps.Calls {k = k} x s given i table asked way) found acks = exec_so k _ k.sessions x i (errands.Statement (passed_on s table) given) (peer_of x.live i)
     says_on (steps.Opens x s given node link table asked way) found acks = (tt, tt)
     says_on (steps.Goes_on {k = k} x from strength g link opened) found acks =
-        exec_so k _ k.sessions (with_edge x (new_edge from link strength)) (length x.live.edges + 1) g.statement (g.room - 1) (peer_of (with_edge x (new_edge from link strength)).live (length x.live.edges + 1))
+        exec_so k _ k.sessions (with_edge x (new_edge from link strength)) (length x.live.edges + 1) (less_room g.errand) (peer_of (with_edge x (new_edge from link strength)).live (length x.live.edges + 1))
     says_on (steps.Hears_reply {k = k} x weight count a i e answered) found acks = answer_so k _ (hears_reply x i weight count e) _ x.live.parent
-    says_on (steps.Opens_branch to parent edge root depth came new) found acks = (tt, tt)
+    says_on (steps.Backs {k = k} x step from i calls next) found acks = exec_so k _ k.sessions x i (errands.GoBack step) (peer_of x.live i)
+    says_on (steps.Is_back {k = k} x step from calls none) found acks = answer_so k _ x _ x.live.parent
+    says_on (steps.Opens_branch to parent edge root depth read_at came new) found acks = (tt, tt)
     says_on (steps.Acts {k = k} l site_below acts.AskDown why) found acks = prepares_so k _ l.me l.comment (path_of site_below (step_from l)) 1 l.edges
     says_on (steps.Acts {k = k} l site_below acts.SayReadOnly why) found acks = one_so k _ l.me kinds.ReadOnly l.parent (λ b. tt)
     says_on (steps.Acts {k = k} l site_below acts.SayReady why) found acks = one_so k _ l.me kinds.Ready l.parent (λ b. tt)
@@ -282,11 +302,8 @@ module _ (t : List Event) where
     says_on (steps.Does s from nexts.SayForgotten kept why) found acks = (tt, tt)
     says_on (steps.Does {k = k} s from nexts.SayAck kept (steps.Acks_again n m came toward knows all)) found acks =
         (All_have s (itself k.stored.durable.kept s kept) (acked_all t s (all_found (AcksAre t) kept_row_id k.stored.durable.kept s.me s acks kept) all), tt)
-    says_on (steps.Rolls_back {k = k} n x call has live) found acks =
-        leaves_so k _ x.live (x.live, live_so k x.live.me x live) refl (dropped_gone x.live.me k.lives) (λ m s other rows. rollback_apart n m s call other rows)
-      where
-        rollback_apart : (n m : ℕ) (s : Stmt) → IsCall input n stmts.Rollback → IsCall input m s → IsOfRows s → ⊥
-        rollback_apart n m s call other rows = let it : inputs.Call m (Some s) ≡ inputs.Call n (Some stmts.Rollback) = sym other ∙ call in let same_s : s ≡ stmts.Rollback = cc in subst IsOfRows same_s rows
+    says_on (steps.Leaves {k = k} n s d x call ends has live) found acks =
+        leaves_so k _ x.live (x.live, live_so k x.live.me x live) refl (dropped_gone x.live.me k.lives) (λ m u other begins. (let it : u ≡ s = call_apart m n u s other call in ends_begin_none ends (subst MayBegin it begins)))
     says_on (steps.Gives_up_commit {k = k} n b (Some l) gives has calls live) found acks =
         leaves_so k _ l (gone_live k b l live) refl (dropped_gone l.me k.lives) (λ m s other rows. (let it : inputs.GiveUp n ≡ inputs.Call m (Some s) = sym gives ∙ other in absurd cc))
       where

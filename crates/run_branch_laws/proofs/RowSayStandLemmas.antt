@@ -114,6 +114,7 @@ heard_gone k (inputs.Message m) b gone = gone
 heard_gone k (inputs.Call n s) b gone = gone
 heard_gone k (inputs.GiveUp n) b gone = gone
 heard_gone k inputs.Reco b gone = gone
+heard_gone k inputs.Checkpoint b gone = gone
 
 -- each row is found, where no branch has two
 pub rows_found : (ks : List KeptRow) → ((b : BranchId) → count_of kept_row_id b ks ≤ 1) → AllByRecursion (λ s. item_at kept_row_id ks s.me ≡ Some s) ks
@@ -151,6 +152,7 @@ module _ (f : Facts) (k : NodeState) (node : ℕ) where
   came_to (inputs.Call session statement) took comes from to kind came = absurd (cc (came.is))
   came_to (inputs.GiveUp session) took comes from to kind came = absurd (cc (came.is))
   came_to inputs.Reco took comes from to kind came = absurd (cc (came.is))
+  came_to inputs.Checkpoint took comes from to kind came = absurd (cc (came.is))
 
 -- ---- a turn
 

@@ -1,5 +1,5 @@
 -- Each step of a node leaves the children, the weights, the changes and the calls of a live branch that is not working.
-use Rattle.std.proofs.Common.{◌≡◌, ◌≢◌, ℕ, ◌+◌, ◌-◌, Bool, List, [], ◌∷◌, ◌++◌, map, length, Option, Some, None, refl, sym, subst, ◌∙◌}
+use Rattle.std.proofs.Common.{◌≡◌, ◌≢◌, ℕ, ◌+◌, Bool, List, [], ◌∷◌, ◌++◌, map, length, Option, Some, None, refl, sym, subst, ◌∙◌}
 use Rattle.std.proofs.lemmas.Bool.{cond_both}
 use Rattle.tran_ids.proofs.ListedLemmas.{item_is}
 use Rattle.commit_forget.specs.declared.next.Next.TheVariants as nexts
@@ -12,22 +12,24 @@ use Rattle.node_rules.specs.declared.work.Work.{Work}
 use Rattle.node_rules.specs.Words.{item_at, put_item, drop_item}
 use Rattle.node_rules.specs.NodeState.{NodeState, Branch, TurnDraft, live_id, work_id}
 use Rattle.node_rules.specs.Names.{passed_on}
-use Rattle.node_rules.specs.Statement.{ran, after_run, answer_of_run}
-use Rattle.node_rules.specs.Calls.{with_answer, called, next_child, strength_of, with_edge, waits_for_opened, hears_reply}
-use Rattle.node_rules.specs.Client.{new_root, fresh_root, gives_up}
+use Rattle.node_rules.specs.Statement.{ran, answer_of_run}
+use Rattle.node_rules.specs.Calls.{with_answer, called, next_child, strength_of, with_edge, waits_for_opened, hears_reply, branch_ran, less_room}
+use Rattle.node_rules.specs.Client.{new_root, fresh_root, gives_up, marked}
 use Rattle.node_rules.specs.Prepare.{with_prepare_sent, has_voted, answers_first, ready, collecting, with_comment, voted, act_turn}
 use Rattle.node_rules.proofs.Steps as steps
-use Rattle.node_rules.proofs.Steps.{Step, Asked, Acting}
+use Rattle.node_rules.proofs.Steps.{Step, Asked, Acting, Goes_to, Calls_back}
 use Rattle.run_rules.specs.Births.{Born}
 use Rattle.run_base_laws.specs.FreezeLaws.{StandsStill}
 use Rattle.run_rules.proofs.ListLemmas.{map_after}
 use Rattle.node_rules.proofs.StepLemmas.{acting_so}
 use Rattle.node_rules.specs.LiveBranches.{EachLive, works_of}
 use Rattle.node_rules.proofs.LiveLemmas.{each_put, each_changed, each_left, each_begun, branch_parts, work_is}
-use Rattle.run_base_laws.proofs.RootLemmas.{SessionsFit, pends_so, begun_so}
+use Rattle.node_rules.specs.declared.work.Errand.TheVariants as errands
+use Rattle.node_rules.specs.Data.stmts
+use Rattle.run_base_laws.proofs.RootLemmas.{SessionsFit, pends_so, begun_so, counted_so, back_so}
 use Rattle.run_base_laws.proofs.RestStepLemmas.{going_of}
 use Rattle.run_base_laws.proofs.NeighborLemmas.{News}
-use Rattle.run_base_laws.proofs.NeighborStepLemmas.{begun_news, pends_news, lets_news, acked_news}
+use Rattle.run_base_laws.proofs.NeighborStepLemmas.{begun_news, pends_news, lets_news, acked_news, counted_news, back_news}
 use Rattle.run_base_laws.proofs.InTurnLemmas as turns
 use Rattle.run_base_laws.proofs.InTurnStepLemmas as drafts
 use Rattle.run_branch_laws.proofs.FreezeStepLemmas as frost
@@ -124,7 +126,7 @@ module _ (k0 : NodeState) where
 
     -- the branch of a statement was there
     asked_found : (k : NodeState) {x : Branch} {s : _} {given : ℕ} → Asked k input x s given → (z : Live) × (item_at live_id k.lives z.me ≡ Some z) × (z.phase ≡ x.live.phase) × (x.live.me ≡ z.me)
-    asked_found k (steps.By_call n x s call rows has code live) = (x.live, (branch_parts k x.live.me x live).0, refl, refl)
+    asked_found k (steps.By_call n x s call rows has code live may) = (x.live, (branch_parts k x.live.me x live).0, refl, refl)
     asked_found k (steps.By_exec x from call given advice s came live runs) = (x.live, (branch_parts k x.live.me x live).0, refl, refl)
 
     asked_put : (k : NodeState) (ss : SessionsFit k) (nodes : EachLive (turns.Begun E A G Here input said) k.lives k.works) (ice : frost.Ices E A G Here input said received k) → Stills k → {x : Branch} {s : _} {given : ℕ} → Asked k input x s given
@@ -132,32 +134,56 @@ module _ (k0 : NodeState) where
     asked_put k ss nodes ice now asked y w mine me =
         let there = asked_found k asked in put k now there.0 y w mine there.1 (there.2 ∙ frost.asked_works E A G Here input said received prepared k ss nodes ice asked) (me ∙ there.3)
 
+    -- and so was one whose children are to go back
+    goes_found : (k : NodeState) {x : Branch} {step : ℕ} → Goes_to k input x step → (z : Live) × (item_at live_id k.lives z.me ≡ Some z) × (z.phase ≡ x.live.phase) × (x.live.me ≡ z.me)
+    goes_found k (steps.By_rollback_to n x name step call has code live set) = (x.live, (branch_parts k x.live.me x live).0, refl, refl)
+    goes_found k (steps.By_back x from call keep came live runs) = (x.live, (branch_parts k x.live.me x live).0, refl, refl)
+
+    calling_found : (k : NodeState) {x : Branch} {step from : ℕ} → Calls_back k input x step from → (z : Live) × (item_at live_id k.lives z.me ≡ Some z) × (z.phase ≡ x.live.phase) × (x.live.me ≡ z.me)
+    calling_found k (steps.Has_gone j x step goes is) =
+        subst (λ i. (z : Live) × (item_at live_id i.lives z.me ≡ Some z) × (z.phase ≡ x.live.phase) × (x.live.me ≡ z.me)) (sym is) (goes_found j goes)
+    calling_found k (steps.Has_heard x weight count a i e g step answered going errand done) = (x.live, (branch_parts k x.live.me x answered.live).0, refl, refl)
+
+    calling_put : (k : NodeState) (ss : SessionsFit k) (nodes : EachLive (turns.Begun E A G Here input said) k.lives k.works) (ice : frost.Ices E A G Here input said received k) → Stills k → {x : Branch} {step from : ℕ} → Calls_back k input x step from
+        → (w : Work) → w.branch ≡ x.live.me → EachLive Still (put_item live_id k.lives x.live) (put_item work_id k.works w)
+    calling_put k ss nodes ice now {x = x} calls w mine =
+        let there = calling_found k calls in put k now there.0 x.live w mine there.1 (there.2 ∙ frost.calling_working E A G Here input said received prepared k ss nodes ice calls) there.3
+
     pub stills_on : {k : NodeState} {d : TurnDraft} → Step p input k d → SessionsFit k → News NewThere p input k → EachLive (turns.Begun E A G Here input said) k.lives k.works → frost.Ices E A G Here input said received k → Stills k → Stills d.after
-    stills_on (steps.Begins {k = k} n s call rows range none step) ss news nodes ice now =
-        let root = news.root n s call rows none in
-        stills_on step (begun_so k ss p n) (begun_news NewThere p input k n news) (drafts.begins_so E A G Here input said received k nodes (fresh_root p k (new_root p k n)) refl (place (new_root p k n) refl) root.0.0)
-        (frost.begins_ice E A G Here input said received prepared k ice (fresh_root p k (new_root p k n)) refl root.0.1) (begun k now (fresh_root p k (new_root p k n)) root.1)
-    stills_on (steps.Pends {k = k} n l given call has live code step) ss news nodes ice now = stills_on step (pends_so k ss n pending.Commit) (pends_news NewThere p input k n given call news) nodes ice now
+    stills_on (steps.Begins {k = k} n s read_at call begins range none step) ss news nodes ice now =
+        let root = news.root n s read_at call begins none in
+        stills_on step (begun_so k ss p n read_at) (begun_news NewThere p input k n read_at news)
+        (drafts.begins_so E A G Here input said received k nodes (fresh_root p k (new_root p k n) read_at) refl (place (new_root p k n) refl) root.0.0)
+        (frost.begins_ice E A G Here input said received prepared k ice (fresh_root p k (new_root p k n) read_at) refl root.0.1) (begun k now (fresh_root p k (new_root p k n) read_at) root.1)
+    stills_on (steps.Counts_call {k = k} n s call counts step) ss news nodes ice now = stills_on step (counted_so k ss n) (counted_news NewThere p input k n news) nodes ice now
+    stills_on (steps.Goes_back {k = k} x step goes next) ss news nodes ice now = stills_on next (back_so k ss x step) (back_news NewThere p input k x step news) nodes ice now
+    stills_on (steps.Pends {k = k} n l given call has live code writer step) ss news nodes ice now = stills_on step (pends_so k ss n pending.Commit) (pends_news NewThere p input k n given call news) nodes ice now
     stills_on (steps.Lets_reads_go {k = k} l comment site_below live begins step) ss news nodes ice now = stills_on step (record { roots = ss.roots; above = ss.above }) (lets_news NewThere p input k l.me news) nodes ice now
     stills_on (steps.Counts_ack {k = k} s from kept came counts step) ss news nodes ice now = stills_on step (record { roots = ss.roots; above = ss.above }) (acked_news NewThere p input k _ news) nodes ice now
     stills_on (steps.Runs {k = k} x s given t asked way) ss news nodes ice now =
-        let y : Branch = record x { live = after_run x.live (ran p k x.live.me s t) } in asked_put k ss nodes ice now asked y.live (with_answer y (answer_of_run (ran p k x.live.me s t))).work (drafts.asked_mine E A G Here input said received k asked) refl
+        let y : Branch = branch_ran k.sessions x t (ran p k x.live.me s t) in asked_put k ss nodes ice now asked y.live (with_answer y (answer_of_run (ran p k x.live.me s t))).work (drafts.asked_mine E A G Here input said received k asked) refl
     stills_on (steps.Goes_nowhere {k = k} x s given r asked way) ss news nodes ice now = asked_put k ss nodes ice now asked x.live _ (drafts.asked_mine E A G Here input said received k asked) refl
-    stills_on (steps.Calls {k = k} x s given i table asked way) ss news nodes ice now = asked_put k ss nodes ice now asked x.live (called x i (passed_on s table) given).work (drafts.asked_mine E A G Here input said received k asked) refl
+    stills_on (steps.Calls {k = k} x s given i table asked way) ss news nodes ice now = asked_put k ss nodes ice now asked x.live (called k.sessions x i (errands.Statement (passed_on s table) given)).work (drafts.asked_mine E A G Here input said received k asked) refl
     stills_on (steps.Opens {k = k} x s given node link table asked way) ss news nodes ice now = asked_put k ss nodes ice now asked x.live (waits_for_opened x link (passed_on s table) given).work (drafts.asked_mine E A G Here input said received k asked) refl
     stills_on (steps.Goes_on {k = k} x from strength g link opened) ss news nodes ice now =
-        put k now x.live (with_edge x (new_edge from link strength)).live (called (with_edge x (new_edge from link strength)) (length x.live.edges + 1) g.statement (g.room - 1)).work (work_is k x.live.me x opened.live) (branch_parts k x.live.me x opened.live).0
+        put k now x.live (with_edge x (new_edge from link strength)).live (called k.sessions (with_edge x (new_edge from link strength)) (length x.live.edges + 1) (less_room g.errand)).work (work_is k x.live.me x opened.live) (branch_parts k x.live.me x opened.live).0
         (frost.waits_working E A G Here input said received prepared k ss nodes ice x g opened.live opened.going) refl
     stills_on (steps.Hears_reply {k = k} x weight count a i e answered) ss news nodes ice now =
         let g = going_of x answered.from answered.call i e answered.waits in
         put k now x.live (hears_reply x i weight count e).live _ (work_is k x.live.me x answered.live) (branch_parts k x.live.me x answered.live).0
         (frost.waits_working E A G Here input said received prepared k ss nodes ice x g.0 answered.live g.1) refl
-    stills_on (steps.Opens_branch {k = k} to parent edge root depth came new) ss news nodes ice now = begun k now (fresh_live (next_child p k) root (Some parent) depth (strength_of p k)) (news.child to parent edge root depth came new).1
+    stills_on (steps.Backs {k = k} x step from i calls next) ss news nodes ice now =
+        calling_put k ss nodes ice now calls (called k.sessions x i (errands.GoBack step)).work (drafts.calling_mine E A G Here input said received k calls)
+    stills_on (steps.Is_back {k = k} x step from calls none) ss news nodes ice now = calling_put k ss nodes ice now calls _ (drafts.calling_mine E A G Here input said received k calls)
+    stills_on (steps.Opens_branch {k = k} to parent edge root depth read_at came new) ss news nodes ice now = begun k now (fresh_live (next_child p k) root (Some parent) depth (strength_of p k) read_at) (news.child to parent edge root depth read_at came new).1
     stills_on (steps.Acts {k = k} l site_below a why) ss news nodes ice now = acts_leave k now l site_below a (acting k now why)
     stills_on (steps.Drops_told {k = k} l live drops) ss news nodes ice now = left k now l.me
     stills_on (steps.Drops_asked {k = k} l from live came parent) ss news nodes ice now = left k now l.me
     stills_on (steps.Does s from nexts.Rest kept why) ss news nodes ice now = now
-    stills_on (steps.Rolls_back {k = k} n x call has live) ss news nodes ice now = left k now x.live.me
+    stills_on (steps.Leaves {k = k} n s d x call ends has live) ss news nodes ice now = left k now x.live.me
+    stills_on (steps.Sets_savepoint {k = k} n x name call has code live) ss news nodes ice now =
+        put k now x.live x.live (marked k.sessions x name).work (work_is k x.live.me x live) (branch_parts k x.live.me x live).0
+        (frost.calls_working E A G Here input said received prepared k ss nodes ice n x (stmts.Savepoint name) call has live) refl
     stills_on (steps.Gives_up {k = k} n x gives has calls live) ss news nodes ice now =
         let parts = branch_parts k x.live.me x live in
         each_put Still Still k.lives k.works now x.live (gives_up x).work (work_is k x.live.me x live)

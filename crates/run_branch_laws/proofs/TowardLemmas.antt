@@ -118,8 +118,10 @@ module _ (t : List Event) (p : Place) (input : Input) (told : (from to : BranchI
     forgets_so {from = from} acks (steps.Forgets_after came knows toward new) = (s, itself ks s stands, inr (from, branch_found from s.toward toward, told from s.me kinds.Forgotten came))
 
   pub goes_on : {k : NodeState} {d : TurnDraft} → Step p input k d → AllByRecursion (AcksAre t) k.stored.durable.kept → IfSome d.wrote (GoesByRow t k.stored.durable.kept)
-  goes_on (steps.Begins n s call rows fit none step) acks = goes_on step acks
-  goes_on (steps.Pends n l comment call has live code step) acks = goes_on step acks
+  goes_on (steps.Begins n s read_at call begins fit none step) acks = goes_on step acks
+  goes_on (steps.Counts_call n s call counts step) acks = goes_on step acks
+  goes_on (steps.Goes_back x step goes next) acks = goes_on next acks
+  goes_on (steps.Pends n l comment call has live code writer step) acks = goes_on step acks
   goes_on (steps.Lets_reads_go l comment site_below live begins step) acks = goes_on step acks
   goes_on (steps.Counts_ack {k = k} {d = d} s from kept came counts step) acks =
       wrote_acked t k.stored.durable.kept s from kept d.wrote
@@ -140,6 +142,7 @@ heard_rows k (inputs.Message m) = refl
 heard_rows k (inputs.Call n s) = refl
 heard_rows k (inputs.GiveUp n) = refl
 heard_rows k inputs.Reco = refl
+heard_rows k inputs.Checkpoint = refl
 
 module _ (places : List Place) (asked : List Command) (each : (n : ℕ) (q : Place) → numbered places n ≡ Some q → IsPlace places n q) where
   module _ (f : Facts) (t : List Event) (now : StandHeard places asked each f t) (u : Turn) (k : NodeState) (may : MayTurn places f u k) where

@@ -131,5 +131,5 @@ events =
 
 -- The branches that began are the root at A and its child at B, and the events are those of a commit.
 pub record TheTriedRun : Type 0 where
-  pub births : births_from places [] (first_facts places) trace [] ≡ root_born a ∷ child_born b a 1 a 2 ∷ []
+  pub births : births_from places [] (first_facts places) trace [] ≡ root_born a 1 None ∷ child_born b a 1 a 2 1 None ∷ []
   pub told : events_from places [] (first_facts places) trace [] ≡ events

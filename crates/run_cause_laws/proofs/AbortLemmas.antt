@@ -80,6 +80,7 @@ heard_live k (inputs.Message y) b = refl
 heard_live k (inputs.Call n o) b = refl
 heard_live k (inputs.GiveUp n) b = refl
 heard_live k inputs.Reco b = refl
+heard_live k inputs.Checkpoint b = refl
 
 -- ---- a turn
 
@@ -139,7 +140,7 @@ module _ (t : History) (whole : IsLawfulRun t) (sees : SeesAll t) (hs : List Hap
       let s : Seen = it.0 in
       let s_me : s.me ≡ z.me = item_is seen_id tr0.seen z.me s it.1 in
       let m : Msg = record { from = from; to = z.me; scn = answers.came.scn; kind = kinds.Abort } in
-      (s, m, record { seen = subst (λ c. seen_at tr0 c ≡ Some s) me it.1; came = abort_came u.node u.input u.sent z s s_me it.2.told from sb answers; first = abort_first u.node u.input u.sent z s s_me it.2.told from sb answers }, refl)
+      (s, m, record { seen = subst (λ c. seen_at tr0 c ≡ Some s) me it.1; came = abort_came u.node None u.input u.sent z s s_me it.2.told from sb answers; first = abort_first u.node None u.input u.sent z s s_me it.2.told from sb answers }, refl)
 
   abort_due : (rs : List RedoRecord) (b to : BranchId) (kind : Kind) → AbortSo (heard k u.input) u.input b kind → MayAbort p f0 tr0 tr1 rs u.input b to kind
   abort_due rs b to kinds.Abort (Was_gone from sb comment came gone) = inl (gone_told b from sb comment came (heard_gone k u.input b gone), (from, sb, comment, came))

@@ -61,7 +61,7 @@ module _ (Q : BranchId → BranchId → Type 0) where
     heard_on k s from kept came heard x c at ack = told_again from s.me c x.me came ack (heard s from kept came)
 
     heard_lasts : LastsInTurn p input Heard
-    heard_lasts = record { begun = λ k n s call rows free heard. heard; pends = λ k n l given call has heard. heard; lets = λ k b heard. heard; acked = heard_on }
+    heard_lasts = record { begun = λ k n s read_at call begins free heard. heard; counts = λ k n s call is heard. heard; backs = λ k x step goes heard. heard; pends = λ k n l given call has heard. heard; lets = λ k b heard. heard; acked = heard_on }
 
     -- with one Ack more
     more_held : (k : NodeState) (s : KeptRow) (from : BranchId) → IsKept k s → Came input from s.me kinds.Ack → Heard k → RowHasAcks Q s → RowHasAcks Q (acked_by s from)
@@ -117,8 +117,10 @@ module _ (Q : BranchId → BranchId → Type 0) where
             absurd (let none = so.0 in cc (none, some))
 
       pub forgets_on : {k : NodeState} {d : TurnDraft} → Step p input k d → Heard k → RowsSo k → RowsDecided k → IfSome d.wrote ForgetsSo
-      forgets_on (steps.Begins n s call rows fit none step) heard all decided = forgets_on step heard all decided
-      forgets_on (steps.Pends n l comment call has live code step) heard all decided = forgets_on step heard all decided
+      forgets_on (steps.Begins n s read_at call begins fit none step) heard all decided = forgets_on step heard all decided
+      forgets_on (steps.Counts_call n s call counts step) heard all decided = forgets_on step heard all decided
+      forgets_on (steps.Goes_back x step goes next) heard all decided = forgets_on next heard all decided
+      forgets_on (steps.Pends n l comment call has live code writer step) heard all decided = forgets_on step heard all decided
       forgets_on (steps.Lets_reads_go l comment site_below live begins step) heard all decided = forgets_on step heard all decided
       forgets_on (steps.Counts_ack {k = k} s from kept came counts step) heard all decided =
           forgets_on step (heard_on k s from kept came heard) (counted (each_row Q) heard_lasts more_held k s from kept came heard all)

@@ -5,6 +5,7 @@ use Rattle.std.specs.Option.{option_to_list}
 use Rattle.std.specs.List.{AllByRecursion}
 use Rattle.node_rules.specs.Data.{BranchId, RedoRecord, Kind, Msg, Input, Place}
 use Rattle.node_rules.specs.Data.kinds
+use Rattle.node_rules.specs.Data.tasks
 use Rattle.node_rules.specs.Data.records
 use Rattle.node_rules.specs.NodeState.{NodeState}
 use Rattle.run_rules.specs.Branches.{Trail}
@@ -41,7 +42,8 @@ module _ (p : Place) (f : Facts) (tr after : Trail) (k : NodeState) (n : ℕ) (i
   module _ (rs : List RedoRecord) where
     says_one : (b to : BranchId) (kind : Kind) → MayAbort p f tr after rs input b to kind → MayExec p f tr after rs input b to kind → MaySayReadOnly tr b kind → IsSaidByLife p f tr after rs input b to kind
     says_one b to kinds.Abort aborts passes quiets = aborts
-    says_one b to (kinds.Exec call given advice passed) aborts passes quiets = passes
+    says_one b to (kinds.Exec call (tasks.Run given advice passed)) aborts passes quiets = passes
+    says_one b to (kinds.Exec call (tasks.GoBack keep)) aborts passes quiets = passes
     says_one b to kinds.ReadOnly aborts passes quiets = quiets
     says_one b to _ aborts passes quiets = tt
 

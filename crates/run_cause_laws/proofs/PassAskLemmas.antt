@@ -5,9 +5,10 @@ use Rattle.std.proofs.lemmas.Bool.{and_parts, eqb-true}
 use Rattle.std.proofs.lemmas.Bool.Decides.{nat_tests}
 use Rattle.tran_ids.proofs.BranchLemmas.{equal_from_same}
 use Rattle.tran_ids.proofs.ListedLemmas.{item_is}
-use Rattle.node_rules.specs.Data.{Advice, BranchId, Kind, Live, Stmt, Input}
+use Rattle.node_rules.specs.Data.{Advice, BranchId, Kind, Live, Stmt, Input, Task}
 use Rattle.node_rules.specs.Data.inputs
 use Rattle.node_rules.specs.Data.kinds
+use Rattle.node_rules.specs.Data.tasks
 use Rattle.node_rules.specs.declared.work.Going.{Going}
 use Rattle.node_rules.specs.Inputs.{Came, IsCall, IsSession}
 use Rattle.node_rules.specs.Words.{same, is_item_of}
@@ -86,17 +87,17 @@ module _ (t : History) (whole : IsLawfulRun t) (hs : List Happening) (u : Turn) 
             let low : IsSession m = (call_free f0 k u.node u.input u.took m (Some s) call may.1.comes).0 in
             absurd (omega (arith, low.1, high, session))
 
-    not_execd : (from : BranchId) (call given : ℕ) (advice : Option Advice) (s : Stmt) → Came u.input from z.me (kinds.Exec call given advice s) → last_of k z.me < call → ⊥
-    not_execd from call given advice s came new =
-        let said_so = received.exec from z.me call given advice s came in
+    not_execd : (from : BranchId) (call : ℕ) (task : Task) → Came u.input from z.me (kinds.Exec call task) → (z.parent ≢ None → last_of k z.me < call) → ⊥
+    not_execd from call task came new =
+        let said_so = received.exec from z.me call task came in
         let parent : z.parent ≡ Some from = above_of bs0 z (all_found (LiveIs (Began bs0)) live_id k.lives z.me z (nodes_name_the_born s0 lawful0 u.node k may.1.up).0 live) from said_so.0 in
         let answered : call ≤ newest_reply said z.me + 1 = omega (arith, said_so.1, received.all from z.me) in
         let told : newest_reply said z.me ≤ last_of k z.me = in_its_turn.takes.told in
-        let last : newest_reply said z.me ≡ last_of k z.me = omega (arith, new, answered, told) in
+        let last : newest_reply said z.me ≡ last_of k z.me = (let later = new (λ none. absurd (cc (parent, none))) in omega (arith, later, answered, told)) in
         let none : (works_of k.works z.me).going ≡ None = in_its_turn.takes.rests (λ root. absurd (cc (parent, root))) last in
         absurd (cc (none, going))
 
-    module _ (s : Seen) (at : seen_at tr0 z.me ≡ Some s) (taken : s.taken ≡ last_of k z.me) where
+    module _ (s : Seen) (at : seen_at tr0 z.me ≡ Some s) (taken : z.parent ≢ None → s.taken ≡ last_of k z.me) where
       root_asked : (m : ℕ) (st : Stmt) → IsCall u.input m st → (o : Option Seen) → root_at trb u.node m ≡ o → (a : Asking) → asks_root st o ≡ Some a → a.branch.me ≡ z.me → ⊥
       root_asked m st call None found a asked me = absurd cc
       root_asked m st call (Some b) found a asked me = by (is_of_rows st) asked
@@ -113,7 +114,7 @@ module _ (t : History) (whole : IsLawfulRun t) (hs : List Happening) (u : Turn) 
               not_called m st call (ap (λ (c : BranchId). c.session) (sym me) ∙ (ap (λ (y : Asking). y.branch.me.session) (sym one) ∙ session))
           by false asked = absurd cc
 
-      branch_asked : (from to : BranchId) (call given : ℕ) (advice : Option Advice) (st : Stmt) → Came u.input from to (kinds.Exec call given advice st) → (o : Option Seen) → seen_at trb to ≡ o → (a : Asking) → asks_branch call st o ≡ Some a → a.branch.me ≡ z.me → ⊥
+      branch_asked : (from to : BranchId) (call given : ℕ) (advice : Option Advice) (st : Stmt) → Came u.input from to (kinds.Exec call (tasks.Run given advice st)) → (o : Option Seen) → seen_at trb to ≡ o → (a : Asking) → asks_branch call st o ≡ Some a → a.branch.me ≡ z.me → ⊥
       branch_asked from to call given advice st came None found a asked me = absurd cc
       branch_asked from to call given advice st came (Some b) found a asked me = by (is_live b && nat_lt b.taken call) refl asked
         where
@@ -126,14 +127,14 @@ module _ (t : History) (whole : IsLawfulRun t) (hs : List Happening) (u : Turn) 
               let same_seen : b ≡ s = cc in
               let less : nat_lt s.taken call ≡ true = ap (λ (y : Seen). nat_lt y.taken call) (sym same_seen) ∙ (and_parts (is_live b) (nat_lt b.taken call) passes).1 in
               let below : s.taken < call = grind (arith, nat_tests, less) in
-              not_execd from call given advice st (subst (λ c. Came u.input from c (kinds.Exec call given advice st)) here came) (subst (λ n. n < call) taken below)
+              not_execd from call (tasks.Run given advice st) (subst (λ c. Came u.input from c (kinds.Exec call (tasks.Run given advice st))) here came) (λ under. subst (λ n. n < call) (taken under) below)
           by false passes asked = absurd cc
 
       not_this : (a : Asking) → asks trb u.node u.input ≡ Some a → a.branch.me ≡ z.me → ⊥
       not_this a asked me = by u.input refl asked
         where
           by_kind : (from to : BranchId) (kind : Kind) → Came u.input from to kind → asks_by trb to kind ≡ Some a → ⊥
-          by_kind from to (kinds.Exec call given advice st) came asked = branch_asked from to call given advice st came (seen_at trb to) refl a asked me
+          by_kind from to (kinds.Exec call (tasks.Run given advice st)) came asked = branch_asked from to call given advice st came (seen_at trb to) refl a asked me
           by_kind from to _ came asked = absurd cc
 
           by : (input : Input) → u.input ≡ input → asks trb u.node input ≡ Some a → ⊥
@@ -142,6 +143,7 @@ module _ (t : History) (whole : IsLawfulRun t) (hs : List Happening) (u : Turn) 
           by (inputs.Message m) came asked = by_kind m.from m.to m.kind (record { scn = m.scn; is = came }) asked
           by (inputs.GiveUp m) came asked = absurd cc
           by inputs.Reco came asked = absurd cc
+          by inputs.Checkpoint came asked = absurd cc
 
       pub unasked : asked_after s (asks trb u.node u.input) ≡ s.asked
       unasked = by (asks trb u.node u.input) refl

@@ -36,7 +36,7 @@ use Rattle.tree_trail_laws.proofs.ChildTurnLemmas as kids
 use Rattle.tree_trail_laws.proofs.LowerRunLemmas.{stop_still}
 use Rattle.tree_trail_laws.proofs.MomentLemmas.{tr_at, trail_one_on, at_moment, by_moment}
 use Rattle.tree_trail_laws.proofs.OwnElseLemmas.{IsHere, asks_node, comes_here}
-use Rattle.tree_trail_laws.proofs.OwnFollowLemmas.{turn_owns, owns_follow}
+use Rattle.tree_trail_laws.proofs.OwnFollowLemmas.{owns_at, turn_owns}
 use Rattle.tree_trail_laws.proofs.OwnKnowLemmas.{Knows}
 use Rattle.tree_trail_laws.proofs.OwnTurnLemmas as own
 use Rattle.tree_trail_laws.proofs.OwnTurnLemmas.{taken_of, Owns}
@@ -77,10 +77,10 @@ stopped_keeps n s = by (is_live_at n s)
 
 -- what a longer catalog leaves of a branch that waits
 waits_grow : (D E : Durable) → Extends D E → (link : List ℕ) (o : Option Seen) (g : Going) → WaitsFor D link o g → WaitsFor E link o g
-waits_grow D E grows link o g was = record { statement = was.statement; asked = was.asked; table = was.table; named = grows.names (ref_of was.statement) link was.table was.named; passes = was.passes }
+waits_grow D E grows link o g was = record { statement = was.statement; asked = was.asked; table = was.table; named = grows.names (ref_of was.statement) link was.table was.named; room = was.room; passes = was.passes }
 
 waits_same : (D : Durable) (link : List ℕ) (o q : Option Seen) (g : Going) → asked_of q ≡ asked_of o → WaitsFor D link o g → WaitsFor D link q g
-waits_same D link o q g asked was = record { statement = was.statement; asked = asked ∙ was.asked; table = was.table; named = was.named; passes = was.passes }
+waits_same D link o q g asked was = record { statement = was.statement; asked = asked ∙ was.asked; table = was.table; named = was.named; room = was.room; passes = was.passes }
 
 module _ (t : History) (whole : IsLawfulRun t) where
   -- ---- what is told of roots
@@ -200,10 +200,7 @@ module _ (t : History) (whole : IsLawfulRun t) where
         let fact : f_at t (hs ++ h ∷ []) ≡ g = one_on t hs h ∙ facts in
         let told : tr_at t (hs ++ h ∷ []) ≡ tr = trail_one_on t hs h ∙ trail in
         record {
-          owns = record {
-            owns = owns_there;
-            calls = subst (λ f. own.TellsCalls f (tr_at t (hs ++ h ∷ []))) (sym fact) (subst (own.TellsCalls g) (sym told) (λ n j up l live. (kept l.me).1 ∙ now.owns.calls n j (still n j up l live) l live));
-          };
+          owns = owns_at t whole (roots_each t whole) (hs ++ h ∷ []) part1;
           waits = λ n j up l live go link going waits. (let was_up : node_at g n ≡ Some j = subst (λ f. node_at f n ≡ Some j) fact up in
               subst (λ (x : Trail). WaitsFor (catalog t whole (hs ++ h ∷ []) n) link (seen_at x l.me) go) (sym told)
               (waits_grow (catalog t whole hs n) (catalog t whole (hs ++ h ∷ []) n) (catalog_on t whole n hs (h ∷ []) (part_on t whole hs h more is)) link (seen_at tr l.me) go
@@ -212,9 +209,6 @@ module _ (t : History) (whole : IsLawfulRun t) where
       where
         part1 : Part t whole (hs ++ h ∷ [])
         part1 = part_on t whole hs h more is
-
-        owns_there : TracesOwns (f_at t (hs ++ h ∷ [])) (tr_at t (hs ++ h ∷ []))
-        owns_there = owns_follow (so_far t (hs ++ h ∷ [])) (part_lawful t whole (hs ++ h ∷ []) part1) (roots_each (so_far t (hs ++ h ∷ [])) (part_lawful t whole (hs ++ h ∷ []) part1))
 
   stop_keeps : (n : ℕ) (xs : List Seen) (b : BranchId) → (asked_of (item_at seen_id (map (stopped_by n) xs) b) ≡ asked_of (item_at seen_id xs b)) × (taken_of (item_at seen_id (map (stopped_by n) xs) b) ≡ taken_of (item_at seen_id xs b))
   stop_keeps n [] b = (refl, refl)
@@ -249,7 +243,7 @@ module _ (t : History) (whole : IsLawfulRun t) where
   first_known : Known []
   unfolding start_of facts_of
   first_known = record {
-    owns = record { owns = λ n k up l live. absurd (none_made t.places n k l up live); calls = λ n k up l live. absurd (none_made t.places n k l up live) };
+    owns = owns_at t whole (roots_each t whole) [] (record { rest = t.trace; is = refl });
     waits = λ n k up l live g link going waits. absurd (none_made t.places n k l up live);
   }
 

@@ -8,13 +8,14 @@ use Rattle.agreement.specs.Events.{Exit}
 use Rattle.node_rules.specs.Data.{Table, Stmt, BranchId, Kind, Input, Answer}
 use Rattle.node_rules.specs.Data.inputs
 use Rattle.node_rules.specs.Data.kinds
+use Rattle.node_rules.specs.Data.tasks
 use Rattle.node_rules.specs.Words.{same}
 use Rattle.node_rules.specs.Names.{ref_of}
 use Rattle.run_rules.specs.Branches.{Run, Seen, Trail, seen_id, seen_at, is_live, is_live_at, is_root_of, root_at}
 use Rattle.run_rules.specs.Data.{Turn, Entry}
 use Rattle.run_rules.specs.Facts.{Facts}
 use Rattle.run_rules.specs.Runs.{Asking, is_of_rows, asks_root, asks_branch, asks_by, asks, bare_name, table_by, run_at_table, run_by, run_in}
-use Rattle.run_rules.specs.Trail.{runs_for, own_with}
+use Rattle.run_rules.specs.Trail.{runs_for, runs_with}
 use Rattle.tree_trail_laws.proofs.OwnAskLemmas.{asking}
 use Rattle.tree_trail_laws.proofs.OwnKnowLemmas.{own_other}
 use Rattle.tree_trail_laws.proofs.PlanLemmas.{find_passes}
@@ -66,7 +67,7 @@ module _ (tr : Trail) (s : Seen) (at : seen_at tr s.me ≡ Some s) (y : Exit) (l
       by false live r asked = absurd cc
 
   kind_other : (to : BranchId) (kind : Kind) (a : Asking) → asks_by tr to kind ≡ Some a → a.branch.me ≢ s.me
-  kind_other to (kinds.Exec call given advice st) a asked = branch_other to call st (seen_at tr to) refl a asked
+  kind_other to (kinds.Exec call (tasks.Run given advice st)) a asked = branch_other to call st (seen_at tr to) refl a asked
   kind_other to _ a asked = absurd cc
 
   asks_other : (n : ℕ) (input : Input) → ((m : ℕ) (o : Option Stmt) → input ≡ inputs.Call m o → m ≤ 64) → (a : Asking) → asks tr n input ≡ Some a → a.branch.me ≢ s.me
@@ -75,6 +76,7 @@ module _ (tr : Trail) (s : Seen) (at : seen_at tr s.me ≡ Some s) (y : Exit) (l
   asks_other n (inputs.Message m) low a asked = kind_other m.to m.kind a asked
   asks_other n (inputs.GiveUp m) low a asked = absurd cc
   asks_other n inputs.Reco low a asked = absurd cc
+  asks_other n inputs.Checkpoint low a asked = absurd cc
 
   module _ (f : Facts) (u : Turn) (low : (m : ℕ) (o : Option Stmt) → u.input ≡ inputs.Call m o → m ≤ 64) where
     -- a run is of another
@@ -92,14 +94,14 @@ module _ (tr : Trail) (s : Seen) (at : seen_at tr s.me ≡ Some s) (y : Exit) (l
         by false None asked is = absurd cc
         by false (Some a) asked is = table a (table_by f u.node (bare_name (ref_of a.statement))) (asks_other u.node u.input low a asked) is
 
-    -- so its changes stay
-    pub own_of_left : (book : List Entry) (a : Option Answer) → own_with (runs_for s (run_in f tr u) a) book s.own (run_in f tr u) ≡ s.own
-    own_of_left book a = by (run_in f tr u) refl
+    -- so its runs stay
+    pub own_of_left : (book : List Entry) (step : ℕ) (a : Option Answer) → runs_with (runs_for s (run_in f tr u) a) book step s (run_in f tr u) ≡ s.runs
+    own_of_left book step a = by (run_in f tr u) refl
       where
-        by : (o : Option Run) → run_in f tr u ≡ o → own_with (runs_for s o a) book s.own o ≡ s.own
+        by : (o : Option Run) → run_in f tr u ≡ o → runs_with (runs_for s o a) book step s o ≡ s.runs
         by None is = refl
         by (Some r) is = apart (same r.branch s.me) refl
           where
-            apart : (q : Bool) → same r.branch s.me ≡ q → own_with (runs_for s (Some r) a) book s.own (Some r) ≡ s.own
+            apart : (q : Bool) → same r.branch s.me ≡ q → runs_with (runs_for s (Some r) a) book step s (Some r) ≡ s.runs
             apart true here = absurd (run_other r is (equal_from_same r.branch s.me here))
-            apart false other = own_other book s r a other
+            apart false other = own_other book step s r a other

@@ -1,6 +1,7 @@
 -- In every lawful run each branch that is gone without changes is told so, and each ReadOnly is said where neither its sender nor a branch
 -- below it has changes.
-use Rattle.std.proofs.Common.{◌≡◌, ◌≢◌, ℕ, suc, ◌≤◌, ◌⊎◌, Bool, true, false, if◌then◌else◌, nat_lt, length, List, [], ◌∷◌, ◌++◌, Option, Some, None, inl, inr, refl, sym, ap, subst, subst₂, ◌∙◌, arith}
+use Rattle.std.specs.Prelude.{nat_le}
+use Rattle.std.proofs.Common.{flat_map, filter, ◌≡◌, ◌≢◌, ℕ, suc, ◌≤◌, ◌⊎◌, Bool, true, false, if◌then◌else◌, nat_lt, length, List, [], ◌∷◌, ◌++◌, Option, Some, None, inl, inr, refl, sym, ap, subst, subst₂, ◌∙◌, arith}
 use Rattle.std.specs.List.{AllByRecursion}
 use Rattle.std.proofs.lemmas.Bool.{lt-ltb}
 use Rattle.tran_ids.proofs.ListedLemmas.{item_is}
@@ -14,7 +15,7 @@ use Rattle.node_rules.specs.NodeState.{live_id, live_at}
 use Rattle.node_rules.specs.Prepare.{own_changes}
 use Rattle.node_rules.specs.Turn.{turn_of}
 use Rattle.run_rules.specs.Births.{Born, births_of, born_id}
-use Rattle.run_rules.specs.Branches.{Seen, Trail, seen_id, seen_at, is_live_at}
+use Rattle.run_rules.specs.Branches.{Ran, Seen, Trail, seen_id, seen_at, is_live_at}
 use Rattle.run_key_laws.specs.ChangedLaws.{has_changes}
 use Rattle.run_rules.specs.Data.{Turn, Happening}
 use Rattle.run_rules.specs.Data.happenings
@@ -23,7 +24,7 @@ use Rattle.run_rules.specs.Facts.{first_facts, node_at, kept_after}
 use Rattle.run_rules.specs.Lawful.{IsOwed, History, IsLawfulRun}
 use Rattle.run_base_laws.specs.RunEvents.{lives_at, events_after, events_of, events_from}
 use Rattle.run_rules.specs.Runs.{run_in}
-use Rattle.run_rules.specs.Trail.{runs_for, own_with, children_after, stopped_by, trail_after}
+use Rattle.run_rules.specs.Trail.{runs_for, children_after, stopped_by, trail_after, runs_with, runs_back, step_back, taken_after}
 use Rattle.run_rules.proofs.AtNodeLemmas.{turn_here}
 use Rattle.run_key_laws.proofs.ChangedLemmas.{changes_are_of_live}
 use Rattle.run_base_laws.proofs.EventsStandLemmas.{run_stands, nodes_are_as_events}
@@ -61,11 +62,33 @@ none_some : (cs : List Change) → nat_lt 0 (length cs) ≡ false → cs ≡ []
 none_some [] none = refl
 none_some (c ∷ cs) none = (let some : nat_lt 0 (suc (length cs)) ≡ true = lt-ltb 0 (suc (length cs)) (omega arith) in absurd (cc (some, none)))
 
--- a stop leaves the children and the changes of a branch
-stopped_same : (n : ℕ) (s : Seen) → ((stopped_by n s).me ≡ s.me) × ((stopped_by n s).parent ≡ s.parent) × ((stopped_by n s).own ≡ s.own) × ((stopped_by n s).children ≡ s.children)
+-- ---- runs without changes
+
+abbrev changes_of : List Ran → List Change
+changes_of rs = flat_map (λ (r : Ran). r.changes) rs
+
+both_empty : (xs ys : List Change) → xs ++ ys ≡ [] → (xs ≡ []) × (ys ≡ [])
+both_empty [] ys none = (refl, none)
+both_empty (x ∷ xs) ys none = absurd cc
+
+-- fewer have none either
+fewer_none : (p : Ran → Bool) (rs : List Ran) → changes_of rs ≡ [] → changes_of (filter p rs) ≡ []
+fewer_none p [] none = refl
+fewer_none p (r ∷ rs) none = let parts = both_empty r.changes (changes_of rs) none in by (p r) parts.0 (fewer_none p rs parts.1)
+  where
+    by : (q : Bool) → r.changes ≡ [] → changes_of (filter p rs) ≡ [] → changes_of (if q then r ∷ filter p rs else filter p rs) ≡ []
+    by true first later = ap (λ xs. xs ++ changes_of (filter p rs)) first ∙ later
+    by false first later = later
+
+back_none : (o : Option ℕ) (rs : List Ran) → changes_of rs ≡ [] → changes_of (runs_back o rs) ≡ []
+back_none None rs none = none
+back_none (Some step) rs none = fewer_none (λ r. nat_le r.step step) rs none
+
+-- a stop leaves the children and the runs of a branch
+stopped_same : (n : ℕ) (s : Seen) → ((stopped_by n s).me ≡ s.me) × ((stopped_by n s).parent ≡ s.parent) × ((stopped_by n s).runs ≡ s.runs) × ((stopped_by n s).children ≡ s.children)
 stopped_same n s = by (is_live_at n s)
   where
-    by : (q : Bool) → ((if q then record s { exit = Some Dropped } else s).me ≡ s.me) × ((if q then record s { exit = Some Dropped } else s).parent ≡ s.parent) × ((if q then record s { exit = Some Dropped } else s).own ≡ s.own)
+    by : (q : Bool) → ((if q then record s { exit = Some Dropped } else s).me ≡ s.me) × ((if q then record s { exit = Some Dropped } else s).parent ≡ s.parent) × ((if q then record s { exit = Some Dropped } else s).runs ≡ s.runs)
         × ((if q then record s { exit = Some Dropped } else s).children ≡ s.children)
     by true = (refl, refl, refl, refl)
     by false = (refl, refl, refl, refl)
@@ -155,7 +178,7 @@ module _ (t : History) (whole : IsLawfulRun t) where
     -- ---- what is told of it afterwards
 
     abbrev OwnStays : Seen → Type 0
-    OwnStays s = own_with (runs_for s (run_in f0 trb u) (brings t.places f0 tr0 u).answer) f0.book s.own (run_in f0 trb u) ≡ s.own
+    OwnStays s = runs_with (runs_for s (run_in f0 trb u) (brings t.places f0 tr0 u).answer) f0.book (taken_after u.node s u.input) s (run_in f0 trb u) ≡ s.runs
 
     told_after : (b : BranchId) → exit e1 b ≡ Some Quiet → (it : IsQuiet e0 tr0 b) → OwnStays it.seen → IsQuiet e1 tr1 b
     told_after b gone it own =
@@ -165,7 +188,8 @@ module _ (t : History) (whole : IsLawfulRun t) where
           seen = turned t.places f0 tr0 u it.seen;
           at = seen_turned t.places f0 tr0 u b it.seen it.at;
           below = it.below;
-          own = own ∙ it.own;
+          own = back_none (step_back it.seen.me (brings t.places f0 tr0 u).back)
+              (runs_with (runs_for it.seen (run_in f0 trb u) (brings t.places f0 tr0 u).answer) f0.book (taken_after u.node it.seen u.input) it.seen (run_in f0 trb u)) (ap changes_of own ∙ it.own);
           kids = subst (AllByRecursion (λ c. exit e1 c ≡ Some Quiet)) (sym same) (all_weaker (λ c. exit e0 c ≡ Some Quiet) (λ c. exit e1 c ≡ Some Quiet) later it.seen.children it.kids);
         }
 
@@ -173,7 +197,7 @@ module _ (t : History) (whole : IsLawfulRun t) where
     new_quiet b none gone =
         let q : QuitsNow b = quits_so t hs lawful0 u k may.1 weigh b none gone in
         let it : IsQuiet e0 tr0 b = quit_told b q in
-        told_after b gone it (own_unrun f0.book it.seen (run_in f0 trb u) (brings t.places f0 tr0 u).answer (run_none f0 trb u (q.unasked trb)))
+        told_after b gone it (own_unrun f0.book (taken_after u.node it.seen u.input) it.seen (run_in f0 trb u) (brings t.places f0 tr0 u).answer (run_none f0 trb u (q.unasked trb)))
 
     low : (m : ℕ) (o : Option Stmt) → u.input ≡ inputs.Call m o → m ≤ 64
     low m o call = (call_free f0 k u.node u.input u.took m o call may.1.comes).0.1
@@ -211,7 +235,7 @@ module _ (t : History) (whole : IsLawfulRun t) where
         at_begun = subst (λ c. seen_at trb c ≡ Some s) (sym me) (find_more (is_item_of seen_id b) tr0.seen _ s it.at)
 
         own : OwnStays s
-        own = own_of_left trb s at_begun left.0 left.1 high f0 u low f0.book (brings t.places f0 tr0 u).answer
+        own = own_of_left trb s at_begun left.0 left.1 high f0 u low f0.book (taken_after u.node s u.input) (brings t.places f0 tr0 u).answer
 
     turn_quiet : QuietsAreTold hs → (b : BranchId) → exit e1 b ≡ Some Quiet → IsQuiet e1 tr1 b
     turn_quiet now b gone = elim (exit_or (exit e0 b)) [
@@ -246,7 +270,7 @@ module _ (t : History) (whole : IsLawfulRun t) where
           seen = stopped_by n it.seen;
           at = item_mapped seen_id (stopped_by n) (λ s. (stopped_same n s).0) (tr_at t hs).seen b it.seen it.at;
           below = λ root. it.below (sym same.1 ∙ root);
-          own = same.2 ∙ it.own;
+          own = ap changes_of same.2 ∙ it.own;
           kids = subst (AllByRecursion (λ c. exit (events_after t.places t.commands (f_at t hs) (happenings.Stopped n) (e_at t hs)) c ≡ Some Quiet)) (sym same.3)
               (all_weaker (λ c. exit (e_at t hs) c ≡ Some Quiet) (λ c. exit (events_after t.places t.commands (f_at t hs) (happenings.Stopped n) (e_at t hs)) c ≡ Some Quiet)
               (λ c was. exit_on t.places t.commands (f_at t hs) (happenings.Stopped n) (e_at t hs) c Quiet was) it.seen.children it.kids);

@@ -68,7 +68,7 @@ module _ (tr : Trail) (n : ℕ) where
   answers_unasked {l = l} {v = v} answers = ap (asks tr n) answers.came.is ∙ vote_unasked l.me v answers.kind answers.is_vote
 
   begins_unasked : {at : NodeState} {input : Input} {l : Live} {comment : List ℕ} {b : Bool} → Collects at input l comment b → b ≡ false → asks tr n input ≡ None
-  begins_unasked (steps.By_commit m given call has code is) off = absurd cc
+  begins_unasked (steps.By_commit m given call has code writer is) off = absurd cc
   begins_unasked (steps.By_prepare from b came working) off = ap (asks tr n) came.is
 
 -- ---- a turn

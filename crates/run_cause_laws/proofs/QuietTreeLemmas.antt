@@ -15,7 +15,7 @@ pub record IsQuiet (e : List Event) (tr : Trail) (b : BranchId) : Type 0 where
   pub seen : Seen
   pub at : seen_at tr b ≡ Some seen
   pub below : seen.parent ≢ None
-  pub own : seen.own ≡ []
+  pub own : own_of (Some seen) ≡ []
   pub kids : AllByRecursion (λ c. exit e c ≡ Some Quiet) seen.children
 
 -- ---- lists

@@ -1,4 +1,4 @@
--- What an Exec passes on: the statement that its sender was asked, over the link that its table is behind. (Database
+-- What an Exec passes on: the statement that its sender was asked, over the link that its table is behind; a BACK goes to a child. (Database
 -- Administrator's Guide, "Distributed Transactions Concepts": session trees.)
 use Rattle.std.specs.Prelude.{List, ◌++◌, option_to_list}
 use Rattle.std.specs.List.{AllByRecursion}
@@ -15,7 +15,7 @@ use Rattle.run_rules.specs.Trail.{trail_after}
 
 -- what Exec needs of its turn
 abbrev pub MayExec : Place → Facts → Trail → Trail → List RedoRecord → Input → BranchId → BranchId → Kind → Type 0
-MayExec p f tr after rs input b to (kinds.Exec call given advice passed) = MaySay p f tr after rs input b to (kinds.Exec call given advice passed)
+MayExec p f tr after rs input b to (kinds.Exec call task) = MaySay p f tr after rs input b to (kinds.Exec call task)
 MayExec p f tr after rs input b to _ = Unit {0}
 
 -- each Exec of a turn has it

@@ -1,7 +1,7 @@
 -- Who may write or say what: each record and each message of a turn against its input, the records and what the happenings
 -- before tell. It follows from the turns, and is no premise of the laws. (Database Administrator's Guide, "Distributed
 -- Transactions Concepts": two-phase commit.)
-use Rattle.std.specs.Prelude.{◌≡◌, ℕ, ◌+◌, ◌⊎◌, ◌||◌, Bool, true, false, if◌then◌else◌, List, [], ◌∷◌, ◌++◌, map, filter, option_to_list, IfSome, Option, Some, None}
+use Rattle.std.specs.Prelude.{◌≡◌, ℕ, ◌+◌, ◌⊎◌, ◌||◌, Bool, true, false, List, [], ◌∷◌, ◌++◌, map, filter, option_to_list, IfSome, Option, Some, None}
 use Rattle.std.specs.List.{AllByRecursion, list_all}
 use Rattle.node_rules.specs.Data.{BranchId, Decision, RedoRecord, Sealed, Decided, KeptRow, Stmt, Kind, Msg, Input, Place}
 use Rattle.node_rules.specs.Data.decisions
@@ -9,16 +9,17 @@ use Rattle.node_rules.specs.Data.records
 use Rattle.node_rules.specs.Data.params
 use Rattle.node_rules.specs.Data.stmts
 use Rattle.node_rules.specs.Data.kinds
+use Rattle.node_rules.specs.Data.tasks
 use Rattle.node_rules.specs.Data.inputs
-use Rattle.node_rules.specs.Words.{same, same_text, item_at}
+use Rattle.node_rules.specs.Words.{same_text, item_at}
 use Rattle.node_rules.specs.Ids.{local_text, global_text}
 use Rattle.node_rules.specs.Names.{Behind, named_by, ref_of, passed_on, target_of}
 use Rattle.node_rules.specs.NodeState.{NodeState, kept_row_id}
 use Rattle.node_rules.specs.Force.{is_sealed}
+use Rattle.node_rules.specs.Images.{image_at}
 use Rattle.run_rules.specs.Book.{in_doubt}
 use Rattle.node_rules.specs.Inputs.{Came, IsCall, Brings}
 use Rattle.redo_record.specs.Durable.{durable}
-use Rattle.redo_record.specs.Rows.{toward_of}
 use Rattle.run_rules.specs.Data.{Turn, Happening}
 use Rattle.run_rules.specs.Data.happenings
 use Rattle.run_rules.specs.Facts.{Facts, node_at, place_at, records_at}
@@ -27,7 +28,7 @@ use Rattle.run_rules.specs.Tree.{tree, parent_of}
 use Rattle.run_rules.specs.Trail.{trail_after, is_first_vote, voted_after}
 use Rattle.run_rules.specs.Each.{AtEach}
 use Rattle.run_rules.specs.Lawful.{History}
-use Rattle.run_rules.specs.BranchRecords.{sealed_in, decided_in, toward_in, toward_at, Commits, CommitIsRecorded}
+use Rattle.run_rules.specs.BranchRecords.{sealed_in, decided_in, toward_at, CommitIsRecorded}
 
 -- ---- what comes to a branch
 
@@ -125,7 +126,7 @@ MayWrite p f tr after k n input (records.Table t) = IsCallOf (stmts.CreateTable 
 MayWrite p f tr after k n input (records.Link l) = IsCallOf (stmts.CreateLink l) input
 MayWrite p f tr after k n input (records.Synonym y) = IsCallOf (stmts.CreateSynonym y) input
 MayWrite p f tr after k n input (records.Param (params.Recovery on)) = IsCallOf (stmts.Recovery on) input
-MayWrite p f tr after k n input (records.Param (params.Strength strength)) = ⊥
+MayWrite p f tr after k n input (records.Param (params.Strength strength)) = IsCallOf (stmts.SetStrength strength) input
 MayWrite p f tr after k n input (records.Sealed r) = IsLastVote tr r.me input ⊎ (IsPrepareToLeaf tr r.me input ⊎ IsCommitPoint tr r.me input)
 MayWrite p f tr after k n input (records.Decided r) = IsCommitPoint tr r.me input ⊎ ((parent_of (seen_at tr r.me) ≡ None) × (IsLastVote tr r.me input ⊎ IsCommitOfLeaf tr n r.me input))
 MayWrite p f tr after k n input (records.Ended b d) = HeardFromToward f b d input
@@ -133,6 +134,7 @@ MayWrite p f tr after k n input (records.Forced b d given) = IsForce p f k b d g
 MayWrite p f tr after k n input (records.Met b d mixed) = HeardFromToward f b d input
 MayWrite p f tr after k n input (records.Forgot b) = MayForget f after b input (decided_in (records_at f b.node) b)
 MayWrite p f tr after k n input (records.Hidden b) = IsPurge (item_at kept_row_id (durable (records_at f n)).kept b) b input
+MayWrite p f tr after k n input (records.Image i) = (input ≡ inputs.Checkpoint) × (i ≡ image_at k.stored k.clock)
 
 -- neither a branch nor one below it has changes
 abbrev pub HasNoChanges : Trail → BranchId → Type 0
@@ -151,10 +153,11 @@ abbrev pub asked_of : Option Seen → Option Stmt
 asked_of None = None
 asked_of (Some s) = s.asked
 
--- what a message needs of its turn: an Exec passes on the statement that its sender was asked; Abort is said on Prepare to a
+-- what a message needs of its turn: an Exec passes on the statement that its sender was asked, BACK goes to a child; Abort is said on Prepare to a
 -- gone branch or on a child's Abort, ReadOnly where nothing was changed there or below, Committed where a record says so
 abbrev pub MaySay : Place → Facts → Trail → Trail → List RedoRecord → Input → BranchId → BranchId → Kind → Type 0
-MaySay p f tr after rs input b to (kinds.Exec call given advice passed) = (s : Stmt) × (asked_of (seen_at after b) ≡ Some s) × PassesOn p f s to passed
+MaySay p f tr after rs input b to (kinds.Exec call (tasks.Run given advice passed)) = (s : Stmt) × (asked_of (seen_at after b) ≡ Some s) × PassesOn p f s to passed
+MaySay p f tr after rs input b to (kinds.Exec call (tasks.GoBack keep)) = is_among to (children_at tr b) ≡ true
 MaySay p f tr after rs input b to kinds.Abort = ((life_at f tr b ≡ Gone) × IsPrepare b input) ⊎ IsAbortTo tr b input
 MaySay p f tr after rs input b to kinds.ReadOnly = HasNoChanges tr b
 MaySay p f tr after rs input b to (kinds.Committed n) = CommitIsRecorded rs b n

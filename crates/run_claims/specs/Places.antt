@@ -5,6 +5,7 @@ use Rattle.std.specs.Prelude.{◌≡◌, ℕ, ◌+◌, ◌≤◌, ◌==◌, Bool
 use Rattle.std.specs.List.{list_any}
 use Rattle.node_rules.specs.Data.{BranchId, Stmt, Answer, Advice, Durable}
 use Rattle.node_rules.specs.Data.kinds
+use Rattle.node_rules.specs.Data.tasks
 use Rattle.node_rules.specs.Names.{A_table, Behind, named_by, ref_of, passed_on, target_of}
 use Rattle.node_rules.specs.Inputs.{Came}
 use Rattle.redo_record.specs.Durable.{durable}
@@ -40,7 +41,7 @@ catalog_at t i n = durable (records_at (facts_upto t i) n)
 pub data LeadsTo (t : History) (r : Run) : BranchId → Stmt → Type 0 where
   Runs_here : named_by (catalog_at t r.moment r.branch.node) (ref_of r.statement) ≡ A_table r.table → LeadsTo t r r.branch r.statement
   Passes : (b c : BranchId) (s : Stmt) (i call given : ℕ) (advice : Option Advice) (link table : List ℕ) (u : Turn)
-      → slice_get t.trace i ≡ Some (happenings.Turn u) → i ≤ r.moment → Came u.input b c (kinds.Exec call given advice (passed_on s table))
+      → slice_get t.trace i ≡ Some (happenings.Turn u) → i ≤ r.moment → Came u.input b c (kinds.Exec call (tasks.Run given advice (passed_on s table)))
       → named_by (catalog_at t i b.node) (ref_of s) ≡ Behind link table → target_of (place_at t.places b.node) (catalog_at t i b.node) link ≡ Some c.node
       → LeadsTo t r c (passed_on s table) → LeadsTo t r b s
 

@@ -18,6 +18,7 @@ is_recorded (stmts.CreateTable t) = true
 is_recorded (stmts.CreateLink l) = true
 is_recorded (stmts.CreateSynonym y) = true
 is_recorded (stmts.Recovery on) = true
+is_recorded (stmts.SetStrength strength) = true
 is_recorded (stmts.CommitForce id scn) = true
 is_recorded (stmts.RollbackForce id) = true
 is_recorded (stmts.PurgeMixed id) = true
@@ -40,6 +41,7 @@ pub data Records (p : Place) (k : NodeState) : Stmt → RedoRecord → Done → 
   A_link : (l : Link) → Records p k (stmts.CreateLink l) (records.Link l) dones.LinkMade
   A_synonym : (y : Synonym) → Records p k (stmts.CreateSynonym y) (records.Synonym y) dones.SynonymMade
   A_setting : (on : Bool) → Records p k (stmts.Recovery on) (records.Param (params.Recovery on)) dones.SystemAltered
+  A_strength : (strength : ℕ) → Records p k (stmts.SetStrength strength) (records.Param (params.Strength strength)) dones.SystemAltered
   A_commit_at : (id : List ℕ) (scn : ℕ) (b : BranchId) → branch_to_force p.names k.stored.durable.kept id ≡ Ok b
       → Records p k (stmts.CommitForce id (Some scn)) (records.Forced b (decisions.Commit scn) true) dones.Committed
   A_commit : (id : List ℕ) (b : BranchId) → branch_to_force p.names k.stored.durable.kept id ≡ Ok b

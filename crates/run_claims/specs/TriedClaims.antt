@@ -1,5 +1,5 @@
 -- The claims, tried on single records and happenings: what a claim that is a little off would say otherwise.
-use Rattle.std.specs.Prelude.{◌≡◌, ◌+◌, ℕ, Bool, true, false, List, Option, Ok, Some, None}
+use Rattle.std.specs.Prelude.{◌≡◌, ◌+◌, ℕ, Bool, true, false, List, Option, Ok, None}
 use Rattle.run_rules.specs.Data.fates
 use Rattle.node_rules.specs.Data.{BranchId, Decision, Place}
 use Rattle.node_rules.specs.Data.decisions

@@ -33,7 +33,7 @@ facts_by places asked hs = facts_of places asked (first_facts places) hs
 abbrev pub trail_by : List Place → List Command → List Happening → Trail
 trail_by places asked hs = trail_of places asked (first_facts places) no_trail hs
 
--- A COMMIT of the transaction of a live root, and what has happened since the turn of its call.
+-- A COMMIT of the transaction of a live root, which is not READ ONLY, and what has happened since the turn of its call.
 pub record Commit (places : List Place) (asked : List Command) (trace : List Happening) : Type 0 where
   pub before : List Happening
   pub call : Turn
@@ -48,6 +48,7 @@ pub record Commit (places : List Place) (asked : List Command) (trace : List Hap
   pub of : (session_at kept.sessions session).root ≡ Some root
   pub live : Live
   pub there : live_at kept root ≡ Some live
+  pub writer : live.read_at ≡ None
 
 -- ---- what may disturb it
 

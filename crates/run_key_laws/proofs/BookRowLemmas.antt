@@ -1,10 +1,9 @@
 -- Each record leaves the rows of its node as the book tells them, and what branches in doubt hold back as the book has it.
-use Rattle.std.proofs.Common.{◌≡◌, ◌≢◌, ℕ, ◌==◌, Bool, true, false, if◌then◌else◌, List, [], ◌∷◌, ◌++◌, Option, Some, None, inl, inr, refl, sym, ap, subst, ◌∙◌, append-nil}
-use Rattle.std.specs.Option.{option_or}
+use Rattle.std.proofs.Common.{◌≡◌, ◌≢◌, ℕ, ◌==◌, Bool, true, false, if◌then◌else◌, List, [], ◌∷◌, ◌++◌, Option, Some, None, inl, inr, refl, sym, ap, subst, ◌∙◌, append-nil, true≢false}
 use Rattle.std.proofs.lemmas.Bool.{eq-eqb}
-use Rattle.std.proofs.lemmas.List.Folds.{find-append}
 use Rattle.tran_ids.proofs.BranchLemmas.{equal_from_same, same_from_equal}
 use Rattle.tran_ids.proofs.ListedLemmas.{item_is, drop_gone, drop_leaves}
+use Rattle.tran_ids.specs.Branch.{put_by_branch}
 use Rattle.agreement.specs.Events.{Sealed, Decided, Event, Decide, Learn, Force, Make, Forget, only_at, exit_by, exit, learned_by, learned, forced_by, forced}
 use Rattle.agreement.proofs.EventLemmas.{first_is, only_at_is}
 use Rattle.sql_eval.specs.Rows.{apply}
@@ -27,7 +26,7 @@ use Rattle.run_base_laws.specs.RunEvents.{with_event, record_event}
 use Rattle.run_base_laws.specs.EventRows.{MayStand}
 use Rattle.run_key_laws.specs.TableLaws.{table_in, AreChangesIn, TablesFit, StoredFits}
 use Rattle.run_base_laws.proofs.OwnLemmas.{all_found}
-use Rattle.run_key_laws.proofs.ChangedLemmas.{found_last, none_last}
+use Rattle.run_key_laws.proofs.ChangedLemmas.{found_placed, none_placed}
 use Rattle.run_key_laws.proofs.TableLemmas.{RecordFits, rows_more, has_applied}
 use Rattle.run_key_laws.proofs.DoubtLemmas.{IsOpen, DoubtsAre}
 use Rattle.run_key_laws.proofs.ToldLemmas.{changes_more, told_more, first_left, first_right, not_only, rows_with, made_there}
@@ -52,12 +51,8 @@ decided_changes book c (decisions.Commit m) = changes_of book c
 decided_changes book c decisions.Rollback = []
 
 -- one more in doubt is there
-last_there : (ds : List Doubt) (x : Doubt) (b : BranchId) → x.branch ≡ b → item_at doubt_id (ds ++ x ∷ []) b ≢ None
-last_there ds x b is none = by (item_at doubt_id ds b) (sym (find-append (λ d. same d.branch b) ds (x ∷ [])) ∙ none)
-  where
-    by : (o : Option Doubt) → option_or o (item_at doubt_id (x ∷ []) b) ≡ None → ⊥
-    by (Some y) none = absurd cc
-    by None none = let found : item_at doubt_id (x ∷ []) b ≡ Some x = ap (λ q. if q then Some x else None) (same_from_equal x.branch b is) in absurd (cc (found, none))
+placed_there : (ds : List Doubt) (x : Doubt) (b : BranchId) → x.branch ≡ b → item_at doubt_id (put_by_branch doubt_id ds x) b ≢ None
+placed_there ds x b is none = true≢false (sym (same_from_equal x.branch b is) ∙ (none_placed doubt_id ds x b none).1)
 
 module _ (t : List Event) (book : List Entry) (n : ℕ) (ts : List Table) (rows : List TableRows) (ds : List Doubt) (fits : TablesFit ts rows ds) (doubts : DoubtsAre t n ds) (unseen : IsUnseen t book)
     (now : BookStands t book n ts rows ds) where
@@ -161,26 +156,27 @@ module _ (t : List Event) (book : List Entry) (n : ℕ) (s : Stored) (fits : Sto
   book_with (records.Param (params.Recovery on)) may own fit = same_book t now
   book_with (records.Param (params.Strength strength)) may own fit = same_book t now
   book_with (records.Hidden c) may own fit = same_book t now
+  book_with (records.Image i) may own fit = same_book t now
   book_with (records.Table x) may own fit =
       let quiet : BookStands (Make n x ∷ t) (book ++ entries.Made n x ∷ []) n s.durable.tables s.rows s.doubts = quiet_with (Make n x) (entries.Made n x) refl (λ b. refl) (λ b m is. absurd cc) in
       record { tables = made_there s.durable.tables s.rows x now.tables; told = λ name. rows_more s.rows x.name name ∙ quiet.told name; held = quiet.held; there = quiet.there }
   book_with (records.Sealed r) may own fit = record {
     tables = now.tables;
     told = told_on t book n s.durable.tables s.rows s.doubts fits doubts unseen now (entries.Sealed r.me r.root r.changes r.scn) refl;
-    held = λ b d found. (elim (found_last doubt_id s.doubts (doubt_over s.rows r) b d found) [
+    held = λ b d found. (elim (found_placed doubt_id s.doubts (doubt_over s.rows r) b d found) [
       | inl old ↦ held_on t book n s.durable.tables s.rows s.doubts fits doubts unseen now (entries.Sealed r.me r.root r.changes r.scn) b d
           (ap (λ q. if q then r.changes else []) (not_unseen t book n s.durable.tables s.rows s.doubts fits doubts unseen now r.me b d may.0 old)) old
       | inr new ↦ (
-          let me : d.branch ≡ b = item_is doubt_id (s.doubts ++ doubt_over s.rows r ∷ []) b d found in
-          let at : r.me ≡ b = ap (λ (x : Doubt). x.branch) new.1 ∙ me in
-          let is : r.changes ≡ d.changes = ap (λ (x : Doubt). x.changes) new.1 in
+          let me : d.branch ≡ b = item_is doubt_id (put_by_branch doubt_id s.doubts (doubt_over s.rows r)) b d found in
+          let at : r.me ≡ b = ap (λ (x : Doubt). x.branch) new ∙ me in
+          let is : r.changes ≡ d.changes = ap (λ (x : Doubt). x.changes) new in
           sym is ∙ sym (changes_more book (entries.Sealed r.me r.root r.changes r.scn) b
           ∙ (ap (λ cs. cs ++ (if same r.me b then r.changes else [])) (unseen b (subst (λ m. exit t m ≡ None) at may.0)) ∙ ap (λ q. if q then r.changes else []) (same_from_equal r.me b at)))
           )
     ]);
     there = λ b m here sealed unlearned unforced. (elim (first_is (exit t b) (only_at r.me b (Sealed r.scn)) (Sealed m) sealed) [
-      | inl old ↦ (λ none. now.there b m here old (first_left (learned t b) None unlearned) (first_left (forced t b) None unforced) (none_last doubt_id s.doubts (doubt_over s.rows r) b none))
-      | inr new ↦ last_there s.doubts (doubt_over s.rows r) b (only_at_is r.me b (Sealed r.scn) (Sealed m) new.1).0
+      | inl old ↦ (λ none. now.there b m here old (first_left (learned t b) None unlearned) (first_left (forced t b) None unforced) (none_placed doubt_id s.doubts (doubt_over s.rows r) b none).0)
+      | inr new ↦ placed_there s.doubts (doubt_over s.rows r) b (only_at_is r.me b (Sealed r.scn) (Sealed m) new.1).0
     ]);
   }
   book_with (records.Decided r) may own fit = record {

@@ -16,12 +16,14 @@ use Rattle.node_rules.specs.Data.inputs
 use Rattle.commit_forget.specs.declared.next.Next.TheVariants as nexts
 use Rattle.node_rules.specs.Turn.{heard, draft_of}
 use Rattle.node_rules.proofs.Steps as steps
-use Rattle.node_rules.proofs.Steps.{Step, Makes, Makes_table, Makes_link, Makes_synonym, Sets_recovery}
+use Rattle.node_rules.proofs.Steps.{Step, Makes, Makes_table, Makes_link, Makes_synonym, Sets_recovery, Sets_strength}
 use Rattle.run_base_laws.specs.NodeLaws.{unacked}
 use Rattle.node_rules.specs.Words.{same, numbered, item_at}
 use Rattle.node_rules.specs.Rows.{rows_of_table}
-use Rattle.node_rules.specs.NodeState.{NodeState, TurnDraft, Stored, doubt_id}
+use Rattle.node_rules.specs.NodeState.{NodeState, TurnDraft, Stored, doubt_id, Branch}
 use Rattle.node_rules.specs.Records.{applied, nothing_stored, stored_by}
+use Rattle.node_rules.specs.Calls.{backs_to}
+use Rattle.node_rules.specs.Marks.{node_back, branch_back, next_back}
 use Rattle.book.specs.Entries.{entry_of, entries_of}
 use Rattle.redo_record.specs.Durable.{durable_after}
 use Rattle.run_rules.specs.Data.{Entry, Turn, Happening, Command}
@@ -85,6 +87,7 @@ entry_elsewhere n m (records.Forced c decisions.Rollback given) own other = ((λ
 entry_elsewhere n m (records.Met c d mixed) own other = ((λ older. refl, λ b here. refl), tt)
 entry_elsewhere n m (records.Forgot c) own other = tt
 entry_elsewhere n m (records.Hidden c) own other = tt
+entry_elsewhere n m (records.Image i) own other = tt
 
 module _ (t : List Event) (book : List Entry) (n : ℕ) (s : Stored) (doubts : DoubtsAre t n s.doubts) (now : StoredStands t book n s) where
   -- a record of another node
@@ -128,6 +131,7 @@ module _ (t : List Event) (book : List Entry) (unseen : IsUnseen t book) where
   unseen_with n (records.Synonym y) = same_unseen
   unseen_with n (records.Param x) = same_unseen
   unseen_with n (records.Hidden c) = same_unseen
+  unseen_with n (records.Image i) = same_unseen
   unseen_with n (records.Table x) = λ b none. seen_more (entries.Made n x) b (unseen b (first_left (exit t b) None none)) refl
   unseen_with n (records.Sealed r) = λ b none. seen_more (entries.Sealed r.me r.root r.changes r.scn) b (unseen b (first_left (exit t b) _ none)) (ap (λ q. if q then r.changes else []) (not_only r.me b _ (first_right (exit t b) _ none)))
   unseen_with n (records.Decided r) = λ b none. seen_more (entries.Decided r.me r.root r.changes r.scn) b (unseen b (first_left (exit t b) _ none)) (ap (λ q. if q then r.changes else []) (not_only r.me b _ (first_right (exit t b) _ none)))
@@ -166,11 +170,19 @@ record_made ts whole (Makes_table t free) = whole
 record_made ts whole (Makes_link l free) = tt
 record_made ts whole (Makes_synonym y free) = tt
 record_made ts whole (Sets_recovery on) = tt
+record_made ts whole (Sets_strength strength) = tt
+
+-- going back writes none
+back_fits : (k : NodeState) (x : Branch) (to : ℕ) (next : Option ℕ) → IfSome (backs_to (node_back k x to) (branch_back k x to) to next).wrote (RecordFits k.stored.durable.tables)
+back_fits k x to None = tt
+back_fits k x to (Some i) = tt
 
 -- the record of a step changes tables of its node
 record_fits : (p : Place) (input : Input) {k : NodeState} {d : TurnDraft} → Step p input k d → IfSome d.wrote MakesWhole → LiveChangesFit k.stored.durable.tables k.owns → IfSome d.wrote (RecordFits k.stored.durable.tables)
-record_fits p input (steps.Begins n s call rows fit none step) whole own = record_fits p input step whole own
-record_fits p input (steps.Pends n l given call has live code step) whole own = record_fits p input step whole own
+record_fits p input (steps.Begins n s read_at call begins fit none step) whole own = record_fits p input step whole own
+record_fits p input (steps.Counts_call n s call counts step) whole own = record_fits p input step whole own
+record_fits p input (steps.Goes_back {k = k} x to goes next) whole own = back_fits k x to (next_back (branch_back k x to).work to 1)
+record_fits p input (steps.Pends n l given call has live code writer step) whole own = record_fits p input step whole own
 record_fits p input (steps.Lets_reads_go l comment site_below live begins step) whole own = record_fits p input step whole own
 record_fits p input (steps.Counts_ack s from kept came counts step) whole own = record_fits p input step whole own
 record_fits p input (steps.Acts {k = k} l site_below acts.Seal why) whole own = own l.me
@@ -198,12 +210,14 @@ heard_stores rs k (inputs.Message m) stored = stored
 heard_stores rs k (inputs.Call n s) stored = stored
 heard_stores rs k (inputs.GiveUp n) stored = stored
 heard_stores rs k inputs.Reco stored = stored
+heard_stores rs k inputs.Checkpoint stored = stored
 
 heard_live : (k : NodeState) (input : Input) → LiveChangesFit k.stored.durable.tables k.owns → LiveChangesFit (heard k input).stored.durable.tables (heard k input).owns
 heard_live k (inputs.Message m) own = own
 heard_live k (inputs.Call n s) own = own
 heard_live k (inputs.GiveUp n) own = own
 heard_live k inputs.Reco own = own
+heard_live k inputs.Checkpoint own = own
 
 module _ (places : List Place) (asked : List Command) (each : (n : ℕ) (p : Place) → numbered places n ≡ Some p → IsPlace places n p) (f : Facts) (t : List Event) (all : AllStands places asked each f t) (now : BookTells f t) where
   -- the tables of a disk fit

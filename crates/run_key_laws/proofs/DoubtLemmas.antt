@@ -18,7 +18,7 @@ use Rattle.run_rules.specs.Lawful.{IsPlace, MayHappen}
 use Rattle.run_base_laws.specs.IdLaws.{IsRecordOf}
 use Rattle.run_base_laws.specs.RunEvents.{with_event, wrote_event, record_event, with_record, events_after}
 use Rattle.run_base_laws.specs.EventRows.{MayStand}
-use Rattle.run_rules.proofs.ListLemmas.{all_weaker, all_append, all_filter}
+use Rattle.run_rules.proofs.ListLemmas.{all_weaker, all_put, all_filter}
 use Rattle.run_base_laws.proofs.StoredLemmas.{stored_with}
 use Rattle.run_base_laws.proofs.LaterLemmas.{Added, Later, exit_later, learned_same, forced_same, later_learned, later_forced, turn_added, stop_added}
 use Rattle.run_base_laws.proofs.RowEventLemmas.{only_none}
@@ -82,15 +82,14 @@ doubts_with t n s (records.Link l) may own all = all
 doubts_with t n s (records.Synonym y) may own all = all
 doubts_with t n s (records.Param x) may own all = all
 doubts_with t n s (records.Sealed r) may own all =
-    all_append (λ d. IsOpen (Seal r.me r.root r.scn r.changes ∷ t) n d.branch) s.doubts (doubt_over s.rows r ∷ []) (doubts_next t n _ s.doubts (λ b is. (refl, refl)) all) (
-      record {
-        here = own;
-        scn = r.scn;
-        is_sealed = ap (λ o. first o (only_at r.me r.me (Sealed r.scn))) may.0 ∙ ap (λ q. if q then Some (Sealed r.scn) else None) (same_from_equal r.me r.me refl);
-        unlearned = first_none (learned t r.me) None may.1 refl;
-        unforced = first_none (forced t r.me) None may.2 refl;
-      },
-      tt,
+    all_put (λ d. IsOpen (Seal r.me r.root r.scn r.changes ∷ t) n d.branch) doubt_id s.doubts (doubt_over s.rows r) (doubts_next t n _ s.doubts (λ b is. (refl, refl)) all) (
+    record {
+      here = own;
+      scn = r.scn;
+      is_sealed = ap (λ o. first o (only_at r.me r.me (Sealed r.scn))) may.0 ∙ ap (λ q. if q then Some (Sealed r.scn) else None) (same_from_equal r.me r.me refl);
+      unlearned = first_none (learned t r.me) None may.1 refl;
+      unforced = first_none (forced t r.me) None may.2 refl;
+    }
     )
 doubts_with t n s (records.Decided r) may own all = doubts_next t n _ s.doubts (λ b is. (refl, refl)) all
 doubts_with t n s (records.Ended c d) may own all = doubts_less t n _ c s.doubts (λ b other. (only_none c b d other, refl)) all
@@ -98,6 +97,7 @@ doubts_with t n s (records.Forced c d given) may own all = doubts_less t n _ c s
 doubts_with t n s (records.Met c d mixed) may own all = doubts_next t n _ s.doubts (λ b is. (only_none c b d (met_other t n c may.2.0 b may.2.1 is), refl)) all
 doubts_with t n s (records.Forgot c) may own all = doubts_next t n _ s.doubts (λ b is. (refl, refl)) all
 doubts_with t n s (records.Hidden c) may own all = all
+doubts_with t n s (records.Image i) may own all = all
 
 -- ---- happenings
 

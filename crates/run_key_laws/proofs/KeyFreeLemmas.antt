@@ -42,6 +42,7 @@ module _ (places : List Place) (asked : List Command) (each : (n : ℕ) (p : Pla
     heard_doubts (inputs.Call m s) = doubts_same (records_at f n) k (stored_so places asked each f t all.stand all.doubts all.tables all.keys n k up)
     heard_doubts (inputs.GiveUp m) = doubts_same (records_at f n) k (stored_so places asked each f t all.stand all.doubts all.tables all.keys n k up)
     heard_doubts inputs.Reco = doubts_same (records_at f n) k (stored_so places asked each f t all.stand all.doubts all.tables all.keys n k up)
+    heard_doubts inputs.Checkpoint = doubts_same (records_at f n) k (stored_so places asked each f t all.stand all.doubts all.tables all.keys n k up)
 
     free_now : IfSome draft.wrote (ChangesFreeKeys (stored_by nothing_stored (records_at f n)).doubts)
     free_now =

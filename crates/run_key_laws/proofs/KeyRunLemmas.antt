@@ -45,7 +45,7 @@ sees_of k fits b name t found = (one_key k b t name found fits, sees_rows k b t 
 start_keys : (rs : List RedoRecord) (boot : ℕ) → DoubtsApart (stored_by nothing_stored rs).doubts → Keys (start_of (rs ++ records.Boot boot ∷ []))
 unfolding start_of applied IsDistinct
 start_keys rs boot apart =
-    subst (λ s. Keys (kept_by s)) (sym (stored_with rs (Some (records.Boot boot))))
+    subst (λ s. Keys (kept_by s (start_of (rs ++ records.Boot boot ∷ [])).versions)) (sym (stored_with rs (Some (records.Boot boot))))
     (record {
       apart = start_distinct (stored_by nothing_stored rs).doubts [] tt;
       own = λ b. tt;
@@ -100,30 +100,35 @@ module _ (places : List Place) (asked : List Command) (each : (n : ℕ) (p : Pla
     heard_apart (inputs.Call m s) apart = apart
     heard_apart (inputs.GiveUp m) apart = apart
     heard_apart inputs.Reco apart = apart
+    heard_apart inputs.Checkpoint apart = apart
 
     heard_fits : (input : Input) → Fits k → Fits (heard k input)
     heard_fits (inputs.Message m) fits = fits
     heard_fits (inputs.Call m s) fits = fits
     heard_fits (inputs.GiveUp m) fits = fits
     heard_fits inputs.Reco fits = fits
+    heard_fits inputs.Checkpoint fits = fits
 
     heard_own : (input : Input) → ChangesAreOfLives k.lives k.owns → ChangesAreOfLives (heard k input).lives (heard k input).owns
     heard_own (inputs.Message m) own = own
     heard_own (inputs.Call m s) own = own
     heard_own (inputs.GiveUp m) own = own
     heard_own inputs.Reco own = own
+    heard_own inputs.Checkpoint own = own
 
     pub heard_keys : (input : Input) → Keys k → Keys (heard k input)
     heard_keys (inputs.Message m) keys = keys
     heard_keys (inputs.Call m s) keys = keys
     heard_keys (inputs.GiveUp m) keys = keys
     heard_keys inputs.Reco keys = keys
+    heard_keys inputs.Checkpoint keys = keys
 
     heard_stored : (input : Input) → StoresOf (records_at f n) (heard k input)
     heard_stored (inputs.Message m) = stored_so
     heard_stored (inputs.Call m s) = stored_so
     heard_stored (inputs.GiveUp m) = stored_so
     heard_stored inputs.Reco = stored_so
+    heard_stored inputs.Checkpoint = stored_so
 
     pub keys_so : Keys k
     keys_so = subst (λ o. IfSome o Keys) up (now n).0

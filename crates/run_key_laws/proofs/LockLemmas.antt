@@ -1,5 +1,5 @@
 -- Each lock of a node is held by a branch that is live there, or in doubt.
-use Rattle.std.proofs.Common.{◌≡◌, ℕ, ◌||◌, not, Bool, true, false, if◌then◌else◌, List, [], ◌∷◌, ◌++◌, fold, Some, None, refl, sym, ap, subst, ◌∙◌, true≢false}
+use Rattle.std.proofs.Common.{◌≡◌, ℕ, ◌||◌, not, Bool, true, false, if◌then◌else◌, List, [], ◌∷◌, ◌++◌, fold, Some, None, refl, sym, ap, subst, ◌∙◌, true≢false, Option}
 use Rattle.std.specs.List.{AllByRecursion, list_any}
 use Rattle.std.proofs.lemmas.Bool.{or_right}
 use Rattle.row_locks.specs.Locks.{Lock, is_held_by, is_lock_on, taken, doubted, without}
@@ -9,7 +9,7 @@ use Rattle.node_rules.specs.Data.records
 use Rattle.node_rules.specs.Data.acts
 use Rattle.commit_forget.specs.declared.next.Next.TheVariants as nexts
 use Rattle.node_rules.specs.Words.{same, is_item_of, put_item, drop_item}
-use Rattle.node_rules.specs.NodeState.{NodeState, TurnDraft, live_id, doubt_id, without_branch}
+use Rattle.node_rules.specs.NodeState.{NodeState, TurnDraft, live_id, doubt_id, without_branch, Branch}
 use Rattle.node_rules.specs.Records.{applied, with_record, with_doubt, take_changed, doubt_over}
 use Rattle.node_rules.specs.Prepare.{sealed_of, own_changes, ready}
 use Rattle.node_rules.specs.Statement.{StmtOutcome, Refuses, Reads, Writes, ran}
@@ -18,9 +18,14 @@ use Rattle.node_rules.proofs.Steps as steps
 use Rattle.node_rules.proofs.Steps.{Step}
 use Rattle.node_rules.proofs.StandLemmas.{live_so}
 use Rattle.run_base_laws.specs.NodeLaws.{HoldersAreThere}
-use Rattle.run_rules.proofs.ListLemmas.{all_weaker, all_filter, all_map, all_there, any_found, any_more, any_last, any_dropped, any_put}
-use Rattle.node_rules.proofs.StepLemmas.{IsLive, asked_live, acting_live, made_so}
+use Rattle.run_rules.proofs.ListLemmas.{all_weaker, all_filter, all_map, all_there, any_found, any_more, any_dropped, any_put}
+use Rattle.node_rules.proofs.StepLemmas.{IsLive, asked_live, acting_live, made_so, gone_back_live, calling_back_live}
+use Rattle.node_rules.specs.Calls.{backs_to}
+use Rattle.node_rules.specs.Marks.{is_changed_in, changes_left, stays_held, node_back, branch_back, next_back}
 use Rattle.run_base_laws.proofs.NodeLemmas.{KeepsAlone, kept_alone}
+use Rattle.tran_ids.specs.Branch.{branch_below, put_by_branch}
+use Rattle.tran_ids.proofs.BranchLemmas.{same_from_equal}
+use Rattle.node_undo_laws.proofs.BackLemmas.{all_back}
 
 -- ---- locks, each of a branch that is so
 
@@ -83,6 +88,30 @@ or_so : (a b c d : Bool) → (a ≡ true → c ≡ true) → (b ≡ true → d �
 or_so true b c d f g is = ap (λ x. x || d) (f refl)
 or_so false b c d f g is = or_right c d (g is)
 
+-- an item at the place of its branch is there, and so are the others
+module _ {A : Type 0} (id : A → BranchId) (c : BranchId) where
+  any_beside : (xs : List A) (x : A) → list_any (is_item_of id c) xs ≡ true → list_any (is_item_of id c) (put_by_branch id xs x) ≡ true
+  any_beside [] x there = absurd (true≢false (sym there))
+  any_beside (y ∷ ys) x there = by (branch_below (id x) (id y)) there (any_beside ys x)
+    where
+      behind : (here : Bool) → (here || list_any (is_item_of id c) ys) ≡ true → (list_any (is_item_of id c) ys ≡ true → list_any (is_item_of id c) (put_by_branch id ys x) ≡ true)
+          → (here || list_any (is_item_of id c) (put_by_branch id ys x)) ≡ true
+      behind true there later = refl
+      behind false there later = later there
+
+      by : (above : Bool) → list_any (is_item_of id c) (y ∷ ys) ≡ true → (list_any (is_item_of id c) ys ≡ true → list_any (is_item_of id c) (put_by_branch id ys x) ≡ true)
+          → list_any (is_item_of id c) (if above then x ∷ y ∷ ys else y ∷ put_by_branch id ys x) ≡ true
+      by true there later = or_right (is_item_of id c x) (list_any (is_item_of id c) (y ∷ ys)) there
+      by false there later = behind (is_item_of id c y) there later
+
+  any_placed : (xs : List A) (x : A) → is_item_of id c x ≡ true → list_any (is_item_of id c) (put_by_branch id xs x) ≡ true
+  any_placed [] x is = ap (λ here. here || false) is
+  any_placed (y ∷ ys) x is = by (branch_below (id x) (id y)) (any_placed ys x is)
+    where
+      by : (above : Bool) → list_any (is_item_of id c) (put_by_branch id ys x) ≡ true → list_any (is_item_of id c) (if above then x ∷ y ∷ ys else y ∷ put_by_branch id ys x) ≡ true
+      by true rest = ap (λ here. here || list_any (is_item_of id c) (y ∷ ys)) is
+      by false rest = or_right (is_item_of id c y) (list_any (is_item_of id c) (put_by_branch id ys x)) rest
+
 -- ---- what a node keeps
 
 -- more may hold these locks
@@ -125,16 +154,28 @@ module _ (k : NodeState) where
   sealed : (r : Sealed) → HeldAt k → HeldAt (with_record (without_branch k r.me) (records.Sealed r))
   unfolding applied
   sealed r now =
-      let more : List Doubt = k.stored.doubts ++ doubt_over k.stored.rows r ∷ [] in
+      let more : List Doubt = put_by_branch doubt_id k.stored.doubts (doubt_over k.stored.rows r) in
       let fewer : List Live = drop_item live_id k.lives r.me in
       all_in_doubt (May fewer more) (without (without k.locks r.me) r.me) r.me r.changes
       (all_filter _ _ _ (λ l passes held. held) (without k.locks r.me)
-      (wider fewer fewer k.stored.doubts more (without k.locks r.me) (λ c is. is) (λ c is. any_more doubt_id k.stored.doubts c (doubt_over k.stored.rows r) is) (dropped r.me now)))
-      (or_right (is_live fewer r.me) (is_doubted more r.me) (any_last doubt_id k.stored.doubts r.me (doubt_over k.stored.rows r) refl))
+      (wider fewer fewer k.stored.doubts more (without k.locks r.me) (λ c is. is) (λ c is. any_beside doubt_id c k.stored.doubts (doubt_over k.stored.rows r) is) (dropped r.me now)))
+      (or_right (is_live fewer r.me) (is_doubted more r.me) (any_placed doubt_id r.me k.stored.doubts (doubt_over k.stored.rows r) (same_from_equal r.me r.me refl)))
 
   -- a live branch may hold locks
   live_may : (b : BranchId) → IsLive k b → May k.lives k.stored.doubts b
   live_may b live = ap (λ there. there || is_doubted k.stored.doubts b) (any_found (is_item_of live_id b) k.lives live.0 live.1)
+
+-- a branch goes back, whichever child it calls first
+went_back : (k : NodeState) (x : Branch) (step : ℕ) → IsLive k x.live.me → HeldAt k → (next : Option ℕ) → HeldAt (backs_to (node_back k x step) (branch_back k x step) step next).after
+went_back k x step live now next = by next
+  where
+    kept : Held (put_item live_id k.lives (branch_back k x step).live) k.stored.doubts (node_back k x step).locks
+    kept = changed (node_back k x step) _ live
+        (all_back x.live.me (stays_held k x step) (is_changed_in (changes_left k x step)) (λ l. May k.lives k.stored.doubts l.branch) (λ l held. held) k.locks now)
+
+    by : (next : Option ℕ) → HeldAt (backs_to (node_back k x step) (branch_back k x step) step next).after
+    by None = kept
+    by (Some i) = kept
 
 -- ---- steps
 
@@ -142,8 +183,10 @@ module _ (p : Place) (input : Input) where
   -- each step leaves them there
   held_on : {k : NodeState} {d : TurnDraft} → Step p input k d → HeldAt k → HeldAt d.after
   unfolding applied
-  held_on (steps.Begins {k = k} n s call rows fit none step) now = held_on step (begun k _ now)
-  held_on (steps.Pends n l given call has live code step) now = held_on step now
+  held_on (steps.Begins {k = k} n s read_at call begins fit none step) now = held_on step (begun k _ now)
+  held_on (steps.Counts_call n s call counts step) now = held_on step now
+  held_on (steps.Goes_back {k = k} x to goes next) now = went_back k x to (x.live, gone_back_live goes) now (next_back (branch_back k x to).work to 1)
+  held_on (steps.Pends n l given call has live code writer step) now = held_on step now
   held_on (steps.Lets_reads_go {k = k} l comment site_below live begins step) now = held_on step (all_filter _ _ _ (λ m passes held. held) k.locks now)
   held_on (steps.Counts_ack s from kept came counts step) now = held_on step now
   held_on (steps.Runs {k = k} x s given t asked way) now =
@@ -154,7 +197,9 @@ module _ (p : Place) (input : Input) where
   held_on (steps.Opens {k = k} x s given node link table asked way) now = changed k _ (asked_live asked) now
   held_on (steps.Goes_on {k = k} x from strength g link opened) now = changed k _ (x.live, live_so k x.live.me x opened.live) now
   held_on (steps.Hears_reply {k = k} x weight count a i e answered) now = changed k _ (x.live, live_so k x.live.me x answered.live) now
-  held_on (steps.Opens_branch {k = k} to parent edge root depth came new) now = begun k _ now
+  held_on (steps.Backs {k = k} x to from i calls next) now = changed k _ (calling_back_live calls) now
+  held_on (steps.Is_back {k = k} x to from calls none) now = changed k _ (calling_back_live calls) now
+  held_on (steps.Opens_branch {k = k} to parent edge root depth read_at came new) now = begun k _ now
   held_on (steps.Acts {k = k} l site_below acts.Rest why) now = changed k l (acting_live why) now
   held_on (steps.Acts {k = k} l site_below acts.AskDown why) now = changed k l (acting_live why) now
   held_on (steps.Acts {k = k} l site_below acts.SayReady why) now = changed k (ready l) (acting_live why) now
@@ -168,14 +213,15 @@ module _ (p : Place) (input : Input) where
   held_on (steps.Forces_given {k = k} n id m b call is) now = settled k b now
   held_on (steps.Forces_commit {k = k} n id b call is) now = settled k b now
   held_on (steps.Forces_rollback {k = k} n id b call is) now = settled k b now
-  held_on (steps.Rolls_back {k = k} n x call has live) now = dropped k x.live.me now
+  held_on (steps.Leaves {k = k} n s d x call ends has live) now = dropped k x.live.me now
+  held_on (steps.Sets_savepoint {k = k} n x name call has code live) now = changed k _ (x.live, live_so k x.live.me x live) now
   held_on (steps.Gives_up {k = k} n x gives has pending live) now = changed k _ (x.live, live_so k x.live.me x live) now
   held_on (steps.Gives_up_commit {k = k} n b (Some l) gives has pending live) now = dropped k l.me now
   held_on _ now = now
 
 pub held : KeepsAlone HeldAt
 held = record {
-  starts = λ s. all_doubts (May [] s.doubts) s.doubts [] tt (all_there doubt_id s.doubts);
+  starts = λ s vs. all_doubts (May [] s.doubts) s.doubts [] tt (all_there doubt_id s.doubts);
   hears = λ k scn now. now;
   steps = λ p input k d step now. held_on p input step now;
 }

@@ -18,6 +18,7 @@ use Rattle.run_rules.proofs.ListLemmas.{all_weaker}
 use Rattle.run_base_laws.proofs.RowEventLemmas.{same_turned}
 use Rattle.run_key_laws.proofs.RiseLemmas.{scns_rise}
 use Rattle.run_key_laws.proofs.KeyFreeLemmas.{records_change_free_keys}
+use Rattle.tran_ids.specs.Branch.{branch_below, put_by_branch}
 
 -- ---- SCNs
 
@@ -62,14 +63,17 @@ abbrev pub Among : Doubt → List Doubt → Type 0
 Among d [] = ⊥
 Among d (e ∷ es) = (e ≡ d) ⊎ Among d es
 
-among_more : (d x : Doubt) (ds : List Doubt) → Among d ds → Among d (ds ++ x ∷ [])
+among_more : (d x : Doubt) (ds : List Doubt) → Among d ds → Among d (put_by_branch doubt_id ds x)
 among_more d x [] there = absurd there
-among_more d x (e ∷ es) (inl here) = inl here
-among_more d x (e ∷ es) (inr there) = inr (among_more d x es there)
+among_more d x (e ∷ es) there = cond_both (branch_below x.branch e.branch) _ _ (Among d) (λ above. inr there) (λ below. behind there (among_more d x es))
+  where
+    behind : Among d (e ∷ es) → (Among d es → Among d (put_by_branch doubt_id es x)) → Among d (e ∷ put_by_branch doubt_id es x)
+    behind (inl here) more = inl here
+    behind (inr later) more = inr (more later)
 
-among_last : (x : Doubt) (ds : List Doubt) → Among x (ds ++ x ∷ [])
-among_last x [] = inl refl
-among_last x (e ∷ es) = inr (among_last x es)
+among_placed : (x : Doubt) (ds : List Doubt) → Among x (put_by_branch doubt_id ds x)
+among_placed x [] = inl refl
+among_placed x (e ∷ es) = cond_both (branch_below x.branch e.branch) _ _ (Among x) (λ above. inl refl) (λ below. inr (among_placed x es))
 
 among_dropped : (d : Doubt) (c : BranchId) (ds : List Doubt) → same d.branch c ≡ false → Among d ds → Among d (drop_item doubt_id ds c)
 among_dropped d c [] other there = absurd there
@@ -126,7 +130,7 @@ among_free d (e ∷ es) cs free (inr there) = among_free d es cs free.1 there
 -- a branch that seals is in doubt
 sealed_among : (s : Stored) (x : Sealed) → Among (doubt_over s.rows x) (applied s (records.Sealed x)).doubts
 unfolding applied
-sealed_among s x = among_last (doubt_over s.rows x) s.doubts
+sealed_among s x = among_placed (doubt_over s.rows x) s.doubts
 
 module _ (whole : List RedoRecord) (cs : List Change) where
   -- it is done, where none in doubt after these records holds a key of these changes

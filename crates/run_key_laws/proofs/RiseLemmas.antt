@@ -6,7 +6,7 @@ use Rattle.node_rules.specs.Data.{RedoRecord, Place, Input}
 use Rattle.node_rules.specs.Data.acts
 use Rattle.node_rules.specs.Data.records
 use Rattle.commit_forget.specs.declared.next.Next.TheVariants as nexts
-use Rattle.node_rules.specs.NodeState.{NodeState, TurnDraft, Stored}
+use Rattle.node_rules.specs.NodeState.{NodeState, TurnDraft, Stored, Branch}
 use Rattle.node_rules.specs.Records.{nothing_stored, stored_by}
 use Rattle.node_rules.specs.Turn.{start_of}
 use Rattle.node_rules.proofs.Steps as steps
@@ -16,6 +16,8 @@ use Rattle.run_rules.specs.Branches.{no_trail}
 use Rattle.run_base_laws.specs.NodeLaws.{IsLater}
 use Rattle.run_key_laws.specs.RiseLaws.{EachRecordFrom, ScnsRise}
 use Rattle.node_rules.proofs.StepLemmas.{made_so}
+use Rattle.node_rules.specs.Calls.{backs_to}
+use Rattle.node_rules.specs.Marks.{node_back, branch_back, next_back}
 use Rattle.run_base_laws.proofs.StoredLemmas.{StoresOf, step_stores_of, start_stores}
 use Rattle.run_base_laws.proofs.ClockLemmas.{Covers, covers}
 use Rattle.run_base_laws.proofs.LawfulLemmas.{lawful_keeps}
@@ -36,10 +38,16 @@ module _ (So : Stored → RedoRecord → Type 0) where
 -- ---- steps
 
 module _ (p : Place) (input : Input) (scn : ℕ) where
+  back_later : (k : NodeState) (x : Branch) (to : ℕ) (next : Option ℕ) → IfSome (backs_to (node_back k x to) (branch_back k x to) to next).wrote (IsLater scn)
+  back_later k x to None = tt
+  back_later k x to (Some i) = tt
+
   -- a step's record comes later than all that the clock has met
   comes_later : {k : NodeState} {d : TurnDraft} → Step p input k d → scn ≤ k.clock → IfSome d.wrote (IsLater scn)
-  comes_later (steps.Begins n s call rows fit none step) now = comes_later step now
-  comes_later (steps.Pends n l given call has live code step) now = comes_later step now
+  comes_later (steps.Begins n s read_at call begins fit none step) now = comes_later step now
+  comes_later (steps.Counts_call n s call counts step) now = comes_later step now
+  comes_later (steps.Goes_back {k = k} x to goes next) now = back_later k x to (next_back (branch_back k x to).work to 1)
+  comes_later (steps.Pends n l given call has live code writer step) now = comes_later step now
   comes_later (steps.Lets_reads_go l comment site_below live begins step) now = comes_later step now
   comes_later (steps.Counts_ack s from kept came counts step) now = comes_later step now
   comes_later (steps.Acts l site_below acts.Seal why) now = now
@@ -76,7 +84,7 @@ starts_rise rs boot all = records_with (λ s r. IsLater s.scn r) rs (Some (recor
 
 start_covers : (rs : List RedoRecord) → Covers (start_of rs)
 unfolding start_of
-start_covers rs = covers.starts (stored_by nothing_stored rs)
+start_covers rs = covers.starts (stored_by nothing_stored rs) (start_of rs).versions
 
 pub rises : Keeps J I
 rises = record {

@@ -19,7 +19,7 @@ use Rattle.node_rules.specs.NodeState.{Stored, doubt_id}
 use Rattle.node_rules.specs.Records.{applied, settled, doubt_over}
 use Rattle.redo_record.specs.Durable.{durable_after}
 use Rattle.run_key_laws.specs.TableLaws.{table_in, IsChangeIn, AreChangesIn, TablesFit, StoredFits}
-use Rattle.run_rules.proofs.ListLemmas.{all_weaker, all_append}
+use Rattle.run_rules.proofs.ListLemmas.{all_weaker, all_append, all_put}
 use Rattle.run_base_laws.proofs.OwnLemmas.{all_found, all_without}
 
 -- ---- tables
@@ -182,7 +182,7 @@ stored_fits s (records.Synonym y) is now = now
 stored_fits s (records.Param (params.Recovery on)) is now = now
 stored_fits s (records.Param (params.Strength strength)) is now = now
 stored_fits s (records.Sealed r) is now =
-    record { one_key = now.one_key; known = now.known; rows_of = now.rows_of; doubts = all_append (λ d. AreChangesIn s.durable.tables d.changes) s.doubts (doubt_over s.rows r ∷ []) now.doubts (is, tt) }
+    record { one_key = now.one_key; known = now.known; rows_of = now.rows_of; doubts = all_put (λ d. AreChangesIn s.durable.tables d.changes) doubt_id s.doubts (doubt_over s.rows r) now.doubts is }
 stored_fits s (records.Decided r) is now = applied_fits s.durable.tables r.changes is s.rows s.doubts now
 stored_fits s (records.Ended b d) is now =
     fewer_doubts s.durable.tables s.rows s.doubts now b (settled s.rows (item_at doubt_id s.doubts b) d) (settled_fits s.durable.tables s.rows s.doubts now b d (item_at doubt_id s.doubts b) refl)
@@ -191,3 +191,4 @@ stored_fits s (records.Forced b d given) is now =
 stored_fits s (records.Met b d mixed) is now = now
 stored_fits s (records.Forgot b) is now = now
 stored_fits s (records.Hidden b) is now = now
+stored_fits s (records.Image i) is now = now

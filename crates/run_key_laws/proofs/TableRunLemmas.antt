@@ -9,11 +9,13 @@ use Rattle.node_rules.specs.Data.acts
 use Rattle.node_rules.specs.Data.records
 use Rattle.node_rules.specs.Data.inputs
 use Rattle.commit_forget.specs.declared.next.Next.TheVariants as nexts
-use Rattle.node_rules.specs.NodeState.{NodeState, TurnDraft}
+use Rattle.node_rules.specs.NodeState.{NodeState, TurnDraft, Branch}
 use Rattle.node_rules.specs.Inputs.{IsCall}
 use Rattle.node_rules.specs.Turn.{turn_of, draft_of}
 use Rattle.node_rules.proofs.Steps as steps
-use Rattle.node_rules.proofs.Steps.{Step, Makes, Makes_table, Makes_link, Makes_synonym, Sets_recovery}
+use Rattle.node_rules.proofs.Steps.{Step, Makes, Makes_table, Makes_link, Makes_synonym, Sets_recovery, Sets_strength}
+use Rattle.node_rules.specs.Calls.{backs_to}
+use Rattle.node_rules.specs.Marks.{node_back, branch_back, next_back}
 use Rattle.run_rules.specs.Data.{Took, Turn, Happening, Command}
 use Rattle.run_rules.specs.Facts.{Facts, first_facts, place_at, node_at, records_at, facts_after}
 use Rattle.run_rules.specs.Branches.{no_trail}
@@ -39,17 +41,26 @@ comes_spelled f k node (inputs.Call n s) (Some t) comes = absurd comes
 comes_spelled f k node (inputs.GiveUp n) took comes = tt
 comes_spelled f k node (inputs.Message m) took comes = tt
 comes_spelled f k node inputs.Reco took comes = tt
+comes_spelled f k node inputs.Checkpoint took comes = tt
 
 made_whole : {input : Input} {k : NodeState} {n : ℕ} {s : Stmt} {r : RedoRecord} {d : Done} → IsSpelled input → IsCall input n s → Makes k s r d → MakesWhole r
 made_whole spelled call (Makes_table t free) = whole_tables_have_one_key t (subst IsSpelled call spelled)
 made_whole spelled call (Makes_link l free) = tt
 made_whole spelled call (Makes_synonym y free) = tt
 made_whole spelled call (Sets_recovery on) = tt
+made_whole spelled call (Sets_strength strength) = tt
+
+-- none is made in going back
+back_whole : (k : NodeState) (x : Branch) (to : ℕ) (next : Option ℕ) → IfSome (backs_to (node_back k x to) (branch_back k x to) to next).wrote MakesWhole
+back_whole k x to None = tt
+back_whole k x to (Some i) = tt
 
 -- a table is made by a statement that a text spells
 pub step_whole : (p : Place) (input : Input) {k : NodeState} {d : TurnDraft} → IsSpelled input → Step p input k d → IfSome d.wrote MakesWhole
-step_whole p input spelled (steps.Begins n s call rows fit none step) = step_whole p input spelled step
-step_whole p input spelled (steps.Pends n l given call has live code step) = step_whole p input spelled step
+step_whole p input spelled (steps.Begins n s read_at call begins fit none step) = step_whole p input spelled step
+step_whole p input spelled (steps.Counts_call n s call counts step) = step_whole p input spelled step
+step_whole p input spelled (steps.Goes_back {k = k} x to goes next) = back_whole k x to (next_back (branch_back k x to).work to 1)
+step_whole p input spelled (steps.Pends n l given call has live code writer step) = step_whole p input spelled step
 step_whole p input spelled (steps.Lets_reads_go l comment site_below live begins step) = step_whole p input spelled step
 step_whole p input spelled (steps.Counts_ack s from kept came counts step) = step_whole p input spelled step
 step_whole p input spelled (steps.Acts l site_below acts.Rest why) = tt

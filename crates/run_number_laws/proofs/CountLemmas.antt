@@ -62,6 +62,7 @@ module _ (running : ℕ) where
   input_many t node (inputs.GiveUp session) = refl
   input_many t node (inputs.Message m) = refl
   input_many t node inputs.Reco = refl
+  input_many t node inputs.Checkpoint = refl
 
   turn_ends : (t : RunReport) (u : Turn) (cut : Bool) (o : Option TurnOutput) → AsMany t (ends_calls running t u cut o)
   turn_ends t u true o = refl

@@ -137,6 +137,7 @@ module _ (f : Facts) (few : AllSent (λ m. TellsFew m.kind) f.net.packets) (belo
       record { fit = tt; whole = tt; named = tt; few = subst (λ (y : Msg). TellsFew y.kind) comes.1.same (numbered_so (λ y. TellsFew y.kind) f.net.packets x.number comes.0 few comes.1.sent) }
   comes_expected k node (inputs.Message m) None comes = absurd comes
   comes_expected k node inputs.Reco took comes = record { fit = tt; whole = tt; named = tt; few = tt }
+  comes_expected k node inputs.Checkpoint took comes = record { fit = tt; whole = tt; named = tt; few = tt }
 
   comes_below : (k : NodeState) (node : ℕ) (input : Input) (took : Option Took) → Comes f k node input took → BringsScns input
   comes_below k node (inputs.Message m) (Some x) comes =
@@ -145,6 +146,7 @@ module _ (f : Facts) (few : AllSent (λ m. TellsFew m.kind) f.net.packets) (belo
   comes_below k node (inputs.Call n s) took comes = tt
   comes_below k node (inputs.GiveUp n) took comes = tt
   comes_below k node inputs.Reco took comes = tt
+  comes_below k node inputs.Checkpoint took comes = tt
 
 -- ---- able nodes
 

@@ -80,6 +80,7 @@ module _ (numbers : NumbersStayWithin) (places : List Place) (asked : List Comma
     comes_within k node (inputs.Call c s) took comes = tt
     comes_within k node (inputs.GiveUp c) took comes = tt
     comes_within k node inputs.Reco took comes = tt
+    comes_within k node inputs.Checkpoint took comes = tt
 
     -- a turn
     module _ (u : Turn) (k : NodeState) (may : MayTurn places f u k) where

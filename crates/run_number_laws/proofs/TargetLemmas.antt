@@ -13,8 +13,8 @@ use Rattle.node_rules.specs.Calls.{is_opening}
 use Rattle.node_rules.specs.Turn.{turn_of, stamped, draft_of}
 use Rattle.run_rules.specs.Data.{Packet, Turn, Happening, Command}
 use Rattle.run_rules.specs.Data.happenings
-use Rattle.run_rules.specs.Runs.{is_of_rows}
-use Rattle.run_rules.specs.Births.{Born, roots_by, births_by_open, births_by_kind, births_by, births_at, births_after, born_id}
+use Rattle.run_rules.specs.Runs.{begins_transaction}
+use Rattle.run_rules.specs.Births.{Born, roots_by, births_by_open, births_by_kind, births_by, births_at, births_after, born_id, read_at_by}
 use Rattle.run_base_laws.specs.BirthLaws.{Began, IsChild, AreNeighbors, StandsBelow, GoesSo}
 use Rattle.run_base_laws.specs.RunEvents.{events_after}
 use Rattle.run_rules.specs.Facts.{Facts, first_facts, no_place, place_at, node_at, facts_after, facts_of}
@@ -35,20 +35,21 @@ module _ (p : Place) (k : NodeState) where
   abbrev Here : List Born → Type 0
   Here bs = AllByRecursion (λ x. x.me.node ≡ p.number) bs
 
-  roots_here : (n : ℕ) (o : Option BranchId) → Here (roots_by p k n o)
-  roots_here n None = (refl, tt)
-  roots_here n (Some root) = tt
+  roots_here : (n : ℕ) (read_at : Option ℕ) (o : Option BranchId) → Here (roots_by p k n read_at o)
+  roots_here n read_at None = (refl, tt)
+  roots_here n read_at (Some root) = tt
 
-  opens_here : (parent : BranchId) (edge : ℕ) (root : BranchId) (depth : ℕ) (o : Option Opening) → Here (births_by_open p k parent edge root depth o)
-  opens_here parent edge root depth None = (refl, tt)
-  opens_here parent edge root depth (Some o) = tt
+  opens_here : (parent : BranchId) (edge : ℕ) (root : BranchId) (depth : ℕ) (read_at : Option ℕ) (o : Option Opening) → Here (births_by_open p k parent edge root depth read_at o)
+  opens_here parent edge root depth read_at None = (refl, tt)
+  opens_here parent edge root depth read_at (Some o) = tt
 
   kind_here : (from : BranchId) (kind : Kind) → Here (births_by_kind p k from kind)
-  kind_here from (kinds.Open edge root depth) = opens_here from edge root depth (find (is_opening from edge) k.opens)
+  kind_here from (kinds.Open edge root depth read_at) = opens_here from edge root depth read_at (find (is_opening from edge) k.opens)
   kind_here from _ = tt
 
   births_here : (input : Input) → Here (births_by p k input)
-  births_here (inputs.Call n (Some s)) = cond_both (is_of_rows s) (roots_by p k n (session_at k.sessions n).root) [] Here (λ rows. roots_here n (session_at k.sessions n).root) (λ other. tt)
+  births_here (inputs.Call n (Some s)) =
+      cond_both (begins_transaction s) (roots_by p k n (read_at_by k.clock s) (session_at k.sessions n).root) [] Here (λ begins. roots_here n (read_at_by k.clock s) (session_at k.sessions n).root) (λ other. tt)
   births_here (inputs.Message m) = kind_here m.from m.kind
   births_here _ = tt
 
@@ -125,9 +126,9 @@ module _ (places : List Place) (asked : List Command) (script : AreOfAScript pla
     neighbor_there from to (inr child) = child_there to from child
 
     goes_there : (from to : BranchId) (kind : Kind) → GoesSo (Began bs) from to kind → OpensThere (length places) to kind → IsNode (length places) to.node
-    goes_there from to (kinds.Open edge root depth) goes opens = opens
+    goes_there from to (kinds.Open edge root depth read_at) goes opens = opens
     goes_there from to (kinds.Opened edge strength) goes opens = parent_there from to (goes.0, goes.1, goes.2, goes.3)
-    goes_there from to (kinds.Exec call given advice s) goes opens = child_there to from goes
+    goes_there from to (kinds.Exec call task) goes opens = child_there to from goes
     goes_there from to (kinds.Reply call weight count a) goes opens = parent_there from to goes
     goes_there from to (kinds.Prepare site_below comment) goes opens = child_there to from goes
     goes_there from to kinds.Prepared goes opens = parent_there from to goes

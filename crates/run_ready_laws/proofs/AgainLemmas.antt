@@ -3,7 +3,7 @@ use Rattle.std.proofs.Common.{◌≡◌, ℕ, ◌+◌, ◌≤◌, Bool, true, fa
 use Rattle.tran_ids.proofs.BranchLemmas.{equal_from_same}
 use Rattle.tran_ids.proofs.ListedLemmas.{item_is}
 use Rattle.session_tree.specs.Tree.{count}
-use Rattle.node_rules.specs.Data.{Stmt, Advice, BranchId, Live, Post, ReplyFields, Input}
+use Rattle.node_rules.specs.Data.{Task, BranchId, Live, Post, ReplyFields, Input}
 use Rattle.node_rules.specs.Data.kinds
 use Rattle.node_rules.specs.declared.work.Work.{Work}
 use Rattle.node_rules.specs.Words.{same}
@@ -19,7 +19,7 @@ use Rattle.run_base_laws.specs.InTurnLaws.{WaitsFor, call_at}
 use Rattle.run_base_laws.proofs.KindSayLemmas.{AllSay, told_says, askings_say}
 use Rattle.run_base_laws.proofs.CallTurnLemmas.{silent_other}
 use Rattle.run_base_laws.proofs.InTurnLemmas as turns
-use Rattle.run_ready_laws.proofs.SentLemmas.{sent_split, sent_more, GivesRoom, TellsCount, Told, base_old, AllFit, AllNew}
+use Rattle.run_ready_laws.proofs.SentLemmas.{sent_split, sent_more, room_of, GivesRoom, TellsCount, Told, base_old, AllFit, AllNew}
 use Rattle.run_ready_laws.proofs.CountLemmas.{counts, spare, ParentFits, base_some, base_number}
 use Rattle.run_ready_laws.proofs.CountStepLemmas as fits
 use Rattle.run_ready_laws.proofs.CountStepLemmas.{fewer, IsQuiet, quiet_decisions, gone_live, some_going, CameFits}
@@ -55,10 +55,10 @@ module _ (E : BranchId → Option ℕ) (A : BranchId → Option BranchId) (G Her
     -- ---- messages alone
 
     -- the Reply of a gone branch
-    gone_says : (to from : BranchId) (call given : ℕ) (advice : Option Advice) (s : Stmt) → Came input from to (kinds.Exec call given advice s) → live_at k to ≡ None → EachLive (Then (gone_reply to from call)) k.lives k.works × AllNew said (gone_reply to from call)
-    gone_says to from call given advice s came none =
-        let it = came_fits.exec from to call given advice s came in
-        let new : AllNew said (gone_reply to from call) = ((omega arith, omega arith, (given, it.0, (λ v base. (let some : 1 ≤ v = base_some said all to from call v base in omega (arith, some))))), tt) in (
+    gone_says : (to from : BranchId) (call : ℕ) (task : Task) → Came input from to (kinds.Exec call task) → live_at k to ≡ None → EachLive (Then (gone_reply to from call)) k.lives k.works × AllNew said (gone_reply to from call)
+    gone_says to from call task came none =
+        let it = came_fits.exec from to call task came in
+        let new : AllNew said (gone_reply to from call) = ((omega arith, omega arith, (room_of task, it.0, (λ v base. (let some : 1 ≤ v = base_some said all to from call v base in omega (arith, some))))), tt) in (
           fits.still E A G Here input said received all came_fits k now (gone_reply to from call) new (λ b y live. silent_other to from y.me _ (other b y live (same to y.me) refl)),
           new,
         )
@@ -71,7 +71,7 @@ module _ (E : BranchId → Option ℕ) (A : BranchId → Option BranchId) (G Her
             absurd (cc (found, none))
 
     -- the last Reply once more
-    module _ (nodes : Nodes k) (x : Branch) (to : BranchId) (call given : ℕ) (advice : Option Advice) (s : Stmt) (t : ReplyFields) (came : Came input to x.live.me (kinds.Exec call given advice s)) (found : branch_at k x.live.me ≡ Some x)
+    module _ (nodes : Nodes k) (x : Branch) (to : BranchId) (call : ℕ) (task : Task) (t : ReplyFields) (came : Came input to x.live.me (kinds.Exec call task)) (found : branch_at k x.live.me ≡ Some x)
         (last : x.work.came.last_call ≡ call) (kept : x.work.came.reply ≡ Some t) where
       abbrev says : List Post
       says = replies x to t
@@ -80,13 +80,13 @@ module _ (E : BranchId → Option ℕ) (A : BranchId → Option BranchId) (G Her
       was = found_old x found
 
       its_parent : x.live.parent ≡ Some to
-      its_parent = (turns.branch_begun E A G Here input said received k nodes x found).above to (received.exec to x.live.me call given advice s came).0
+      its_parent = (turns.branch_begun E A G Here input said received k nodes x found).above to (received.exec to x.live.me call task came).0
 
       is_count : t.count ≡ count x.live
       is_count = was.0.kept t kept
 
       some : 1 ≤ x.work.came.last_call
-      some = let it = (came_fits.exec to x.live.me call given advice s came).1 in let number : 1 ≤ call = base_number said x.live.me to call it.0 it.1 in omega (arith, number, last)
+      some = let it = (came_fits.exec to x.live.me call task came).1 in let number : 1 ≤ call = base_number said x.live.me to call it.0 it.1 in omega (arith, number, last)
 
       new : AllNew said says
       new =
@@ -153,15 +153,15 @@ module _ (E : BranchId → Option ℕ) (A : BranchId → Option BranchId) (G Her
     quiet says quiet_so = fits.quiet E A G Here input said received all came_fits k now says quiet_so
 
     pub says_fit : Nodes k → {says : List Post} → Says k input says → EachLive (Then says) k.lives k.works × AllNew said says
-    says_fit nodes (steps.Gone_replies to from call given advice s came gone) = gone_says to from call given advice s came (gone_live k to gone)
-    says_fit nodes (steps.Replies_again x to call given advice s t came live last kept) = again_says nodes x to call given advice s t came live last kept
+    says_fit nodes (steps.Gone_replies to from call task came gone) = gone_says to from call task came (gone_live k to gone)
+    says_fit nodes (steps.Replies_again x to call task t came live last kept) = again_says nodes x to call task t came live last kept
     says_fit nodes (steps.Tells s from came kept) = quiet _ (told_says IsQuiet quiet_decisions (kept_told s from), tt)
     says_fit nodes (steps.Recovers reco) = quiet _ (askings_say IsQuiet quiet_decisions k)
     says_fit nodes (steps.Gone_aborts to from b comment came gone) = quiet _ (((refl, refl), (λ ms x y. tt)), tt)
     says_fit nodes (steps.Gone_rolls_back to from came gone) = quiet _ (((refl, refl), (λ ms x y. tt)), tt)
     says_fit nodes (steps.Gone_acks to from n came gone) = quiet _ (((refl, refl), (λ ms x y. tt)), tt)
     says_fit nodes (steps.Gone_forgets to from came gone) = quiet _ (((refl, refl), (λ ms x y. tt)), tt)
-    says_fit nodes (steps.Opened_again to parent edge root depth o came found) = quiet _ (((refl, refl), (λ ms x y. tt)), tt)
+    says_fit nodes (steps.Opened_again to parent edge root depth read_at o came found) = quiet _ (((refl, refl), (λ ms x y. tt)), tt)
     says_fit nodes (steps.Prepared_again s from b comment came kept again) = quiet _ (((refl, refl), (λ ms x y. tt)), tt)
     says_fit nodes (steps.Knows_commit s from n came kept knows) = quiet _ (((refl, refl), (λ ms x y. tt)), tt)
     says_fit nodes (steps.Knows_rollback s from came kept knows) = quiet _ (((refl, refl), (λ ms x y. tt)), tt)

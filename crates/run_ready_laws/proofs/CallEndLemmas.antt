@@ -10,6 +10,7 @@ use Rattle.node_rules.specs.Data.answers
 use Rattle.node_rules.specs.Data.decisions
 use Rattle.node_rules.specs.Data.inputs
 use Rattle.node_rules.specs.Data.kinds
+use Rattle.node_rules.specs.Data.tasks
 use Rattle.node_rules.specs.declared.session.PendingCall.{PendingCall}
 use Rattle.node_rules.specs.declared.session.PendingCall.TheVariants as pending
 use Rattle.node_rules.specs.declared.session.Session.{Session}
@@ -20,19 +21,20 @@ use Rattle.node_rules.specs.Refusals.{dtx}
 use Rattle.session_tree.specs.Live.{is_branch, new_edge}
 use Rattle.node_rules.specs.NodeState.{NodeState, Branch, TurnDraft, kept_row_id, live_at, with_kept_row}
 use Rattle.node_rules.specs.Statement.{ran, after_run}
+use Rattle.node_rules.specs.Marks.{node_back}
 use Rattle.node_rules.specs.Sessions.{fresh_session, session_at, with_call, needs_rollback, no_transaction, is_commit, commit_is_pending, commit_ended, commit_answer}
 use Rattle.node_rules.specs.Calls.{call_pends, answered_sessions, answer_ends, heard_sessions, heard_answer, is_gone, with_edge, hears_reply}
 use Rattle.node_rules.specs.Prepare.{abandoned_sessions, abandon_ends, is_alone, act_turn}
 use Rattle.node_rules.specs.Commit.{acked_by, decided_sessions, decision_answers}
 use Rattle.node_rules.specs.Inputs.{Came}
 use Rattle.node_rules.proofs.Steps as steps
-use Rattle.node_rules.proofs.Steps.{Step, Asked}
+use Rattle.node_rules.proofs.Steps.{Step, Asked, Goes_to, Calls_back}
 use Rattle.node_rules.proofs.StepLemmas.{branch_found}
 use Rattle.node_rules.proofs.StandLemmas.{live_so, session_set}
 use Rattle.run_base_laws.specs.CallLaws.{RootWaits}
 use Rattle.run_base_laws.proofs.OwnLemmas.{all_found, all_with}
 use Rattle.run_base_laws.proofs.RootLemmas.{session_or_before}
-use Rattle.run_base_laws.proofs.RestLemmas.{Before, NodeRoots, Works, branch_root, going_works}
+use Rattle.run_base_laws.proofs.RestLemmas.{Before, NodeRoots, Works, branch_root, back_before, going_works}
 use Rattle.run_base_laws.proofs.RestStepLemmas.{going_of}
 
 -- whether a call is pending
@@ -202,17 +204,32 @@ going_pends pending.NoCall phase o g is going = let none = is.1 in absurd (cc (n
 going_pends pending.Statement phase o g is going = refl
 going_pends pending.Commit phase o g is going = refl
 
--- an Exec comes to no root
+-- an Exec comes to no root, and without a call none goes back
 module _ {k : NodeState} {input : Input} (before : Before input k) (no_call : (n : ℕ) (s : Option Stmt) → input ≡ inputs.Call n s → ⊥) where
   asked_below : {x : Branch} {s : Stmt} {given : ℕ} → Asked k input x s given → x.live.parent ≢ None
-  asked_below (steps.By_call n x s call rows has code live) = absurd (no_call n (Some s) call)
-  asked_below (steps.By_exec x from call given advice s came live runs) = before.asked from x.live.me call given advice s came x.live (live_so k x.live.me x live)
+  asked_below (steps.By_call n x s call rows has code live may) = absurd (no_call n (Some s) call)
+  asked_below (steps.By_exec x from call given advice s came live runs) = before.asked from x.live.me call (tasks.Run given advice s) came x.live (live_so k x.live.me x live)
+
+  goes_below : {x : Branch} {step : ℕ} → Goes_to k input x step → x.live.parent ≢ None
+  goes_below (steps.By_rollback_to n x name step call has code live set) = absurd (no_call n _ call)
+  goes_below (steps.By_back x from call keep came live runs) = before.asked from x.live.me call (tasks.GoBack keep) came x.live (live_so k x.live.me x live)
+
+-- a root whose children are to go back without a call has one pending
+pub calling_root : {k : NodeState} {input : Input} → Before input k → ((n : ℕ) (s : Option Stmt) → input ≡ inputs.Call n s → ⊥) → NodeRoots k → {x : Branch} {step from : ℕ} → Calls_back k input x step from → x.live.parent ≡ None
+    → (pends_at k.sessions x.live.me.session ≡ true) × ((session_at k.sessions x.live.me.session).root ≡ Some x.live.me)
+calling_root {k = k} {input = input} before no_call now (steps.Has_gone j x step goes is) root =
+    let was : Before input (node_back j x step) = subst (Before input) is before in
+    absurd (goes_below {k = j} {input = input} (record { free = was.free; asked = was.asked; prepared = was.prepared; either = was.either }) no_call goes root)
+calling_root {k = k} before no_call now (steps.Has_heard x weight count a i e g step answered going errand plain) root =
+    let is = branch_root k now x answered.live root in (going_pends (session_at k.sessions x.live.me.session).call x.live.phase x.work.going g is.waits going, is.root)
 
 module _ (p : Place) (input : Input) (no_call : (n : ℕ) (s : Option Stmt) → input ≡ inputs.Call n s → ⊥) where
   -- each step of an input that is no call
   pub ends_on : {k : NodeState} {d : TurnDraft} → Step p input k d → Before input k → NodeRoots k → EndsSo (pends_at k.sessions) d.after.sessions d.ended
-  ends_on (steps.Begins n s call rows range none step) before now = absurd (no_call n (Some s) call)
-  ends_on (steps.Pends n l given call has live code step) before now = absurd (no_call n _ call)
+  ends_on (steps.Begins n s read_at call begins range none step) before now = absurd (no_call n (Some s) call)
+  ends_on (steps.Counts_call n s call counts step) before now = absurd (no_call n (Some s) call)
+  ends_on (steps.Goes_back {k = k} x step goes next) before now = ends_on next (back_before input k x step before) now
+  ends_on (steps.Pends n l given call has live code writer step) before now = absurd (no_call n _ call)
   ends_on (steps.Lets_reads_go l comment site_below live begins step) before now = ends_on step (record { free = before.free; asked = before.asked; prepared = before.prepared; either = before.either }) now
   ends_on (steps.Counts_ack {k = k} s from kept came counts step) before now = ends_on step (acked_before input k s from kept came before) now
   ends_on (steps.Runs {k = k} x s given t asked way) before now =
@@ -228,7 +245,9 @@ module _ (p : Place) (input : Input) (no_call : (n : ℕ) (s : Option Stmt) → 
       let g = going_of x answered.from answered.call i e answered.waits in
       let was : Works k.sessions x = going_works k now x g.0 answered.live g.1 in
       ends_after (pends_at k.sessions) (pends_at zs) _ _ (heard_calls k.sessions y.live a) (answered_ends zs y.live (heard_answer y.live e.link a) x.live.parent (λ root. heard_root k.sessions y.live a (was.root root)))
-  ends_on (steps.Opens_branch {k = k} to parent edge root depth came new) before now = ends_same k.sessions
+  ends_on (steps.Backs {k = k} x step from i calls next) before now = going_ends k.sessions x.live (λ root. (calling_root before no_call now calls root).0)
+  ends_on (steps.Is_back {k = k} x step from calls none) before now = answered_ends k.sessions x.live _ x.live.parent (λ root. (calling_root before no_call now calls root).1)
+  ends_on (steps.Opens_branch {k = k} to parent edge root depth read_at came new) before now = ends_same k.sessions
   ends_on (steps.Acts {k = k} l site_below a why) before now = act_ends k l site_below a
   ends_on (steps.Does {k = k} s from (nexts.End d) kept why) before now = decision_ends k.sessions s.me d
   ends_on (steps.Does {k = k} s from (nexts.Meet d mixed) kept why) before now = decision_ends k.sessions s.me d
@@ -245,7 +264,9 @@ module _ (p : Place) (input : Input) (no_call : (n : ℕ) (s : Option Stmt) → 
   ends_on (steps.Forces_rollback n id b call named) before now = absurd (no_call n _ call)
   ends_on (steps.Hides n mixed id s call found) before now = absurd (no_call n _ call)
   ends_on (steps.Advises n a call) before now = absurd (no_call n _ call)
-  ends_on (steps.Rolls_back n x call has live) before now = absurd (no_call n _ call)
+  ends_on (steps.Leaves n s d x call ends has live) before now = absurd (no_call n _ call)
+  ends_on (steps.Sets_read_only n call) before now = absurd (no_call n _ call)
+  ends_on (steps.Sets_savepoint n x name call has code live) before now = absurd (no_call n _ call)
   ends_on (steps.Gives_up {k = k} n x gives has calls live) before now =
       let zs : List Session = with_call k.sessions n pending.NoCall in
       let code : Session = record (session_at zs n) { code = Some (dtx 3 []).code } in
@@ -254,5 +275,6 @@ module _ (p : Place) (input : Input) (no_call : (n : ℕ) (s : Option Stmt) → 
   ends_on (steps.Gives_up_commit {k = k} n b None gives has calls live) before now = commit_ends k.sessions b _
   ends_on (steps.Drops_told {k = k} l live drops) before now = ends_same k.sessions
   ends_on (steps.Drops_asked {k = k} l from live came parent) before now = ends_same k.sessions
+  ends_on (steps.Images {k = k} is) before now = ends_same k.sessions
   ends_on (steps.Rests {k = k}) before now = ends_same k.sessions
   ends_on (steps.Sends {k = k} says why) before now = ends_same k.sessions

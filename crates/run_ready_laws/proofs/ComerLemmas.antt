@@ -52,6 +52,7 @@ few_come f k node (inputs.Message m) None now comes = absurd comes
 few_come f k node (inputs.Call n s) took now comes = tt
 few_come f k node (inputs.GiveUp n) took now comes = tt
 few_come f k node inputs.Reco took now comes = tt
+few_come f k node inputs.Checkpoint took now comes = tt
 
 comes_expected : (f : Facts) (k : NodeState) (node : ℕ) (input : Input) (took : Option Took) → Comes f k node input took → BringsFew input → IsExpected input
 comes_expected f k node (inputs.Call n (Some s)) None comes few = record { fit = comes.0; whole = whole_table s comes.2; named = whole_names s comes.2; few = few }
@@ -60,6 +61,7 @@ comes_expected f k node (inputs.Call n s) (Some t) comes few = absurd comes
 comes_expected f k node (inputs.GiveUp n) took comes few = record { fit = tt; whole = tt; named = tt; few = few }
 comes_expected f k node (inputs.Message m) took comes few = record { fit = tt; whole = tt; named = tt; few = few }
 comes_expected f k node inputs.Reco took comes few = record { fit = tt; whole = tt; named = tt; few = few }
+comes_expected f k node inputs.Checkpoint took comes few = record { fit = tt; whole = tt; named = tt; few = few }
 
 -- ---- runs
 

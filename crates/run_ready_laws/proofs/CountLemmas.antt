@@ -3,14 +3,20 @@ use Rattle.std.proofs.Common.{◌≡◌, ◌≢◌, ℕ, zero, suc, ◌+◌, ◌
 use Rattle.std.specs.Prelude.{sum_by}
 use Rattle.std.proofs.lemmas.List.Sums.{sum_by-cons, sum_by_push}
 use Rattle.link_session.specs.declared.calls.Calls.{Calls}
-use Rattle.node_rules.specs.Data.{BranchId, Edge, Post, ReplyFields}
+use Rattle.node_rules.specs.Data.{BranchId, Edge, Marks, Post, ReplyFields}
+use Rattle.node_rules.specs.declared.work.Errand.{Errand}
+use Rattle.node_rules.specs.declared.work.Errand.TheVariants as errands
 use Rattle.node_rules.specs.declared.work.Waits.TheVariants as waiting
 use Rattle.node_rules.specs.declared.work.Going.{Going}
 use Rattle.node_rules.specs.declared.work.Work.{Work}
+use Rattle.node_rules.specs.declared.session.Session.{Session}
 use Rattle.node_rules.specs.Words.{numbered, set_numbered}
+use Rattle.node_rules.specs.NodeState.{Branch}
+use Rattle.node_rules.specs.Calls.{task_for, less_room}
+use Rattle.session_tree.specs.Tree.{count}
 use Rattle.run_base_laws.specs.InTurnLaws.{newest_exec, newest_reply, WaitsFor, call_at}
 use Rattle.run_base_laws.proofs.CallTurnLemmas.{Silent}
-use Rattle.run_ready_laws.proofs.SentLemmas.{sent_split, sent_more, GivesRoom, TellsCount, Gave, Told, gave_low, told_low, Base, base_more, base_old, AllFit, AllNew, told_gave, told_new}
+use Rattle.run_ready_laws.proofs.SentLemmas.{sent_split, sent_more, room_of, GivesRoom, TellsCount, Gave, Told, gave_low, told_low, Base, base_more, base_old, AllFit, AllNew, told_gave, told_new}
 
 -- ---- sums
 
@@ -66,10 +72,15 @@ last_counts es e = sum_by_push (λ (z : Edge). z.count) es e
 abbrev pub room_by : Option BranchId → ℕ → ℕ → ℕ
 room_by parent n given = if is_none parent then 64 - n else given
 
--- the room that a branch has left for the statement that is under way
+-- and for what is under way: a branch that goes back opens no child
+abbrev pub room_left : Option BranchId → ℕ → Errand → ℕ
+room_left parent n (errands.Statement s given) = room_by parent n given
+room_left parent n (errands.GoBack step) = 0
+
+-- the room that a branch has left for what is under way
 abbrev pub spare : Option BranchId → ℕ → Option Going → ℕ
 spare parent n None = 0
-spare parent n (Some g) = room_by parent n g.room
+spare parent n (Some g) = room_left parent n g.errand
 
 pub root_few : (parent : Option BranchId) (n given : ℕ) → parent ≡ None → n ≤ 64 → n + room_by parent n given ≤ 64
 root_few None n given none few = omega (arith, few)
@@ -79,10 +90,16 @@ pub below_room : (parent : Option BranchId) (q : BranchId) (n given : ℕ) → p
 below_room None q n given is = absurd cc
 below_room (Some p) q n given is = refl
 
+-- what goes over an edge takes that room along
+pub task_room : (ss : List Session) (x : Branch) (i : ℕ) (errand : Errand) → room_of (task_for ss x i errand) ≡ room_left x.live.parent (count x.live) errand
+task_room ss x i (errands.Statement s given) = refl
+task_room ss x i (errands.GoBack step) = refl
+
 -- a child more takes one from the room
-pub one_less : (parent : Option BranchId) (n given : ℕ) → 1 ≤ room_by parent n given → (n + 1) + room_by parent (n + 1) (given - 1) ≤ n + room_by parent n given
-one_less None n given some = omega (arith, some)
-one_less (Some q) n given some = omega (arith, some)
+pub one_less : (parent : Option BranchId) (n : ℕ) (errand : Errand) → 1 ≤ room_left parent n errand → (n + 1) + room_left parent (n + 1) (less_room errand) ≤ n + room_left parent n errand
+one_less None n (errands.Statement s given) some = omega (arith, some)
+one_less (Some q) n (errands.Statement s given) some = omega (arith, some)
+one_less parent n (errands.GoBack step) some = absurd (omega (arith, some))
 
 -- ---- branches
 
@@ -176,7 +193,7 @@ base_is said me q parent n sp came going fits below free call v next (inr later)
     let last : later.0 ≡ came.last_call = omega (arith, next, later.1) in
     fits.told below (omega (arith, last, later.2)) free q v (subst (λ j. Told said me q j v) last later.3)
 
--- A statement is under way at a branch, with so much room left.
+-- A call is under way at a branch, with so much room left.
 pub record Under (said : List Post) (me : BranchId) (parent : Option BranchId) (n r : ℕ) (came : Calls) : Type 0 where
   pub unanswered : came.reply ≡ None
   pub owes : parent ≢ None → newest_reply said me + 1 ≤ came.last_call
@@ -253,6 +270,10 @@ opens_parent said says G me n r es w g link going waits some few knows called = 
     no_wait : (i : ℕ) (o : Option Going) → o ≡ Some g → WaitsFor i o → ⊥
     no_wait i None is for = for
     no_wait i (Some h) is for = let it : h ≡ g = cc in let here : g.waits ≡ waiting.ForReply i = subst (λ (y : Going). y.waits ≡ waiting.ForReply i) it for in absurd (cc (waits, here))
+
+-- other marks change nothing of it
+pub marked_parent : (said : List Post) (G : Type 0) (me : BranchId) (n sp : ℕ) (es : List Edge) (w : Work) (m : Marks) → ParentFits said G me n sp es w → ParentFits said G me n sp es (record w { marks = m })
+marked_parent said G me n sp es w m is = record { held = is.held; waits = is.waits; called = is.called; few = is.few; opens = is.opens }
 
 -- ---- edges with the same children and counts
 

@@ -40,7 +40,7 @@ use Rattle.run_base_laws.proofs.InTurnRunLemmas.{CallsStand, heard_calls, calls_
 use Rattle.node_ready_laws.specs.Shapes.{TellsFew}
 use Rattle.run_ready_laws.specs.ReadyRuns.{RepliesTellFew}
 use Rattle.run_ready_laws.specs.CountLaws.{TellsOfTree, RepliesTellOfTree, CountsAreOfTrees, CountsAreFew}
-use Rattle.run_ready_laws.proofs.SentLemmas.{Gave, Told, FitsSo, AllFit, NewSo, AllNew, all_fit}
+use Rattle.run_ready_laws.proofs.SentLemmas.{room_of, Gave, Told, FitsSo, AllFit, NewSo, AllNew, all_fit}
 use Rattle.run_ready_laws.proofs.CountLemmas.{spare, ChildFits, ParentFits, child_more, parent_more}
 use Rattle.run_ready_laws.proofs.CountStepLemmas.{CameFits}
 use Rattle.run_ready_laws.proofs.CountTurnLemmas.{fits_on}
@@ -49,17 +49,17 @@ use Rattle.run_ready_laws.proofs.CountTurnLemmas.{fits_on}
 
 -- a call gave its room, and a Reply told its count
 abbrev CameSo : List Post → BranchId → BranchId → Kind → Type 0
-CameSo said from to (kinds.Exec call given advice s) = Gave said from to call given
+CameSo said from to (kinds.Exec call task) = Gave said from to call (room_of task)
 CameSo said from to (kinds.Reply call weight count a) = Told said from to call count
 CameSo said from to _ = Unit {0}
 
 came_first : (ms : List Post) (from to : BranchId) (kind : Kind) → CameSo (record { from = from; to = to; kind = kind } ∷ ms) from to kind
-came_first ms from to (kinds.Exec call given advice s) = inl (refl, refl, (refl, refl))
+came_first ms from to (kinds.Exec call task) = inl (refl, refl, (refl, refl))
 came_first ms from to (kinds.Reply call weight count a) = inl (refl, refl, (refl, refl))
 came_first ms from to _ = tt
 
 came_later : (m : Post) (ms : List Post) (from to : BranchId) (kind : Kind) → CameSo ms from to kind → CameSo (m ∷ ms) from to kind
-came_later m ms from to (kinds.Exec call given advice s) is = inr is
+came_later m ms from to (kinds.Exec call task) is = inr is
 came_later m ms from to (kinds.Reply call weight count a) is = inr is
 came_later m ms from to _ is = tt
 
@@ -169,9 +169,9 @@ module _ (places : List Place) (asked : List Command) (each : (n : ℕ) (p : Pla
 
       came_fits : CameFits u.input said
       came_fits = record {
-        exec = λ from to call given advice s came. (
-          came_so (CameSo said) f (all_came f.net.packets) k u.node u.input u.took may.comes from to (kinds.Exec call given advice s) came,
-          came_so (FitsSo said) f (packets_fit said f.net.packets now.all) k u.node u.input u.took may.comes from to (kinds.Exec call given advice s) came,
+        exec = λ from to call task came. (
+          came_so (CameSo said) f (all_came f.net.packets) k u.node u.input u.took may.comes from to (kinds.Exec call task) came,
+          came_so (FitsSo said) f (packets_fit said f.net.packets now.all) k u.node u.input u.took may.comes from to (kinds.Exec call task) came,
         );
         reply = λ from to call weight count a came. came_so (CameSo said) f (all_came f.net.packets) k u.node u.input u.took may.comes from to (kinds.Reply call weight count a) came;
       }

@@ -5,8 +5,9 @@ use Rattle.std.proofs.lemmas.Bool.{cond_both}
 use Rattle.tran_ids.proofs.ListedLemmas.{item_is}
 use Rattle.tran_ids.proofs.NumberedLemmas.{set_found, set_leaves}
 use Rattle.session_tree.specs.Live.{children_of, peer_of, fresh_live}
-use Rattle.session_tree.specs.Tree.{count, room, step as step_from}
-use Rattle.node_rules.specs.Data.{Stmt, Answer, Advice, BranchId, Edge, Kind, Live, Act, Post, ReplyFields, Input}
+use Rattle.session_tree.specs.Tree.{count, step as step_from}
+use Rattle.node_rules.specs.Data.{Answer, Task, BranchId, Edge, Kind, Live, Act, Post, ReplyFields, Input}
+use Rattle.node_rules.specs.declared.work.Errand.{Errand}
 use Rattle.node_rules.specs.Data.acts
 use Rattle.node_rules.specs.Data.kinds
 use Rattle.node_rules.specs.declared.session.Session.{Session}
@@ -19,7 +20,7 @@ use Rattle.node_rules.specs.Words.{same, numbered, put_item, drop_item}
 use Rattle.node_rules.specs.Inputs.{Came}
 use Rattle.node_rules.specs.NodeState.{NodeState, Branch, TurnDraft, live_id, work_id, live_at, branch_at, to_one, to_each, no_work, with_work, kept_row_at}
 use Rattle.node_rules.specs.Sessions.{fresh_session, session_at, with_call, needs_rollback}
-use Rattle.node_rules.specs.Calls.{call_pends, advice_of, next_call, kept_reply, with_answer, answer_says, called, exec_to, reply_fields}
+use Rattle.node_rules.specs.Calls.{call_pends, task_for, next_call, kept_reply, with_answer, answer_says, called, exec_to, reply_fields}
 use Rattle.node_rules.specs.Prepare.{path_of, site_neighbors, with_prepare_sent, has_voted, answers_first, ready, act_turn}
 use Rattle.node_rules.specs.Turn.{Is_gone, live_or, status_of}
 use Rattle.node_rules.proofs.Steps.{Acting}
@@ -35,8 +36,8 @@ use Rattle.run_base_laws.proofs.KindSayLemmas.{OfDecisions, AllSay, one_says, ea
 use Rattle.run_base_laws.proofs.CallTurnLemmas.{Silent, silent_none, silent_other}
 use Rattle.run_base_laws.proofs.InTurnLemmas as turns
 use Rattle.run_base_laws.proofs.InTurnLemmas.{IsDumb, dumb_silent}
-use Rattle.run_ready_laws.proofs.SentLemmas.{Gave, Told, Base, AllFit, NewSo, AllNew}
-use Rattle.run_ready_laws.proofs.CountLemmas.{counts, edge_counts, map_counts, spare, ChildFits, Awaits, ParentFits, child_more, parent_more, Under, waits_child, answers_child, Knows, Called, free_parent, mapped_parent}
+use Rattle.run_ready_laws.proofs.SentLemmas.{room_of, Gave, Told, Base, AllFit, NewSo, AllNew}
+use Rattle.run_ready_laws.proofs.CountLemmas.{counts, edge_counts, map_counts, room_left, spare, task_room, ChildFits, Awaits, ParentFits, child_more, parent_more, Under, waits_child, answers_child, Knows, Called, free_parent, mapped_parent}
 use Rattle.run_ready_laws.proofs.RoomLemmas.{new_awaits, calls_parent}
 
 -- ---- numbers
@@ -122,7 +123,7 @@ rolled l = each_says IsQuiet l.me kinds.Rollback (children_of l) ((refl, refl), 
 
 -- What is known of the message that came.
 pub record CameFits (input : Input) (said : List Post) : Type 0 where
-  pub exec : (from to : BranchId) (call given : ℕ) (advice : Option Advice) (s : Stmt) → Came input from to (kinds.Exec call given advice s) → Gave said from to call given × ((v : ℕ) × Base said to from call v × (v + given ≤ 64))
+  pub exec : (from to : BranchId) (call : ℕ) (task : Task) → Came input from to (kinds.Exec call task) → Gave said from to call (room_of task) × ((v : ℕ) × Base said to from call v × (v + room_of task ≤ 64))
   pub reply : (from to : BranchId) (call : ℕ) (weight : Option ℕ) (count : ℕ) (a : Answer) → Came input from to (kinds.Reply call weight count a) → Told said from to call count
 
 module _ (E : BranchId → Option ℕ) (A : BranchId → Option BranchId) (G Here : BranchId → Type 0) (input : Input) (said : List Post) (received : turns.Received E A G Here input said) (all : AllFit said said) (came_fits : CameFits input said) where
@@ -153,8 +154,8 @@ module _ (E : BranchId → Option ℕ) (A : BranchId → Option BranchId) (G Her
   Leaves d = EachLive (Then d.says) d.after.lives d.after.works × AllNew said d.says
 
   -- a branch that begins
-  pub fresh_fits : (ms : List Post) (me root : BranchId) (parent : Option BranchId) (depth strength : ℕ) → FitsBy ms (fresh_live me root parent depth strength) (no_work me)
-  fresh_fits ms me root parent depth strength = (
+  pub fresh_fits : (ms : List Post) (me root : BranchId) (parent : Option BranchId) (depth strength : ℕ) (read_at : Option ℕ) → FitsBy ms (fresh_live me root parent depth strength read_at) (no_work me)
+  fresh_fits ms me root parent depth strength read_at = (
     record {
       told = λ below some. (let low : 1 ≤ 0 = some in absurd (omega (arith, low)));
       kept = λ t is. absurd cc;
@@ -194,9 +195,9 @@ module _ (E : BranchId → Option ℕ) (A : BranchId → Option BranchId) (G Her
     pub put : (says : List Post) (l : Live) (w : Work) → w.branch ≡ l.me → AllNew said says → ((b : BranchId) → same l.me b ≡ false → Silent b says) → Then says l w → EachLive (Then says) (put_item live_id k.lives l) (put_item work_id k.works w)
     put says l w mine new silent is = each_put Old (Then says) k.lives k.works now l w mine is (λ y v live other so. stay says new y v (silent y.me other) so)
 
-    pub begun : (says : List Post) → AllSay IsQuiet says → (me root : BranchId) (parent : Option BranchId) (depth strength : ℕ) → EachLive (Then says) (k.lives ++ fresh_live me root parent depth strength ∷ []) k.works × AllNew said says
-    begun says quiet_so me root parent depth strength = (
-      each_begun Old (Then says) k.lives k.works now (fresh_live me root parent depth strength) (fresh_fits (said ++ says) me root parent depth strength)
+    pub begun : (says : List Post) → AllSay IsQuiet says → (me root : BranchId) (parent : Option BranchId) (depth strength : ℕ) (read_at : Option ℕ) → EachLive (Then says) (k.lives ++ fresh_live me root parent depth strength read_at ∷ []) k.works × AllNew said says
+    begun says quiet_so me root parent depth strength read_at = (
+      each_begun Old (Then says) k.lives k.works now (fresh_live me root parent depth strength read_at) (fresh_fits (said ++ says) me root parent depth strength read_at)
           (λ y v live any is. stay says (new_of said says quiet_so) y v (dumb_silent y.me says (dumb_of says quiet_so)) is),
       new_of said says quiet_so,
     )
@@ -241,28 +242,28 @@ module _ (E : BranchId → Option ℕ) (A : BranchId → Option BranchId) (G Her
     -- ---- a branch that calls a child
 
     -- the message
-    exec_silent : (ss : List Session) (x : Branch) (i : ℕ) (s : Stmt) (given : ℕ) (o : Option BranchId) (b : BranchId) → same x.live.me b ≡ false → Silent b (exec_to ss x i s given o)
-    exec_silent ss x i s given None b other = silent_none b
-    exec_silent ss x i s given (Some c) b other = silent_other x.live.me c b _ other
+    exec_silent : (ss : List Session) (x : Branch) (i : ℕ) (errand : Errand) (o : Option BranchId) (b : BranchId) → same x.live.me b ≡ false → Silent b (exec_to ss x i errand o)
+    exec_silent ss x i errand None b other = silent_none b
+    exec_silent ss x i errand (Some c) b other = silent_other x.live.me c b _ other
 
     -- no Reply
-    exec_mute : (ss : List Session) (x : Branch) (i : ℕ) (s : Stmt) (given : ℕ) (o : Option BranchId) (b : BranchId) → newest_reply (exec_to ss x i s given o) b ≡ 0
-    exec_mute ss x i s given None b = refl
-    exec_mute ss x i s given (Some c) b = cond_both (same x.live.me b) _ _ (λ n. n ≡ 0) (λ here. refl) (λ other. refl)
+    exec_mute : (ss : List Session) (x : Branch) (i : ℕ) (errand : Errand) (o : Option BranchId) (b : BranchId) → newest_reply (exec_to ss x i errand o) b ≡ 0
+    exec_mute ss x i errand None b = refl
+    exec_mute ss x i errand (Some c) b = cond_both (same x.live.me b) _ _ (λ n. n ≡ 0) (λ here. refl) (λ other. refl)
 
-    module _ (ss : List Session) (x : Branch) (i : ℕ) (s : Stmt) (given : ℕ) (mine : x.work.branch ≡ x.live.me) (under : Under said x.live.me x.live.parent (count x.live) (room x.live given) x.work.came)
+    module _ (ss : List Session) (x : Branch) (i : ℕ) (errand : Errand) (mine : x.work.branch ≡ x.live.me) (under : Under said x.live.me x.live.parent (count x.live) (room_left x.live.parent (count x.live) errand) x.work.came)
         (even : length x.work.calls ≡ length x.live.edges) (made : (e : Edge) → numbered x.live.edges i ≡ Some e → newest_exec said x.live.me e.peer ≡ call_at x.work i)
         (base : (e : Edge) → numbered x.live.edges i ≡ Some e → Base said e.peer x.live.me (call_at x.work i + 1) e.count)
         (knows : Goes x.live → (j : ℕ) (e : Edge) → i ≢ j → numbered x.live.edges j ≡ Some e → Told said e.peer x.live.me (call_at x.work j) e.count)
         (called_others : (j : ℕ) (e : Edge) → i ≢ j → numbered x.live.edges j ≡ Some e → 1 ≤ call_at x.work j) where
       abbrev g : Going
-      g = record { statement = s; room = given; waits = waiting.ForReply i }
+      g = record { errand = errand; waits = waiting.ForReply i }
 
       abbrev u : Work
-      u = (called x i s given).work
+      u = (called ss x i errand).work
 
       abbrev r : ℕ
-      r = room x.live given
+      r = room_left x.live.parent (count x.live) errand
 
       -- what the message leaves
       abbrev Calls_so : List Post → Type 0
@@ -287,18 +288,19 @@ module _ (E : BranchId → Option ℕ) (A : BranchId → Option BranchId) (G Her
         new,
       )
 
-      calls_by : (o : Option Edge) → numbered x.live.edges i ≡ o → Calls_so (exec_to ss x i s given (option_map (λ e. e.peer) o))
+      calls_by : (o : Option Edge) → numbered x.live.edges i ≡ o → Calls_so (exec_to ss x i errand (option_map (λ e. e.peer) o))
       calls_by None at = calls_so [] refl (λ b other. silent_none b) tt (λ e there. absurd (cc (at, there)))
       calls_by (Some e) at =
           let known : Base said e.peer x.live.me (next_call x.work i) e.count = base e at in
-          calls_so (exec_to ss x i s given (Some e.peer)) (exec_mute ss x i s given (Some e.peer) x.live.me) (exec_silent ss x i s given (Some e.peer))
-          ((e.count, known, edge_few e.count (counts x.live.edges) r 64 (edge_counts x.live.edges i e at) under.few), tt)
+          calls_so (exec_to ss x i errand (Some e.peer)) (exec_mute ss x i errand (Some e.peer) x.live.me) (exec_silent ss x i errand (Some e.peer))
+          ((e.count, known, subst (λ n. e.count + n ≤ 64) (sym (task_room ss x i errand)) (edge_few e.count (counts x.live.edges) r 64 (edge_counts x.live.edges i e at) under.few)), tt)
           (λ y there. (let it : Some e ≡ Some y = sym at ∙ there in let here : e ≡ y = cc in
-          subst (λ z. Awaits (said ++ exec_to ss x i s given (Some e.peer)) x.live.me z.peer (call_at u i) z.count r) here
-          (subst (λ n. Awaits (said ++ exec_to ss x i s given (Some e.peer)) x.live.me e.peer n e.count r) (sym (one_more e at))
-          (new_awaits said all x.live.me e.peer (next_call x.work i) e.count r (advice_of ss x.live) s (ap (λ n. n + 1) (made e at)) known))))
+          subst (λ z. Awaits (said ++ exec_to ss x i errand (Some e.peer)) x.live.me z.peer (call_at u i) z.count r) here
+          (subst (λ n. Awaits (said ++ exec_to ss x i errand (Some e.peer)) x.live.me e.peer n e.count r) (sym (one_more e at))
+          (subst (λ n. Awaits (said ++ exec_to ss x i errand (Some e.peer)) x.live.me e.peer (next_call x.work i) e.count n) (task_room ss x i errand)
+          (new_awaits said all x.live.me e.peer (next_call x.work i) e.count (task_for ss x i errand) (ap (λ n. n + 1) (made e at)) known)))))
 
-      pub calls : Calls_so (exec_to ss x i s given (peer_of x.live i))
+      pub calls : Calls_so (exec_to ss x i errand (peer_of x.live i))
       calls = calls_by (numbered x.live.edges i) refl
 
     -- ---- acts

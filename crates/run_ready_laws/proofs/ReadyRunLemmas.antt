@@ -52,6 +52,7 @@ comes_expected f k node (inputs.Call n s) (Some t) comes few = absurd comes
 comes_expected f k node (inputs.GiveUp n) took comes few = record { fit = tt; whole = tt; named = tt; few = few }
 comes_expected f k node (inputs.Message m) took comes few = record { fit = tt; whole = tt; named = tt; few = few }
 comes_expected f k node inputs.Reco took comes few = record { fit = tt; whole = tt; named = tt; few = few }
+comes_expected f k node inputs.Checkpoint took comes few = record { fit = tt; whole = tt; named = tt; few = few }
 
 -- no Reply that comes tells of many, where none was sent that does
 few_come : (f : Facts) (k : NodeState) (node : ℕ) (input : Input) (took : Option Took) → AllSent (λ m. TellsFew m.kind) f.net.packets → Comes f k node input took → BringsFew input
@@ -60,6 +61,7 @@ few_come f k node (inputs.Message m) None sent comes = absurd comes
 few_come f k node (inputs.Call n s) took sent comes = tt
 few_come f k node (inputs.GiveUp n) took sent comes = tt
 few_come f k node inputs.Reco took sent comes = tt
+few_come f k node inputs.Checkpoint took sent comes = tt
 
 -- ---- records
 

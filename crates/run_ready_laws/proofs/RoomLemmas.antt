@@ -5,7 +5,7 @@ use Rattle.std.proofs.lemmas.Bool.Decides.{nat_tests}
 use Rattle.dtx_values.specs.Limits.{depth_limit}
 use Rattle.session_tree.specs.Live.{edge_by_link}
 use Rattle.session_tree.specs.Tree.{room}
-use Rattle.node_rules.specs.Data.{Stmt, Refusal, Advice, BranchId, Edge, Live, Place, Durable, Post}
+use Rattle.node_rules.specs.Data.{Stmt, Refusal, Task, BranchId, Edge, Live, Place, Durable, Post}
 use Rattle.node_rules.specs.Data.kinds
 use Rattle.node_rules.specs.declared.work.Waits.TheVariants as waiting
 use Rattle.node_rules.specs.declared.work.Going.{Going}
@@ -16,8 +16,9 @@ use Rattle.node_rules.specs.NodeState.{post}
 use Rattle.node_rules.specs.Names.{Named, Unknown, A_table, Behind, Nowhere_to, Through, named_by, ref_of, target_of, way_edge, way_target, way_named, way_of}
 use Rattle.run_base_laws.specs.InTurnLaws.{newest_exec, WaitsFor, call_at}
 use Rattle.run_base_laws.proofs.TurnEventLemmas.{cases_nat}
-use Rattle.run_ready_laws.proofs.SentLemmas.{sent_split, sent_more, GivesRoom, TellsCount, Gave, Told, gave_low, Base, base_more, AllFit, told_gave}
+use Rattle.run_ready_laws.proofs.SentLemmas.{sent_split, sent_more, room_of, GivesRoom, TellsCount, Gave, Told, gave_low, Base, base_more, AllFit, told_gave}
 use Rattle.run_ready_laws.proofs.CountLemmas.{Awaits, ParentFits}
+use Rattle.node_rules.proofs.WayLemmas.{way_by_name}
 
 -- ---- links
 
@@ -43,18 +44,17 @@ some_room : (r : ℕ) → (r == 0) ≡ false → 1 ≤ r
 some_room r is = grind (arith, nat_tests, is)
 
 pub way_room : (p : Place) (d : Durable) (l : Live) (given : ℕ) (s : Stmt) (n : ℕ) (k t : List ℕ) → way_of p d l given s ≡ Through n k t → 1 ≤ room l given
-unfolding way_of
-way_room p d l given s n k t is = some_room (room l given) (named_room p d l given (named_by d (ref_of s)) n k t is)
+way_room p d l given s n k t is = some_room (room l given) (named_room p d l given (named_by d (ref_of s)) n k t (way_by_name p d l given s (Through n k t) tt is))
 
 -- ---- calls
 
 -- a call with a new number
-pub new_awaits : (said : List Post) → AllFit said said → (me c : BranchId) (call v r : ℕ) (advice : Option Advice) (s : Stmt) → newest_exec said me c + 1 ≡ call → Base said c me call v
-    → Awaits (said ++ post me c (kinds.Exec call r advice s)) me c call v r
-new_awaits said all me c call v r advice s next base = record {
-  base = base_more said (post me c (kinds.Exec call r advice s)) c me call v base;
-  rooms = λ x gave. elim (sent_split (GivesRoom call x) said (post me c (kinds.Exec call r advice s)) me c gave) [ inl old ↦ absurd (none x old) | inr new ↦ own x new ];
-  replies = λ x told. elim (sent_split (TellsCount call x) said (post me c (kinds.Exec call r advice s)) c me told) [
+pub new_awaits : (said : List Post) → AllFit said said → (me c : BranchId) (call v : ℕ) (task : Task) → newest_exec said me c + 1 ≡ call → Base said c me call v
+    → Awaits (said ++ post me c (kinds.Exec call task)) me c call v (room_of task)
+new_awaits said all me c call v task next base = record {
+  base = base_more said (post me c (kinds.Exec call task)) c me call v base;
+  rooms = λ x gave. elim (sent_split (GivesRoom call x) said (post me c (kinds.Exec call task)) me c gave) [ inl old ↦ absurd (none x old) | inr new ↦ own x new ];
+  replies = λ x told. elim (sent_split (TellsCount call x) said (post me c (kinds.Exec call task)) c me told) [
     | inl old ↦ (let it = (told_gave said said all c me call x old).1 in absurd (none it.0 it.1))
     | inr new ↦ absurd (no_reply x new)
   ];
@@ -63,11 +63,11 @@ new_awaits said all me c call v r advice s next base = record {
     none : (x : ℕ) → Gave said me c call x → ⊥
     none x old = let low : call ≤ newest_exec said me c = gave_low said me c call x old in omega (arith, low, next)
 
-    own : (x : ℕ) → Gave (post me c (kinds.Exec call r advice s)) me c call x → x ≡ r
+    own : (x : ℕ) → Gave (post me c (kinds.Exec call task)) me c call x → x ≡ room_of task
     own x (inl here) = sym here.2.1
     own x (inr never) = absurd never
 
-    no_reply : (x : ℕ) → Told (post me c (kinds.Exec call r advice s)) c me call x → ⊥
+    no_reply : (x : ℕ) → Told (post me c (kinds.Exec call task)) c me call x → ⊥
     no_reply x (inl here) = here.2
     no_reply x (inr never) = never
 

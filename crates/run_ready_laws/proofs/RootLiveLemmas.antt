@@ -1,5 +1,5 @@
 -- A session's transaction is live until its COMMIT comes: each step of a node that another input brings leaves it so.
-use Rattle.std.proofs.Common.{◌≡◌, ◌≢◌, ℕ, ◌&&◌, Bool, true, false, if◌then◌else◌, List, [], ◌∷◌, ◌++◌, is_none, Option, Some, None, inl, inr, refl, sym, ap, subst, ◌∙◌}
+use Rattle.std.proofs.Common.{◌≡◌, ◌≢◌, ℕ, ◌+◌, ◌&&◌, Bool, true, false, if◌then◌else◌, List, [], ◌∷◌, ◌++◌, is_none, Option, Some, None, inl, inr, refl, sym, ap, subst, ◌∙◌}
 use Rattle.std.proofs.lemmas.Bool.{cond_both}
 use Rattle.tran_ids.proofs.BranchLemmas.{equal_from_same, same_from_equal}
 use Rattle.tran_ids.proofs.ListedLemmas.{item_is, put_found, put_or_before, drop_leaves}
@@ -20,7 +20,7 @@ use Rattle.node_rules.specs.Refusals.{dtx}
 use Rattle.session_tree.specs.Live.{is_branch, new_edge}
 use Rattle.node_rules.specs.NodeState.{NodeState, Branch, TurnDraft, live_id, live_at}
 use Rattle.node_rules.specs.Statement.{ran, after_run}
-use Rattle.node_rules.specs.Sessions.{session_at, with_call, needs_rollback, no_transaction, commit_is_pending, commit_ended}
+use Rattle.node_rules.specs.Sessions.{session_at, with_call, needs_rollback, no_transaction, with_call_of, commit_is_pending, commit_ended}
 use Rattle.node_rules.specs.Calls.{call_pends, answered_sessions, heard_sessions, is_gone, with_edge, hears_reply}
 use Rattle.node_rules.specs.Prepare.{abandoned_sessions, ready, is_alone, act_turn}
 use Rattle.node_rules.specs.Commit.{decided_sessions}
@@ -29,10 +29,10 @@ use Rattle.node_rules.proofs.Steps as steps
 use Rattle.node_rules.proofs.Steps.{Step, Acting}
 use Rattle.node_rules.proofs.StepLemmas.{branch_found, acting_so}
 use Rattle.run_base_laws.specs.CallLaws.{RootWaits}
-use Rattle.run_base_laws.proofs.RootLemmas.{SessionsFit, session_or_before, root_alone}
-use Rattle.run_base_laws.proofs.RestLemmas.{Before, NodeRoots, acting_root, asked_works, going_works}
+use Rattle.run_base_laws.proofs.RootLemmas.{SessionsFit, session_or_before, root_alone, back_so}
+use Rattle.run_base_laws.proofs.RestLemmas.{Before, NodeRoots, acting_root, asked_works, back_before, going_works}
 use Rattle.run_base_laws.proofs.RestStepLemmas.{going_of}
-use Rattle.run_ready_laws.proofs.CallEndLemmas.{none_of, heard_root, acked_before}
+use Rattle.run_ready_laws.proofs.CallEndLemmas.{none_of, heard_root, acked_before, calling_root}
 
 -- the transaction of a session is live, unless its COMMIT is pending
 abbrev pub RootLives : List Live → Session → Type 0
@@ -93,6 +93,11 @@ module _ (ls : List Live) (ss : List Session) (now : RootsLive ls ss) where
   pub same_lives : (n : ℕ) (s : Session) → s.root ≡ (session_at ss n).root → s.call ≡ (session_at ss n).call → RootsLive ls (set_numbered ss n s)
   same_lives n s root call = set_lives n s (λ b has waits. now n b (sym root ∙ has) (λ is. waits (call ∙ is)))
 
+  -- one call more is counted
+  pub counted_lives : (n : ℕ) (o : Option BranchId) → RootsLive ls (with_call_of ss n o)
+  counted_lives n None = now
+  counted_lives n (Some root) = same_lives n (record (session_at ss n) { calls = (session_at ss n).calls + 1 }) refl refl
+
   -- whose transaction has ended
   pub done_lives : (n : ℕ) → RootsLive ls (set_numbered ss n (no_transaction (session_at ss n)))
   done_lives n = set_lives n (no_transaction (session_at ss n)) (λ b has waits. absurd cc)
@@ -142,9 +147,9 @@ module _ (ls : List Live) (ss : List Session) (l : Live) (now : RootsLive ls ss)
       (λ root. call_lives ls ss now l.me.session pending.Statement (root_live ls ss l.me.session l.me x found (has (none_of l.parent root)))) (λ below. now)
 
 -- a transaction begins
-pub begun_lives : (p : Place) (k : NodeState) (n : ℕ) → RootsLive k.lives k.sessions → RootsLive (begun_by p k n None).lives (begun_by p k n None).sessions
-begun_lives p k n now =
-    let y : Live = fresh_root p k (new_root p k n) in
+pub begun_lives : (p : Place) (k : NodeState) (n : ℕ) (read_at : Option ℕ) → RootsLive k.lives k.sessions → RootsLive (begun_by p k n read_at None).lives (begun_by p k n read_at None).sessions
+begun_lives p k n read_at now =
+    let y : Live = fresh_root p k (new_root p k n) read_at in
     set_lives (k.lives ++ y ∷ []) k.sessions (also k.lives (k.lives ++ y ∷ []) k.sessions (last_lives k.lives y) now) n _
     (λ b has waits. (let it : Some (new_root p k n) ≡ Some b = has in let here : new_root p k n ≡ b = cc in subst (λ m. (l : Live) × (item_at live_id (k.lives ++ y ∷ []) m ≡ Some l)) here (last_there k.lives y)))
 
@@ -211,8 +216,10 @@ parent_some b o is none = let it = branch_found b o is in absurd (cc (it, none))
 
 module _ (p : Place) (input : Input) (no_call : (n : ℕ) (s : Option Stmt) → input ≡ inputs.Call n s → ⊥) where
   pub lives_on : {k : NodeState} {d : TurnDraft} → Step p input k d → Before input k → RollsBelow input k → SessionsFit k → NodeRoots k → RootsLive k.lives k.sessions → RootsLive d.after.lives d.after.sessions
-  lives_on (steps.Begins n s call rows range none step) before rolls fit roots now = absurd (no_call n (Some s) call)
-  lives_on (steps.Pends n l given call has live code step) before rolls fit roots now = absurd (no_call n _ call)
+  lives_on (steps.Begins n s read_at call begins range none step) before rolls fit roots now = absurd (no_call n (Some s) call)
+  lives_on (steps.Counts_call n s call counts step) before rolls fit roots now = absurd (no_call n (Some s) call)
+  lives_on (steps.Goes_back {k = k} x step goes next) before rolls fit roots now = lives_on next (back_before input k x step before) rolls (back_so k fit x step) roots now
+  lives_on (steps.Pends n l given call has live code writer step) before rolls fit roots now = absurd (no_call n _ call)
   lives_on (steps.Lets_reads_go l comment site_below live begins step) before rolls fit roots now =
       lives_on step (record { free = before.free; asked = before.asked; prepared = before.prepared; either = before.either }) rolls (record { roots = fit.roots; above = fit.above }) roots now
   lives_on (steps.Counts_ack {k = k} s from kept came counts step) before rolls fit roots now = lives_on step (acked_before input k s from kept came before) rolls (record { roots = fit.roots; above = fit.above }) roots now
@@ -239,7 +246,13 @@ module _ (p : Place) (input : Input) (no_call : (n : ℕ) (s : Option Stmt) → 
       let g = going_of x answered.from answered.call i e answered.waits in
       answered_lives (put_item live_id k.lives y.live) zs y.live (heard_lives (put_item live_id k.lives y.live) k.sessions (also k.lives (put_item live_id k.lives y.live) k.sessions (put_lives k.lives y.live) now) y.live a)
       x.live.parent y.live (put_found live_id k.lives y.live) (λ root. heard_root k.sessions y.live a ((going_works k roots x g.0 answered.live g.1).root root))
-  lives_on (steps.Opens_branch {k = k} to parent edge root depth came new) before rolls fit roots now = also k.lives (k.lives ++ _ ∷ []) k.sessions (last_lives k.lives _) now
+  lives_on (steps.Backs {k = k} x step from i calls next) before rolls fit roots now =
+      pends_lives (put_item live_id k.lives x.live) k.sessions x.live (also k.lives (put_item live_id k.lives x.live) k.sessions (put_lives k.lives x.live) now) x.live (put_found live_id k.lives x.live)
+      (λ root. (calling_root before no_call roots calls root).1)
+  lives_on (steps.Is_back {k = k} x step from calls none) before rolls fit roots now =
+      answered_lives (put_item live_id k.lives x.live) k.sessions x.live (also k.lives (put_item live_id k.lives x.live) k.sessions (put_lives k.lives x.live) now) x.live.parent x.live (put_found live_id k.lives x.live)
+      (λ root. (calling_root before no_call roots calls root).1)
+  lives_on (steps.Opens_branch {k = k} to parent edge root depth read_at came new) before rolls fit roots now = also k.lives (k.lives ++ _ ∷ []) k.sessions (last_lives k.lives _) now
   lives_on (steps.Acts {k = k} l site_below a why) before rolls fit roots now = act_lives k l now (acting_unneeded k fit input before roots no_call why) site_below a
   lives_on (steps.Drops_told {k = k} l live (steps.By_rollback from came)) before rolls fit roots now = dropped k.lives k.sessions l.me now (below_unneeded k fit l live (rolls from l.me came l live))
   lives_on (steps.Drops_told {k = k} l live (steps.By_parent from came parent)) before rolls fit roots now = dropped k.lives k.sessions l.me now (below_unneeded k fit l live (parent_some from l.parent parent))
@@ -259,7 +272,9 @@ module _ (p : Place) (input : Input) (no_call : (n : ℕ) (s : Option Stmt) → 
   lives_on (steps.Forces_rollback n id b call named) before rolls fit roots now = absurd (no_call n _ call)
   lives_on (steps.Hides n mixed id s call found) before rolls fit roots now = absurd (no_call n _ call)
   lives_on (steps.Advises n a call) before rolls fit roots now = absurd (no_call n _ call)
-  lives_on (steps.Rolls_back n x call has live) before rolls fit roots now = absurd (no_call n _ call)
+  lives_on (steps.Leaves n s d x call ends has live) before rolls fit roots now = absurd (no_call n _ call)
+  lives_on (steps.Sets_read_only n call) before rolls fit roots now = absurd (no_call n _ call)
+  lives_on (steps.Sets_savepoint n x name call has code live) before rolls fit roots now = absurd (no_call n _ call)
   lives_on (steps.Gives_up {k = k} n x gives has calls live) before rolls fit roots now =
       let xs : List Live = put_item live_id k.lives x.live in
       let zs : List Session = with_call k.sessions n pending.NoCall in
@@ -271,5 +286,6 @@ module _ (p : Place) (input : Input) (no_call : (n : ℕ) (s : Option Stmt) → 
       let at : m ≡ n = sym (fit.roots.each m l.me has_too) ∙ (ap (λ c. c.session) me ∙ fit.roots.each n b has) in
       waits (subst (λ i. (session_at k.sessions i).call ≡ pending.Commit) (sym at) calls)))) l.me
   lives_on (steps.Gives_up_commit {k = k} n b None gives has calls live) before rolls fit roots now = ended_lives k.lives k.sessions now b
+  lives_on (steps.Images is) before rolls fit roots now = now
   lives_on (steps.Rests) before rolls fit roots now = now
   lives_on (steps.Sends says why) before rolls fit roots now = now

@@ -2,8 +2,9 @@
 use Rattle.std.proofs.Common.{◌≡◌, ℕ, ◌+◌, ◌≤◌, ◌&&◌, ◌⊎◌, Bool, true, false, if◌then◌else◌, List, [], ◌∷◌, ◌++◌, max, inl, inr, ap, subst, ◌∙◌, arith}
 use Rattle.std.specs.List.{AllByRecursion}
 use Rattle.tran_ids.proofs.BranchLemmas.{same_from_equal}
-use Rattle.node_rules.specs.Data.{BranchId, Kind, Post}
+use Rattle.node_rules.specs.Data.{BranchId, Kind, Task, Post}
 use Rattle.node_rules.specs.Data.kinds
+use Rattle.node_rules.specs.Data.tasks
 use Rattle.node_rules.specs.Words.{same}
 use Rattle.run_base_laws.specs.InTurnLaws.{exec_number, reply_number, newest_exec, newest_reply}
 
@@ -25,9 +26,14 @@ module _ (P : Kind → Type 0) where
   sent_more (m ∷ ms) ns a b (inl here) = inl here
   sent_more (m ∷ ms) ns a b (inr later) = inr (sent_more ms ns a b later)
 
+-- the room that a call gives; one that goes back gives none
+abbrev pub room_of : Task → ℕ
+room_of (tasks.Run given advice s) = given
+room_of (tasks.GoBack keep) = 0
+
 -- a call of this number with this room
 abbrev pub GivesRoom : ℕ → ℕ → Kind → Type 0
-GivesRoom n r (kinds.Exec call given advice s) = (call ≡ n) × (given ≡ r)
+GivesRoom n r (kinds.Exec call task) = (call ≡ n) × (room_of task ≡ r)
 GivesRoom n r _ = ⊥
 
 -- a Reply of this number that tells of so many branches
@@ -62,7 +68,7 @@ gave_low [] a b n r is = absurd is
 gave_low (m ∷ ms) a b n r (inl here) = by m.kind here.2
   where
     by : (kind : Kind) → GivesRoom n r kind → n ≤ (if same m.from a && same m.to b then max (exec_number kind) (newest_exec ms a b) else newest_exec ms a b)
-    by (kinds.Exec call given advice s) is = low_first (same m.from a && same m.to b) call n (newest_exec ms a b) (both_same m.from m.to a b here.0 here.1) is.0
+    by (kinds.Exec call task) is = low_first (same m.from a && same m.to b) call n (newest_exec ms a b) (both_same m.from m.to a b here.0 here.1) is.0
     by _ is = absurd is
 gave_low (m ∷ ms) a b n r (inr later) = low_later (same m.from a && same m.to b) (exec_number m.kind) n (newest_exec ms a b) (gave_low ms a b n r later)
 
@@ -100,7 +106,7 @@ module _ (said says : List Post) where
 -- A call has room for no more branches than a tree may have beside those that are known. A Reply tells of one branch at least, and of no more than
 -- a tree may have, and answers a call.
 abbrev pub FitsSo : List Post → BranchId → BranchId → Kind → Type 0
-FitsSo said from to (kinds.Exec call given advice s) = (v : ℕ) × Base said to from call v × (v + given ≤ 64)
+FitsSo said from to (kinds.Exec call task) = (v : ℕ) × Base said to from call v × (v + room_of task ≤ 64)
 FitsSo said from to (kinds.Reply call weight count a) = (1 ≤ count) × (count ≤ 64) × ((r : ℕ) × Gave said to from call r)
 FitsSo said from to _ = Unit {0}
 
@@ -113,7 +119,7 @@ AllFit said ms = AllByRecursion (PostFits said) ms
 
 -- And a new Reply tells of no more than were known before its call and that had room for.
 abbrev pub NewSo : List Post → BranchId → BranchId → Kind → Type 0
-NewSo said from to (kinds.Exec call given advice s) = (v : ℕ) × Base said to from call v × (v + given ≤ 64)
+NewSo said from to (kinds.Exec call task) = (v : ℕ) × Base said to from call v × (v + room_of task ≤ 64)
 NewSo said from to (kinds.Reply call weight count a) = (1 ≤ count) × (count ≤ 64) × ((r : ℕ) × Gave said to from call r × ((v : ℕ) → Base said from to call v → count ≤ v + r))
 NewSo said from to _ = Unit {0}
 
@@ -149,12 +155,12 @@ told_new said (m ∷ ms) all c a n x (inr later) = told_new said ms all.1 c a n 
 
 module _ (said says : List Post) where
   fits_more : (from to : BranchId) (kind : Kind) → FitsSo said from to kind → FitsSo (said ++ says) from to kind
-  fits_more from to (kinds.Exec call given advice s) fits = (fits.0, base_more said says to from call fits.0 fits.1, fits.2)
+  fits_more from to (kinds.Exec call task) fits = (fits.0, base_more said says to from call fits.0 fits.1, fits.2)
   fits_more from to (kinds.Reply call weight count a) fits = (fits.0, fits.1, (fits.2.0, sent_more (GivesRoom call fits.2.0) said says to from fits.2.1))
   fits_more from to _ fits = tt
 
   new_fits : (from to : BranchId) (kind : Kind) → NewSo said from to kind → FitsSo (said ++ says) from to kind
-  new_fits from to (kinds.Exec call given advice s) new = (new.0, base_more said says to from call new.0 new.1, new.2)
+  new_fits from to (kinds.Exec call task) new = (new.0, base_more said says to from call new.0 new.1, new.2)
   new_fits from to (kinds.Reply call weight count a) new = (new.0, new.1, (new.2.0, sent_more (GivesRoom call new.2.0) said says to from new.2.1))
   new_fits from to _ new = tt
 

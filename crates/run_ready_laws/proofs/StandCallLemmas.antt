@@ -86,6 +86,7 @@ module _ (t : RunReport) where
   input_same running node (inputs.GiveUp session) = same_calls t
   input_same running node (inputs.Message m) = same_calls t
   input_same running node inputs.Reco = same_calls t
+  input_same running node inputs.Checkpoint = same_calls t
 
 turn_same : (t : RunReport) (n : ℕ) (input : Input) (k : NodeState) (o : TurnOutput) (took : Option Took) → SameCalls t (delivered_more (turn_appends t n input (Some k) (Some o)) took)
 turn_same t n input k o took =

@@ -83,13 +83,16 @@ forced_few : (ss : List Session) (b : BranchId) (r : _) (g : Finished) → EndsF
 forced_few ss b r g = cond_both (commit_is_pending ss b) _ [] (λ fs. EndsFew (fs ++ g ∷ [])) (λ is. refl) (λ other. tt)
 
 pub few_on : (p : Place) (input : Input) {k : NodeState} {d : TurnDraft} → Step p input k d → EndsFew d.ended
-few_on p input (steps.Begins n s call rows range none step) = few_on p input step
-few_on p input (steps.Pends n l given call has live code step) = few_on p input step
+few_on p input (steps.Begins n s read_at call begins range none step) = few_on p input step
+few_on p input (steps.Counts_call n s call counts step) = few_on p input step
+few_on p input (steps.Goes_back x step goes next) = few_on p input next
+few_on p input (steps.Pends n l given call has live code writer step) = few_on p input step
 few_on p input (steps.Lets_reads_go l comment site_below live begins step) = few_on p input step
 few_on p input (steps.Counts_ack s from kept came counts step) = few_on p input step
 few_on p input (steps.Runs {k = k} x s given t asked way) = answer_few (after_run x.live (ran p k x.live.me s t)) _ x.live.parent
 few_on p input (steps.Goes_nowhere x s given r asked way) = answer_few x.live _ x.live.parent
 few_on p input (steps.Hears_reply x weight count a i e answered) = answer_few (hears_reply x i weight count e).live _ x.live.parent
+few_on p input (steps.Is_back x step from calls none) = answer_few x.live _ x.live.parent
 few_on p input (steps.Acts {k = k} l site_below a why) = act_few k l site_below a
 few_on p input (steps.Does {k = k} s from (nexts.End d) kept why) = decision_few k.sessions s.me d
 few_on p input (steps.Does {k = k} s from (nexts.Meet d mixed) kept why) = decision_few k.sessions s.me d
@@ -142,6 +145,8 @@ module _ (p : Place) (k : NodeState) (now : NodeRests k) (live : RootsLive k.liv
       let is = other_leaves (inputs.Message m) (λ n s it. absurd cc) (λ n. refl) refl refl before rolls step in record { ends = is.0; few = few_on p (inputs.Message m) step; lives = is.1 }
   turn_leaves inputs.Reco fit free before rolls step =
       let is = other_leaves inputs.Reco (λ m s it. absurd cc) (λ m. refl) refl refl before rolls step in record { ends = is.0; few = few_on p inputs.Reco step; lives = is.1 }
+  turn_leaves inputs.Checkpoint fit free before rolls step =
+      let is = other_leaves inputs.Checkpoint (λ m s it. absurd cc) (λ m. refl) refl refl before rolls step in record { ends = is.0; few = few_on p inputs.Checkpoint step; lives = is.1 }
 
 -- ---- in a run
 

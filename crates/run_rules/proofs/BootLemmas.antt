@@ -1,15 +1,12 @@
 -- Which start a node is in: only starts write Boot, and the records of a node say how often it was started.
-use Rattle.std.proofs.Common.{◌≡◌, ℕ, ◌+◌, List, [], ◌∷◌, ◌++◌, Option, Some, None, refl, sym, ap, ◌∙◌, append-nil, arith}
+use Rattle.std.proofs.Common.{◌≡◌, ℕ, ◌+◌, List, [], ◌∷◌, ◌++◌, Option, Some, None, refl, ap, append-nil, arith}
 use Rattle.std.specs.Prelude.{IfSome}
 use Rattle.std.specs.Option.{option_to_list}
-use Rattle.redo_record.specs.Durable.{durable_after}
 use Rattle.node_rules.specs.Data.{RedoRecord, Place, Input}
-use Rattle.node_rules.specs.Data.params
 use Rattle.node_rules.specs.Data.records
 use Rattle.node_rules.specs.Data.acts
 use Rattle.commit_forget.specs.declared.next.Next.TheVariants as nexts
-use Rattle.node_rules.specs.NodeState.{NodeState, Stored, TurnDraft}
-use Rattle.node_rules.specs.Records.{applied, nothing_stored, stored_by}
+use Rattle.node_rules.specs.NodeState.{NodeState, TurnDraft}
 use Rattle.node_rules.proofs.Steps as steps
 use Rattle.node_rules.proofs.Steps.{Step}
 use Rattle.run_rules.specs.Lawful.{boots}
@@ -22,13 +19,15 @@ IsOfTurn _ = Unit {0}
 
 -- no step writes it
 pub step_of_turn : (p : Place) (input : Input) {k : NodeState} {d : TurnDraft} → Step p input k d → IfSome d.wrote IsOfTurn
-step_of_turn p input (steps.Begins n s call rows fit none step) = step_of_turn p input step
-step_of_turn p input (steps.Pends n l given call has live code step) = step_of_turn p input step
+step_of_turn p input (steps.Begins n s read_at call begins fit none step) = step_of_turn p input step
+step_of_turn p input (steps.Counts_call n s call counts step) = step_of_turn p input step
+step_of_turn p input (steps.Goes_back x step goes next) = step_of_turn p input next
+step_of_turn p input (steps.Pends n l given call has live code reads step) = step_of_turn p input step
 step_of_turn p input (steps.Lets_reads_go l comment site_below live begins step) = step_of_turn p input step
 step_of_turn p input (steps.Counts_ack s from kept came counts step) = step_of_turn p input step
 step_of_turn p input (steps.Acts l site_below acts.Rest why) = tt
 step_of_turn p input (steps.Does s from nexts.Rest kept why) = tt
-step_of_turn p input (steps.Makes_record n s r d call makes) = made_so IsOfTurn (λ t. tt) (λ l. tt) (λ y. tt) (λ on. tt) makes
+step_of_turn p input (steps.Makes_record n s r d call makes) = made_so IsOfTurn (λ t. tt) (λ l. tt) (λ y. tt) (λ setting. tt) makes
 step_of_turn p input (steps.Gives_up_commit n b None gives has calls gone) = tt
 step_of_turn p input _ = tt
 

@@ -1,18 +1,19 @@
--- Which branches began in a run so far, and where each stands in its session tree. A root begins with the first statement with
--- a table of a session that has no transaction, another branch with the first Open of its parent's edge. (Database
+-- Which branches began in a run so far, and where each stands in its session tree. A root begins where a session that has no
+-- transaction calls a statement that begins one, another branch with the first Open of its parent's edge. (Database
 -- Administrator's Guide, "Distributed Transactions Concepts": session trees.)
 use Rattle.std.specs.Prelude.{ℕ, if◌then◌else◌, List, [], ◌∷◌, ◌++◌, find, Option, Some, None}
 use Rattle.node_rules.specs.Data.{Stmt, BranchId, Kind, Place, Input, Opening}
 use Rattle.node_rules.specs.Data.kinds
+use Rattle.node_rules.specs.Data.stmts
 use Rattle.node_rules.specs.Data.inputs
 use Rattle.node_rules.specs.Words.{item_at}
 use Rattle.node_rules.specs.NodeState.{NodeState}
 use Rattle.node_rules.specs.Sessions.{session_at}
-use Rattle.node_rules.specs.Calls.{is_opening, next_child}
+use Rattle.node_rules.specs.Calls.{is_opening, next_child, strength_of}
 use Rattle.node_rules.specs.Client.{new_root}
 use Rattle.run_rules.specs.Data.{Happening, Command}
 use Rattle.run_rules.specs.Data.happenings
-use Rattle.run_rules.specs.Runs.{is_of_rows}
+use Rattle.run_rules.specs.Runs.{begins_transaction}
 use Rattle.run_rules.specs.Facts.{Facts, first_facts, place_at, node_at, facts_after}
 use Rattle.run_rules.specs.Lawful.{History}
 
@@ -23,32 +24,39 @@ pub record Born : Type 0 where
   pub parent : Option BranchId  -- none at a root
   pub edge : ℕ  -- the number of its parent's edge to it, 0 at a root
   pub depth : ℕ  -- 1 at a root
+  pub strength : ℕ  -- the commit point strength of its node
+  pub read_at : Option ℕ  -- the SCN at which a READ ONLY transaction reads
 
 -- a root that begins
-abbrev pub root_born : BranchId → Born
-root_born b = record { me = b; root = b; parent = None; edge = 0; depth = 1 }
+abbrev pub root_born : BranchId → ℕ → Option ℕ → Born
+root_born b strength read_at = record { me = b; root = b; parent = None; edge = 0; depth = 1; strength = strength; read_at = read_at }
 
 -- a branch that begins below another
-abbrev pub child_born : BranchId → BranchId → ℕ → BranchId → ℕ → Born
-child_born me parent edge root depth = record { me = me; root = root; parent = Some parent; edge = edge; depth = depth }
+abbrev pub child_born : BranchId → BranchId → ℕ → BranchId → ℕ → ℕ → Option ℕ → Born
+child_born me parent edge root depth strength read_at = record { me = me; root = root; parent = Some parent; edge = edge; depth = depth; strength = strength; read_at = read_at }
 
 -- a session that has no transaction begins one
-abbrev pub roots_by : Place → NodeState → ℕ → Option BranchId → List Born
-roots_by p k n None = root_born (new_root p k n) ∷ []
-roots_by p k n (Some root) = []
+abbrev pub roots_by : Place → NodeState → ℕ → Option ℕ → Option BranchId → List Born
+roots_by p k n read_at None = root_born (new_root p k n) (strength_of p k) read_at ∷ []
+roots_by p k n read_at (Some root) = []
 
--- with a statement that has a table
+-- SET TRANSACTION READ ONLY begins one that reads at the node's clock
+abbrev pub read_at_by : ℕ → Stmt → Option ℕ
+read_at_by clock stmts.SetReadOnly = Some clock
+read_at_by clock _ = None
+
+-- with a statement that begins one
 abbrev pub births_by_call : Place → NodeState → ℕ → Stmt → List Born
-births_by_call p k n s = if is_of_rows s then roots_by p k n (session_at k.sessions n).root else []
+births_by_call p k n s = if begins_transaction s then roots_by p k n (read_at_by k.clock s) (session_at k.sessions n).root else []
 
 -- the first Open of an edge begins a branch
-abbrev pub births_by_open : Place → NodeState → BranchId → ℕ → BranchId → ℕ → Option Opening → List Born
-births_by_open p k parent edge root depth None = child_born (next_child p k) parent edge root depth ∷ []
-births_by_open p k parent edge root depth (Some o) = []
+abbrev pub births_by_open : Place → NodeState → BranchId → ℕ → BranchId → ℕ → Option ℕ → Option Opening → List Born
+births_by_open p k parent edge root depth read_at None = child_born (next_child p k) parent edge root depth (strength_of p k) read_at ∷ []
+births_by_open p k parent edge root depth read_at (Some o) = []
 
 -- no other message does
 abbrev pub births_by_kind : Place → NodeState → BranchId → Kind → List Born
-births_by_kind p k from (kinds.Open edge root depth) = births_by_open p k from edge root depth (find (is_opening from edge) k.opens)
+births_by_kind p k from (kinds.Open edge root depth read_at) = births_by_open p k from edge root depth read_at (find (is_opening from edge) k.opens)
 births_by_kind p k from _ = []
 
 -- the branches that begin with an input

@@ -2,7 +2,7 @@
 -- entry needs of those before it. (Database Administrator's Guide, "Distributed Transactions Concepts": in-doubt
 -- transactions, the outcome of a transaction, mixed outcomes.)
 pub use Rattle.agreement.specs.Outcomes.{is_sealed_of, is_decided_of, is_forced_of, is_end_of, is_met_of, stands, is_decision_on, is_decision_at, global_in, is_of, is_rollback_of, AsDecided, Follows, EachAgainst, Agreement, forced_in, differ, Marks, MixedIsMarked, At, AboveSeals}
-use Rattle.std.specs.Prelude.{ℕ, ◌<◌, ◌==◌, ◌&&◌, not, Bool, if◌then◌else◌, List, [], ◌∷◌, ◌++◌, flat_map, IsTrue, Option, Some, None}
+use Rattle.std.specs.Prelude.{ℕ, ◌<◌, ◌==◌, ◌&&◌, not, Bool, true, if◌then◌else◌, List, [], ◌∷◌, ◌++◌, filter, flat_map, nat_le, IsTrue, Option, Some, None}
 use Rattle.std.specs.List.{list_any}
 use Rattle.node_rules.specs.Data.{Change, BranchId, Keyed}
 use Rattle.run_rules.specs.Data.{Entry}
@@ -44,6 +44,21 @@ commits_at book n _ = []
 -- the rows that the committed transactions of a book leave in a table of a node
 unfoldable pub rows_of : List Entry → ℕ → List ℕ → List Keyed
 rows_of book n table = apply table [] (flat_map (commits_at book n) book)
+
+-- whether an entry does not commit above this SCN
+abbrev pub is_until : ℕ → Entry → Bool
+is_until scn (entries.Decided b g cs n) = nat_le n scn
+is_until scn (entries.Forced b (decisions.Commit n)) = nat_le n scn
+is_until scn _ = true
+
+-- the rows that those leave that are committed up to an SCN
+unfoldable pub rows_until : List Entry → ℕ → List ℕ → ℕ → List Keyed
+rows_until book n table scn = apply table [] (flat_map (commits_at book n) (filter (is_until scn) book))
+
+-- the rows of a table of a node that a transaction reads: those at its SCN where it is READ ONLY
+abbrev pub rows_read : List Entry → ℕ → List ℕ → Option ℕ → List Keyed
+rows_read book n table None = rows_of book n table
+rows_read book n table (Some scn) = rows_until book n table scn
 
 -- the changes that an entry commits at once at its node: the site's own at its Decided, a branch's at its Ended or Forced commit
 abbrev pub commits_now : List Entry → ℕ → Entry → List Change

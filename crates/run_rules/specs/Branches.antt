@@ -5,11 +5,12 @@
 -- How a branch stopped being live, once: its Sealed or its Decided record stands; it answered ReadOnly; or it rolled back, its
 -- node stopped, or it was a root without a site.
 pub use Rattle.agreement.specs.Events.{Exit, Sealed, Decided, Quiet, Dropped}
-use Rattle.std.specs.Prelude.{ℕ, ◌==◌, ◌&&◌, Bool, false, if◌then◌else◌, List, [], ◌∷◌, ◌++◌, filter, find, flat_map, is_none, Option, Some, None}
+use Rattle.std.specs.Prelude.{ℕ, ◌==◌, ◌&&◌, Bool, false, if◌then◌else◌, List, [], ◌∷◌, ◌++◌, filter, find, flat_map, fold, is_none, Option, Some, None}
 use Rattle.std.specs.List.{list_any, list_all}
-use Rattle.node_rules.specs.Data.{Value, Change, Table, Stmt, BranchId, KeptRow}
+use Rattle.node_rules.specs.Data.{Value, Change, Table, Stmt, BranchId, KeptRow, Savepoint}
 use Rattle.node_rules.specs.Words.{same, item_at}
-use Rattle.row_locks.specs.Locks.{Lock, keys_held}
+use Rattle.row_locks.specs.Locks.{Lock, keys_held, without_reads}
+use Rattle.stmt_run.specs.Run.{take_keys}
 use Rattle.redo_record.specs.Durable.{durable}
 use Rattle.node_rules.specs.NodeState.{kept_row_id}
 use Rattle.run_rules.specs.Facts.{Facts, records_at}
@@ -21,21 +22,31 @@ pub record Run : Type 0 where
   pub statement : Stmt
   pub table : Table
 
+-- What a run that was accepted left to its branch: its changes, and the keys that it wrote.
+pub record Ran : Type 0 where
+  pub step : ℕ  -- at a root the number of its client's calls so far, elsewhere that of the call
+  pub changes : List Change
+  pub table : List ℕ
+  pub keys : List Value
+  pub writes : Bool  -- it changes rows, and does not lock them alone
+
 -- One branch, since it began.
 pub record Seen : Type 0 where
   pub me : BranchId
   pub root : BranchId
   pub parent : Option BranchId
   pub exit : Option Exit  -- none while it is live
-  pub taken : ℕ  -- the greatest call number that it took
+  pub strength : Option ℕ  -- the commit point strength that was set at its node when it began, where one was
+  pub read_at : Option ℕ  -- the SCN at which a READ ONLY transaction reads
+  pub taken : ℕ  -- the greatest call number that it took; at a root the number of its client's calls
   pub asked : Option Stmt  -- the statement of that call, or of its client's last call
   pub answer : Option Run  -- the run that its last answer came from
   pub children : List BranchId  -- those that it sent Execs to, in order of the first
   pub collects : Bool  -- its COMMIT was accepted, or Prepare came
   pub voted : List BranchId  -- the children whose first answer to Prepare came
   pub acks : List BranchId  -- those whose Ack came
-  pub own : List Change
-  pub held : List Lock
+  pub runs : List Ran  -- those that were accepted, without those that it went back over
+  pub savepoints : List Savepoint  -- those of its transaction, at a root
 
 -- One branch of a session tree, as it stood when the COMMIT was accepted.
 pub record PlannedBranch : Type 0 where
@@ -69,12 +80,14 @@ abbrev pub no_trail : Trail
 no_trail = record { moment = 0; seen = []; origins = []; plans = [] }
 
 -- a branch that has just begun
-abbrev pub newly_seen : BranchId → BranchId → Option BranchId → Seen
-newly_seen me root parent = record {
+abbrev pub newly_seen : BranchId → BranchId → Option BranchId → Option ℕ → Option ℕ → Seen
+newly_seen me root parent strength read_at = record {
   me = me;
   root = root;
   parent = parent;
   exit = None;
+  strength = strength;
+  read_at = read_at;
   taken = 0;
   asked = None;
   answer = None;
@@ -82,8 +95,8 @@ newly_seen me root parent = record {
   collects = false;
   voted = [];
   acks = [];
-  own = [];
-  held = [];
+  runs = [];
+  savepoints = [];
 }
 
 -- a branch by its id
@@ -107,14 +120,44 @@ exit_of (Some s) = s.exit
 abbrev pub exit_at : Trail → BranchId → Option Exit
 exit_at tr b = exit_of (seen_at tr b)
 
+-- what a branch has changed, in order
+abbrev pub own_changes : Seen → List Change
+own_changes s = flat_map (λ r. r.changes) s.runs
+
+-- with the keys that a run wrote
+abbrev pub take_run : BranchId → List Lock → Ran → List Lock
+take_run me locks r = take_keys locks me r.table r.writes r.keys
+
+-- a key that FOR UPDATE alone took is held until the collect begins
+abbrev pub held_on : Bool → BranchId → List Lock → List Lock
+held_on collects b held = if collects then without_reads held b else held
+
+-- the keys that a branch holds
+abbrev pub held_keys : Seen → List Lock
+held_keys s = held_on s.collects s.me (fold (take_run s.me) [] s.runs)
+
 -- the changes of a branch that began
 abbrev pub own_of : Option Seen → List Change
 own_of None = []
-own_of (Some s) = s.own
+own_of (Some s) = own_changes s
 
 -- what a branch has changed
 abbrev pub own_at : Trail → BranchId → List Change
 own_at tr b = own_of (seen_at tr b)
+
+-- the commit point strength that was set when a branch began
+abbrev pub strength_set : Option Seen → Option ℕ
+strength_set None = None
+strength_set (Some s) = s.strength
+
+-- the SCN at which a branch that began reads
+abbrev pub read_at_of : Option Seen → Option ℕ
+read_at_of None = None
+read_at_of (Some s) = s.read_at
+
+-- the SCN at which a branch reads, where its transaction is READ ONLY
+abbrev pub read_at_at : Trail → BranchId → Option ℕ
+read_at_at tr b = read_at_of (seen_at tr b)
 
 -- the children of a branch that began
 abbrev pub children_of : Option Seen → List BranchId
@@ -143,7 +186,7 @@ is_live_at n s = (s.me.node == n) && is_live s
 
 -- the keys of a table that live branches of a node hold
 abbrev pub held_at : Trail → ℕ → List ℕ → List Value
-held_at tr n table = flat_map (λ s. keys_held s.held table) (filter (is_live_at n) tr.seen)
+held_at tr n table = flat_map (λ s. keys_held (held_keys s) table) (filter (is_live_at n) tr.seen)
 
 -- the live root of a client session
 abbrev pub is_root_of : ℕ → ℕ → Seen → Bool

@@ -87,6 +87,7 @@ Comes f k node (inputs.Message m) (Some t) = (x : Packet) × MayCome f node m t 
 Comes f k node (inputs.Call session statement) None = IsSession session × ((session_at k.sessions session).call ≡ pending.NoCall) × IfSome statement IsWhole
 Comes f k node (inputs.GiveUp session) None = IsSession session × IsPending (session_at k.sessions session).call
 Comes f k node inputs.Reco None = Unit {0}
+Comes f k node inputs.Checkpoint None = Unit {0}
 Comes f k node _ _ = ⊥
 
 -- an uncut turn writes and sends what the rules say; a cut one sends nothing, and its record stands or not

@@ -22,3 +22,4 @@ pub mod Births
 pub mod Scripts
 pub mod Reported
 pub mod BranchRecords
+pub mod TriedStrength

@@ -1,8 +1,9 @@
--- Which turns run a statement at its table, for which branch, what the run means over the rows that the book leaves, and
--- what its branch has changed and holds afterwards. (SQL Language Reference.)
-use Rattle.std.specs.Prelude.{ℕ, ◌&&◌, Bool, true, false, if◌then◌else◌, List, [], ◌∷◌, ◌++◌, flat_map, map, filter, nat_lt, is_none, Option, Some, None}
-use Rattle.node_rules.specs.Data.{Value, Change, Table, TableRef, Stmt, Answer, BranchId, Kind, Msg, Input, Keyed}
+-- Which turns run a statement at its table, for which branch, what the run means over the rows that the book leaves, what its
+-- branch has changed and holds afterwards; and which turns go back to a savepoint. (SQL Language Reference.)
+use Rattle.std.specs.Prelude.{ℕ, ◌&&◌, Bool, true, false, if◌then◌else◌, List, [], ◌∷◌, ◌++◌, flat_map, map, filter, find, not, nat_lt, is_none, option_map, Option, Some, None}
+use Rattle.node_rules.specs.Data.{Value, Change, Table, TableRef, Stmt, Answer, BranchId, Kind, Msg, Input, Keyed, Savepoint}
 use Rattle.node_rules.specs.Data.answers
+use Rattle.node_rules.specs.Data.tasks
 use Rattle.node_rules.specs.Data.kinds
 use Rattle.node_rules.specs.Data.stmts
 use Rattle.node_rules.specs.Data.inputs
@@ -12,12 +13,10 @@ use Rattle.node_rules.specs.Meaning.{Meant, Changes, meant, written}
 use Rattle.node_rules.specs.Names.{table_of, ref_of}
 use Rattle.node_rules.specs.NodeState.{TurnOutput}
 use Rattle.redo_record.specs.Durable.{durable}
-use Rattle.row_locks.specs.Locks.{Lock}
-use Rattle.stmt_run.specs.Run.{take_keys}
 use Rattle.run_rules.specs.Data.{Finished, Turn, Entry}
-use Rattle.run_rules.specs.Book.{rows_of, in_doubt, changes_of}
+use Rattle.run_rules.specs.Book.{rows_read, in_doubt, changes_of}
 use Rattle.run_rules.specs.Facts.{Facts, records_at}
-use Rattle.run_rules.specs.Branches.{Run, Seen, Trail, seen_at, is_live, root_at, held_at}
+use Rattle.run_rules.specs.Branches.{Run, Ran, Seen, Trail, seen_at, is_live, root_at, held_at}
 
 -- ---- which turns run a statement
 
@@ -28,6 +27,18 @@ is_of_rows (stmts.Update table sets cs) = true
 is_of_rows (stmts.Delete table cs) = true
 is_of_rows (stmts.Select list table cs for_update) = true
 is_of_rows _ = false
+
+-- whether a statement begins a transaction in a session that has none
+abbrev pub begins_transaction : Stmt → Bool
+begins_transaction stmts.SetReadOnly = true
+begins_transaction (stmts.Savepoint name) = true
+begins_transaction s = is_of_rows s
+
+-- whether a statement counts as a call of its transaction
+abbrev pub is_counted : Stmt → Bool
+is_counted (stmts.Savepoint name) = true
+is_counted (stmts.RollbackTo name) = true
+is_counted s = is_of_rows s
 
 -- A statement that came to a live branch.
 pub record Asking : Type 0 where
@@ -44,9 +55,9 @@ abbrev pub asks_branch : ℕ → Stmt → Option Seen → Option Asking
 asks_branch call s None = None
 asks_branch call s (Some b) = if is_live b && nat_lt b.taken call then Some (record { branch = b; statement = s }) else None
 
--- only an Exec brings a statement
+-- only an Exec that runs one brings a statement
 abbrev pub asks_by : Trail → BranchId → Kind → Option Asking
-asks_by tr to (kinds.Exec call given advice s) = asks_branch call s (seen_at tr to)
+asks_by tr to (kinds.Exec call (tasks.Run given advice s)) = asks_branch call s (seen_at tr to)
 asks_by tr to _ = None
 
 -- the statement that an input brings to a branch of this node
@@ -111,15 +122,57 @@ is_accepted None = false
 is_accepted (Some (answers.Refused r)) = false
 is_accepted (Some _) = true
 
+-- whether a call was refused by its answer; one that is still pending has none
+abbrev pub is_refused : Option Answer → Bool
+is_refused None = false
+is_refused (Some a) = not (is_accepted (Some a))
+
+-- ---- which turns go back to a savepoint
+
+-- A branch that goes back, and the step that it goes back to.
+pub record GoneBack : Type 0 where
+  pub branch : BranchId
+  pub step : ℕ
+
+-- to a step, where there is one
+abbrev pub back_of : BranchId → Option ℕ → Option GoneBack
+back_of b step = option_map (λ k. record { branch = b; step = k }) step
+
+-- a BACK whose number its branch has not taken yet
+abbrev pub back_branch : ℕ → ℕ → Option Seen → Option GoneBack
+back_branch call keep None = None
+back_branch call keep (Some s) = if is_live s && nat_lt s.taken call then back_of s.me (Some keep) else None
+
+-- the step of a savepoint
+abbrev pub step_of_savepoint : List ℕ → List Savepoint → Option ℕ
+step_of_savepoint name ss = option_map (λ s. s.step) (find (λ s. same_text s.name name) ss)
+
+-- ROLLBACK TO at the root of its session
+abbrev pub back_root : List ℕ → Option Seen → Option GoneBack
+back_root name None = None
+back_root name (Some s) = back_of s.me (step_of_savepoint name s.savepoints)
+
+-- only BACK brings one to a branch
+abbrev pub back_by : Trail → BranchId → Kind → Option GoneBack
+back_by tr to (kinds.Exec call (tasks.GoBack keep)) = back_branch call keep (seen_at tr to)
+back_by tr to _ = None
+
+-- the branch that an input with this answer takes back: a ROLLBACK TO that is not refused, or BACK
+abbrev pub goes_back : Trail → ℕ → Option Answer → Input → Option GoneBack
+goes_back tr n answer (inputs.Call session (Some (stmts.RollbackTo name))) = if is_refused answer then None else back_root name (root_at tr n session)
+goes_back tr n answer (inputs.Message m) = back_by tr m.to m.kind
+goes_back tr n answer _ = None
+
 -- ---- what it means
 
--- the view of a branch: the rows that the book leaves at its node, with its own changes
-unfoldable pub view_by : List Entry → BranchId → List Change → List ℕ → List Keyed
-view_by book b own table = apply table (rows_of book b.node table) own
+-- the view of a branch: the rows that the book leaves at its node, at its SCN where its transaction is READ ONLY, with its own
+-- changes
+unfoldable pub view_by : List Entry → BranchId → Option ℕ → List Change → List ℕ → List Keyed
+view_by book b read_at own table = apply table (rows_read book b.node table read_at) own
 
--- what a run means for a branch with these own changes
-abbrev pub meaning : List Entry → List Change → Run → Meant
-meaning book own r = meant r.statement r.table (view_by book r.branch own r.table.name)
+-- what a run means for a branch that reads at this SCN, with these own changes
+abbrev pub meaning : List Entry → Option ℕ → List Change → Run → Meant
+meaning book read_at own r = meant r.statement r.table (view_by book r.branch read_at own r.table.name)
 
 -- the changes in a meaning
 abbrev pub changes_in : Meant → List Change
@@ -131,13 +184,15 @@ abbrev pub changes_rows : Stmt → Bool
 changes_rows (stmts.Select list table cs for_update) = false
 changes_rows _ = true
 
--- what a branch has changed after a run that was accepted
-abbrev pub own_after : List Entry → List Change → Run → List Change
-own_after book own r = own ++ changes_in (meaning book own r)
-
--- and the keys that it holds, those that the statement writes among them
-abbrev pub held_after : List Entry → List Change → List Lock → Run → List Lock
-held_after book own held r = take_keys held r.branch r.table.name (changes_rows r.statement) (written r.statement r.table (view_by book r.branch own r.table.name))
+-- what a run that was accepted leaves to its branch: what it changed, and the keys that the statement writes
+abbrev pub ran_by : List Entry → ℕ → Option ℕ → List Change → Run → Ran
+ran_by book step read_at own r = record {
+  step = step;
+  changes = changes_in (meaning book read_at own r);
+  table = r.table.name;
+  keys = written r.statement r.table (view_by book r.branch read_at own r.table.name);
+  writes = changes_rows r.statement;
+}
 
 -- the keys of a table that branches in doubt have changed
 abbrev pub keys_in_doubt : List Entry → ℕ → List ℕ → List Value

@@ -1,23 +1,24 @@
 -- What each happening adds to what is known of branches. (Database Administrator's Guide, "Distributed Transactions
 -- Concepts".)
-use Rattle.std.specs.Prelude.{ℕ, ◌+◌, ◌==◌, ◌&&◌, ◌||◌, not, Bool, true, false, if◌then◌else◌, List, [], ◌∷◌, ◌++◌, map, filter, length, max, is_none, Option, Some, None}
+use Rattle.std.specs.Prelude.{ℕ, ◌+◌, ◌==◌, ◌&&◌, ◌||◌, not, Bool, true, false, if◌then◌else◌, List, [], ◌∷◌, ◌++◌, map, filter, length, max, nat_le, is_none, is_some, Option, Some, None}
 use Rattle.std.specs.List.{list_any}
-use Rattle.node_rules.specs.Data.{Change, Stmt, Answer, BranchId, RedoRecord, Kind, Msg, Input, Place}
+use Rattle.node_rules.specs.Data.{Stmt, Answer, BranchId, RedoRecord, Kind, Msg, Input, Place, Savepoint}
 use Rattle.node_rules.specs.Data.records
 use Rattle.node_rules.specs.Data.kinds
 use Rattle.node_rules.specs.Data.stmts
 use Rattle.node_rules.specs.Data.inputs
 use Rattle.session_tree.specs.Live.{is_branch}
-use Rattle.node_rules.specs.Words.{same}
-use Rattle.node_rules.specs.NodeState.{TurnOutput}
-use Rattle.row_locks.specs.Locks.{Lock, without_reads}
+use Rattle.node_rules.specs.Words.{same, same_text}
+use Rattle.redo_record.specs.Durable.{durable}
+use Rattle.node_rules.specs.NodeState.{NodeState, TurnOutput}
 use Rattle.run_rules.specs.Data.{Command, Entry, Finished, Took, Turn, Happening}
 use Rattle.run_rules.specs.Data.happenings
 use Rattle.run_rules.specs.Lawful.{boots}
-use Rattle.run_rules.specs.Facts.{Facts, records_at, outcome_at, facts_after}
-use Rattle.run_rules.specs.Branches.{Exit, Sealed, Decided, Quiet, Dropped, Run, Seen, Trail, CommitPlan, Origin, newly_seen, seen_at, is_live, root_at, is_root_of, is_among, with_once, all_voted, plan_at, origin_at, is_live_at}
+use Rattle.run_rules.specs.Facts.{Facts, records_at, node_at, outcome_at, facts_after}
+use Rattle.run_rules.specs.Branches.{Exit, Sealed, Decided, Quiet, Dropped, Run, Ran, Seen, Trail, CommitPlan, Origin, newly_seen, own_changes, seen_at, is_live, root_at, is_root_of, is_among, with_once, all_voted, plan_at, origin_at, is_live_at}
 use Rattle.run_rules.specs.Tree.{plan}
-use Rattle.run_rules.specs.Runs.{Asking, asks, is_of_rows, run_in, answered_by, is_accepted, own_after, held_after}
+use Rattle.run_rules.specs.Births.{read_at_by}
+use Rattle.run_rules.specs.Runs.{Asking, GoneBack, asks, begins_transaction, is_counted, run_in, answered_by, is_accepted, is_refused, goes_back, ran_by}
 
 -- ---- branches begin
 
@@ -29,28 +30,38 @@ begun_in tr n boot session = length (filter (λ s. (s.me.node == n) && ((s.me.bo
 abbrev pub next_root : Facts → Trail → ℕ → ℕ → BranchId
 next_root f tr n session = record { node = n; boot = boots (records_at f n); session = session; seq = begun_in tr n (boots (records_at f n)) session + 1 }
 
--- a root that has just begun
-abbrev pub root_seen : BranchId → Seen
-root_seen root = newly_seen root root None
+-- the commit point strength that a node's records set last
+abbrev pub strength_at : Facts → ℕ → Option ℕ
+strength_at f n = (durable (records_at f n)).strength
 
--- a root begins with the first statement with a table of a session that has no transaction
+-- the clock of a node
+abbrev pub clock_of : Option NodeState → ℕ
+clock_of None = 0
+clock_of (Some k) = k.clock
+
+-- a root that has just begun, with this statement
+abbrev pub root_seen : Facts → ℕ → Stmt → BranchId → Seen
+root_seen f n s root = newly_seen root root None (strength_at f n) (read_at_by (clock_of (node_at f n)) s)
+
+-- a root begins where a session that has no transaction calls a statement that begins one
 abbrev pub roots_begun : Facts → Trail → ℕ → Input → List Seen
-roots_begun f tr n (inputs.Call session (Some s)) = if is_of_rows s && is_none (root_at tr n session) then root_seen (next_root f tr n session) ∷ [] else []
+roots_begun f tr n (inputs.Call session (Some s)) = if begins_transaction s && is_none (root_at tr n session) then root_seen f n s (next_root f tr n session) ∷ [] else []
 roots_begun f tr n _ = []
 
 -- another branch begins with the first Opened that is sent for it
-abbrev pub child_begun : Trail → Kind → Kind → Msg → List Seen
-child_begun tr (kinds.Open edge root depth) (kinds.Opened number strength) m = if is_none (seen_at tr m.from) then newly_seen m.from root (Some m.to) ∷ [] else []
-child_begun tr _ _ m = []
+abbrev pub child_begun : Facts → Trail → Kind → Kind → Msg → List Seen
+child_begun f tr (kinds.Open edge root depth read_at) (kinds.Opened number strength) m =
+    if is_none (seen_at tr m.from) then newly_seen m.from root (Some m.to) (strength_at f m.from.node) read_at ∷ [] else []
+child_begun f tr _ _ m = []
 
 -- the branch that begins with the Opened to an Open
-abbrev pub children_begun : Trail → Input → List Msg → List Seen
-children_begun tr (inputs.Message came) (m ∷ ms) = child_begun tr came.kind m.kind m
-children_begun tr _ _ = []
+abbrev pub children_begun : Facts → Trail → Input → List Msg → List Seen
+children_begun f tr (inputs.Message came) (m ∷ ms) = child_begun f tr came.kind m.kind m
+children_begun f tr _ _ = []
 
 -- the branches that begin in a turn; a cut turn begins none
 abbrev pub begun_in_turn : Facts → Trail → Turn → List Seen
-begun_in_turn f tr u = if u.cut then [] else roots_begun f tr u.node u.input ++ children_begun tr u.input u.sent
+begun_in_turn f tr u = if u.cut then [] else roots_begun f tr u.node u.input ++ children_begun f tr u.input u.sent
 
 -- ---- what a turn tells of a branch that began
 
@@ -76,15 +87,14 @@ abbrev pub voted_after : Seen → Input → List BranchId
 voted_after s (inputs.Message m) = if is_first_vote s m then s.voted ++ m.from ∷ [] else s.voted
 voted_after s _ = s.voted
 
--- whether a COMMIT was refused by its answer; one that is still pending has none
-abbrev pub is_refused : Option Answer → Bool
-is_refused None = false
-is_refused (Some a) = not (is_accepted (Some a))
+-- whether this is a COMMIT of a live root that is not refused
+abbrev pub accepts_commit : ℕ → Option Answer → Seen → Input → Bool
+accepts_commit n answer s (inputs.Call session (Some (stmts.Commit comment))) = is_root_of n session s && not (is_refused answer)
+accepts_commit n answer s _ = false
 
--- whether this is an accepted COMMIT of a live root
+-- whether a COMMIT begins its collect: a READ ONLY transaction has nothing to commit
 abbrev pub commits : ℕ → Option Answer → Seen → Input → Bool
-commits n answer s (inputs.Call session (Some (stmts.Commit comment))) = is_root_of n session s && not (is_refused answer)
-commits n answer s _ = false
+commits n answer s input = is_none s.read_at && accepts_commit n answer s input
 
 -- whether it is a Prepare of a live branch
 abbrev pub is_prepare : Kind → Bool
@@ -98,7 +108,7 @@ begins_collect n answer s input = commits n answer s input
 
 -- whether a message is an Exec
 abbrev pub is_exec : Kind → Bool
-is_exec (kinds.Exec call given advice s) = true
+is_exec (kinds.Exec call task) = true
 is_exec _ = false
 
 -- with the receivers of the Execs that a branch sends
@@ -108,13 +118,14 @@ children_after b cs (m ∷ ms) = children_after b (if same m.from b && is_exec m
 
 -- the call number of an Exec that came to a live branch
 abbrev pub taken_by : ℕ → Kind → ℕ
-taken_by taken (kinds.Exec call given advice s) = max taken call
+taken_by taken (kinds.Exec call task) = max taken call
 taken_by taken _ = taken
 
--- the greatest call number
-abbrev pub taken_after : Seen → Input → ℕ
-taken_after s (inputs.Message m) = if same m.to s.me && is_live s then taken_by s.taken m.kind else s.taken
-taken_after s _ = s.taken
+-- the greatest call number; at a root one more with each call of its client that counts
+abbrev pub taken_after : ℕ → Seen → Input → ℕ
+taken_after n s (inputs.Message m) = if same m.to s.me && is_live s then taken_by s.taken m.kind else s.taken
+taken_after n s (inputs.Call session (Some statement)) = if is_root_of n session s && is_counted statement then s.taken + 1 else s.taken
+taken_after n s _ = s.taken
 
 -- the statement that came to this branch, or the one before
 abbrev pub asked_after : Seen → Option Asking → Option Stmt
@@ -173,27 +184,29 @@ has_no_site (Some p) = is_none p.site
 abbrev pub ends_siteless : Trail → Seen → Bool
 ends_siteless tr s = is_none s.parent && (s.collects && (all_voted s && has_no_site (plan_at tr s.me)))
 
--- an input drops a live branch: a rollback, ROLLBACK at a root, or its COMMIT that is given up
-abbrev pub input_drops : ℕ → Seen → Input → Bool
-input_drops n s (inputs.Call session (Some stmts.Rollback)) = is_root_of n session s
-input_drops n s (inputs.GiveUp session) = is_root_of n session s && s.collects
-input_drops n s (inputs.Message m) = message_drops s m
-input_drops n s _ = false
+-- an input with this answer drops a live branch: a rollback, ROLLBACK at a root, COMMIT at that of a READ ONLY transaction, or
+-- a COMMIT that is given up
+abbrev pub input_drops : ℕ → Option Answer → Seen → Input → Bool
+input_drops n answer s (inputs.Call session (Some stmts.Rollback)) = is_root_of n session s
+input_drops n answer s (inputs.Call session (Some (stmts.Commit comment))) = is_some s.read_at && accepts_commit n answer s (inputs.Call session (Some (stmts.Commit comment)))
+input_drops n answer s (inputs.GiveUp session) = is_root_of n session s && s.collects
+input_drops n answer s (inputs.Message m) = message_drops s m
+input_drops n answer s _ = false
 
 -- how a live branch stops being so in a turn that is whole
-abbrev pub whole_exit : Trail → Turn → Seen → Seen → Option Exit
-whole_exit tr u old new =
-    if list_any (is_quiet old.me) u.sent then Some Quiet else (if input_drops u.node old u.input || ends_siteless tr new then Some Dropped else None)
+abbrev pub whole_exit : Trail → Turn → Option Answer → Seen → Seen → Option Exit
+whole_exit tr u answer old new =
+    if list_any (is_quiet old.me) u.sent then Some Quiet else (if input_drops u.node answer old u.input || ends_siteless tr new then Some Dropped else None)
 
 -- the record counts first, and of a cut turn alone
-abbrev pub exit_by : Trail → Turn → Seen → Seen → Option Exit → Option Exit
-exit_by tr u old new (Some e) = Some e
-exit_by tr u old new None = if u.cut then None else whole_exit tr u old new
+abbrev pub exit_by : Trail → Turn → Option Answer → Seen → Seen → Option Exit → Option Exit
+exit_by tr u answer old new (Some e) = Some e
+exit_by tr u answer old new None = if u.cut then None else whole_exit tr u answer old new
 
 -- a branch stops being live once
-abbrev pub exit_after : Trail → Turn → Seen → Seen → Option Exit → Option Exit
-exit_after tr u old new (Some e) = Some e
-exit_after tr u old new None = exit_by tr u old new (recorded_exit old.me u.wrote)
+abbrev pub exit_after : Trail → Turn → Option Answer → Seen → Seen → Option Exit → Option Exit
+exit_after tr u answer old new (Some e) = Some e
+exit_after tr u answer old new None = exit_by tr u answer old new (recorded_exit old.me u.wrote)
 
 -- ---- the runs that answers came from
 
@@ -205,7 +218,7 @@ last_answer (Some s) = if is_live s then s.answer else None
 -- a Reply brings the run of its answer, an Exec that comes again asks for the last answer
 abbrev pub handed_on : Trail → ℕ → BranchId → Kind → Option Run
 handed_on tr number to (kinds.Reply call weight count a) = origin_at tr number
-handed_on tr number to (kinds.Exec call given advice s) = last_answer (seen_at tr to)
+handed_on tr number to (kinds.Exec call task) = last_answer (seen_at tr to)
 handed_on tr number to _ = None
 
 -- the run that comes with a message
@@ -213,11 +226,13 @@ abbrev pub brought : Trail → Option Took → Input → Option Run
 brought tr (Some t) (inputs.Message m) = handed_on tr t.number m.to m.kind
 brought tr _ _ = None
 
--- the run that an answer of this turn comes from: the turn's own; none where a statement came and did not run
-abbrev pub origin_by : Trail → Turn → Option Asking → Option Run → Option Run
-origin_by tr u asking (Some r) = Some r
-origin_by tr u (Some a) None = None
-origin_by tr u None None = brought tr u.took u.input
+-- the run that an answer of this turn comes from: the turn's own; none where a statement came and did not run, or a branch
+-- went back
+abbrev pub origin_by : Trail → Turn → Option Asking → Option GoneBack → Option Run → Option Run
+origin_by tr u asking back (Some r) = Some r
+origin_by tr u (Some a) back None = None
+origin_by tr u None (Some g) None = None
+origin_by tr u None None None = brought tr u.took u.input
 
 -- whether a message is a Reply
 abbrev pub is_reply : Kind → Bool
@@ -240,53 +255,76 @@ origins_of k _ _ = []
 
 -- ---- a turn
 
--- What a turn brings, beside its record and its messages: the statement that came, its run, the answer, where that comes from.
+-- What a turn brings, beside its record and its messages: the statement that came, the branch that goes back, the run, the
+-- answer, where that comes from.
 pub record Brought : Type 0 where
   pub asking : Option Asking
+  pub back : Option GoneBack
   pub run : Option Run
   pub answer : Option Answer
   pub origin : Option Run
+
+-- the branch that goes back in a turn; in a cut turn none does
+abbrev pub back_in : Trail → Turn → Option Answer → Option GoneBack
+back_in tr u answer = if u.cut then None else goes_back tr u.node answer u.input
 
 -- what a turn that came to this brings
 abbrev pub brought_by : Facts → Trail → Turn → Option TurnOutput → Brought
 brought_by f tr u o = record {
   asking = asks tr u.node u.input;
+  back = back_in tr u (answered_by o);
   run = run_in f tr u;
   answer = answered_by o;
-  origin = origin_by tr u (asks tr u.node u.input) (run_in f tr u);
+  origin = origin_by tr u (asks tr u.node u.input) (back_in tr u (answered_by o)) (run_in f tr u);
 }
 
--- the changes of a branch with those of an accepted run
-abbrev pub own_with : Bool → List Entry → List Change → Option Run → List Change
-own_with true book own (Some r) = own_after book own r
-own_with _ book own _ = own
+-- the runs of a branch with one that was accepted, at a step
+abbrev pub runs_with : Bool → List Entry → ℕ → Seen → Option Run → List Ran
+runs_with true book step s (Some r) = s.runs ++ ran_by book step s.read_at (own_changes s) r ∷ []
+runs_with _ book step s _ = s.runs
 
--- the keys of a branch with those of an accepted run
-abbrev pub held_with : Bool → List Entry → List Change → List Lock → Option Run → List Lock
-held_with true book own held (Some r) = held_after book own held r
-held_with _ book own held _ = held
+-- the step that a branch goes back to, where it does
+abbrev pub step_back : BranchId → Option GoneBack → Option ℕ
+step_back b None = None
+step_back b (Some g) = if same g.branch b then Some g.step else None
 
--- a key that FOR UPDATE alone took is held until the collect begins
-abbrev pub held_on : Bool → BranchId → List Lock → List Lock
-held_on collects b held = if collects then without_reads held b else held
+-- the runs without those of later steps, where the branch goes back
+abbrev pub runs_back : Option ℕ → List Ran → List Ran
+runs_back None rs = rs
+runs_back (Some step) rs = filter (λ r. nat_le r.step step) rs
+
+-- a savepoint in the place of one of its name
+abbrev pub with_savepoint : List Savepoint → List ℕ → ℕ → List Savepoint
+with_savepoint ss name step = filter (λ s. not (same_text s.name name)) ss ++ (record { name = name; step = step }) ∷ []
+
+-- SAVEPOINT at a root sets one at the step of its call, unless it is refused
+abbrev pub savepoints_set : ℕ → Option Answer → ℕ → Seen → Input → List Savepoint
+savepoints_set n answer step s (inputs.Call session (Some (stmts.Savepoint name))) =
+    if is_root_of n session s && not (is_refused answer) then with_savepoint s.savepoints name step else s.savepoints
+savepoints_set n answer step s _ = s.savepoints
+
+-- the savepoints without later ones, where the branch goes back
+abbrev pub savepoints_back : Option ℕ → List Savepoint → List Savepoint
+savepoints_back None ss = ss
+savepoints_back (Some step) ss = filter (λ s. nat_le s.step step) ss
 
 -- a branch after a turn, apart from its exit
 abbrev pub with_turn : List Entry → Turn → Option TurnOutput → Brought → Seen → Seen
 with_turn book u o brings s = record s {
-  taken = taken_after s u.input;
+  taken = taken_after u.node s u.input;
   asked = asked_after s brings.asking;
   answer = if answers u o s then brings.origin else s.answer;
   children = children_after s.me s.children u.sent;
   collects = s.collects || begins_collect u.node brings.answer s u.input;
   voted = voted_after s u.input;
   acks = acks_after s u.input;
-  own = own_with (runs_for s brings.run brings.answer) book s.own brings.run;
-  held = held_on (begins_collect u.node brings.answer s u.input) s.me (held_with (runs_for s brings.run brings.answer) book s.own s.held brings.run);
+  runs = runs_back (step_back s.me brings.back) (runs_with (runs_for s brings.run brings.answer) book (taken_after u.node s u.input) s brings.run);
+  savepoints = savepoints_back (step_back s.me brings.back) (savepoints_set u.node brings.answer (taken_after u.node s u.input) s u.input);
 }
 
 -- a branch after a turn
 abbrev pub after_turn : List Entry → Trail → Turn → Option TurnOutput → Brought → Seen → Seen
-after_turn book tr u o brings s = record (with_turn book u o brings s) { exit = exit_after tr u s (with_turn book u o brings s) s.exit }
+after_turn book tr u o brings s = record (with_turn book u o brings s) { exit = exit_after tr u brings.answer s (with_turn book u o brings s) s.exit }
 
 -- the plan of a COMMIT that is accepted
 abbrev pub planned_by : List Place → Trail → ℕ → Option Answer → Input → Option Seen → List CommitPlan

@@ -1,27 +1,27 @@
 -- The session tree of a transaction at a moment, the weights in it, the walk to its commit point site, and the plan of a
 -- COMMIT that is accepted then. (Database Administrator's Guide, "Distributed Transactions Concepts": session trees, commit
 -- point site, commit point strength.)
-use Rattle.std.specs.Prelude.{ℕ, zero, suc, Bool, if◌then◌else◌, List, [], ◌∷◌, map, flat_map, slice_get, is_some, Option, Some, None}
+use Rattle.std.specs.Prelude.{ℕ, zero, suc, Bool, if◌then◌else◌, List, [], ◌∷◌, map, flat_map, slice_get, unwrap_or, is_some, Option, Some, None}
 use Rattle.dtx_values.specs.Limits.{depth_limit}
 use Rattle.node_rules.specs.Data.{BranchId, Place, Walk}
 use Rattle.node_rules.specs.Data.walks
 use Rattle.node_rules.specs.Words.{same, numbered}
 use Rattle.session_tree.specs.Tree.{place_of_greatest, weight_by, walk_by}
 use Rattle.run_rules.specs.Facts.{place_at}
-use Rattle.run_rules.specs.Branches.{Seen, Trail, CommitPlan, PlannedBranch, seen_at, own_at, children_at, is_among}
+use Rattle.run_rules.specs.Branches.{Seen, Trail, CommitPlan, PlannedBranch, seen_at, own_at, strength_set, children_at, is_among}
 
 -- whether a branch has changes
 abbrev pub has_changes : Trail → BranchId → Bool
 has_changes tr b = is_some (slice_get (own_at tr b) 0)
 
--- the commit point strength of a branch's node
-abbrev pub strength_of : List Place → BranchId → ℕ
-strength_of places b = (place_at places b.node).strength
+-- the commit point strength of a branch's node when it began: the one that was set, or else that of its NODE command
+abbrev pub strength_of : List Place → Trail → BranchId → ℕ
+strength_of places tr b = unwrap_or (strength_set (seen_at tr b)) (place_at places b.node).strength
 
 -- the weight of a branch in a tree of so many levels: its own strength where it has changes, else the greatest weight of its children
 abbrev pub weight_in : ℕ → List Place → Trail → BranchId → Option ℕ
 weight_in zero places tr b = None
-weight_in (suc levels) places tr b = weight_by (has_changes tr b) (strength_of places b) (place_of_greatest 1 (map (weight_in levels places tr) (children_at tr b)) None)
+weight_in (suc levels) places tr b = weight_by (has_changes tr b) (strength_of places tr b) (place_of_greatest 1 (map (weight_in levels places tr) (children_at tr b)) None)
 
 -- the weight of a branch
 unfoldable pub weight : List Place → Trail → BranchId → Option ℕ
@@ -29,7 +29,7 @@ weight places tr b = weight_in depth_limit places tr b
 
 -- the walk's step from a branch
 unfoldable pub step : List Place → Trail → BranchId → Walk
-step places tr b = walk_by (has_changes tr b) (strength_of places b) (place_of_greatest 1 (map (weight places tr) (children_at tr b)) None)
+step places tr b = walk_by (has_changes tr b) (strength_of places tr b) (place_of_greatest 1 (map (weight places tr) (children_at tr b)) None)
 
 -- the walk goes on from a child, where it is there
 abbrev pub goes_down : (BranchId → List BranchId) → Option BranchId → List BranchId

@@ -49,6 +49,7 @@ brings_so f k node (inputs.Call n (Some s)) took sent spelled comes = spelled
 brings_so f k node (inputs.Call n None) took sent spelled comes = tt
 brings_so f k node (inputs.GiveUp n) took sent spelled comes = tt
 brings_so f k node inputs.Reco took sent spelled comes = tt
+brings_so f k node inputs.Checkpoint took sent spelled comes = tt
 
 -- an id began once
 born_once : (bs : List Born) (x y : Born) → Began bs x → Began bs y → x.me ≡ y.me → x ≡ y

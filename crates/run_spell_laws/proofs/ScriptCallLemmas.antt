@@ -109,6 +109,7 @@ module _ (running : ℕ) where
   input_are t node (inputs.GiveUp session) now = now
   input_are t node (inputs.Message m) now = now
   input_are t node inputs.Reco now = now
+  input_are t node inputs.Checkpoint now = now
 
   ends_are : (t : RunReport) (u : Turn) (cut : Bool) (o : Option TurnOutput) → CallsAre t → CallsAre (ends_calls running t u cut o)
   ends_are t u true o now = now
@@ -156,6 +157,7 @@ following_are t (inputs.Call session s) now = record { calls = now.calls; next_c
 following_are t (inputs.GiveUp session) now = now
 following_are t (inputs.Message m) now = now
 following_are t inputs.Reco now = now
+following_are t inputs.Checkpoint now = now
 
 turned_are : (running : ℕ) (k : Option NodeState) (t : RunReport) (u : Turn) (o : Option TurnOutput) → CallsAre t → CallsAre (report_turned running k t u o)
 turned_are running k t u o now =

@@ -40,19 +40,22 @@ history_of run script = record { places = places_of run.commands; commands = run
 -- rows from before its branches' changes within its undo extents, and a start needs no more of them than the node used before.
 -- Each record of a turn, and each Exec, Abort, ReadOnly and Committed, has its cause in what came to its branch and what
 -- happened before. Where a node runs a query, it answers the query's meaning over the rows that the book leaves there, with the
--- changes of the asking branch, and examines no key in doubt; a change counts the rows that it means; what a client is
--- answered is what such a run answered, at the table to which the names in its statement lead. What a client is told is
--- created, set, forced or purged is on the disk, and such a record is written for no other call.
+-- changes of the asking branch, and examines no key in doubt; a change counts the rows that it means: of the runs of READ ONLY
+-- transactions this is not said. What a client is answered is what a run answered, at the table to which the names in its
+-- statement lead. What a client is told is created, set, forced or purged is on the disk, and such a record is written for no
+-- other call.
 -- A call is pending from the turn in which it comes until the first thing that can end it: for a statement the Reply to what its
--- root sent down last, or its being given up; for a COMMIT what its answer says; for each the stop of its node.
+-- root sent down last, or its being given up, and so for a ROLLBACK TO once all children have gone back; for a COMMIT what its
+-- answer says; for each the stop of its node.
 -- What a client is told of a COMMIT is true: by Commit complete its transaction is decided in the book, or none of its session
--- tree had changes, or the session had no transaction; by ORA-02050 no branch of it is ever decided; by ORA-02053 one is; by
--- ORA-02054 its root was in doubt then. Each has its cause in the turn that answered it. A
+-- tree had changes, or it was READ ONLY, or the session had no transaction; by ORA-02050 no branch of it is ever decided; by
+-- ORA-02053 one is; by ORA-02054 its root was in doubt then. Each has its cause in the turn that answered it. A
 -- COMMIT that nothing disturbs, that of a CREATE too, is answered Commit complete, its site has decided, its sealed branches
--- end with commit, and no node keeps a branch of it. A decision that comes to a sealed branch from its neighbour on the way to
--- the commit point site is written at once: the branch ends with it, or notes how it met it, if it was forced. Until it ends
--- with a rollback, or forgets, its node keeps its row, and the row of a mixed outcome for ever. A purge hides a row and changes
--- nothing else: take all purges out, and what is left is a run with the same book, the same messages and the same answers.
+-- end with commit, and no node keeps a branch of it, unless its transaction is READ ONLY, of which this is not said. A decision
+-- that comes to a sealed branch from its neighbour on the way to the commit point site is written at once: the branch ends with
+-- it, or notes how it met it, if it was forced. Until it ends with a rollback, or forgets, its node keeps its row, and the row of
+-- a mixed outcome for ever. A purge hides a row and changes nothing else: take all purges out, and what is left is a run with
+-- the same book, the same messages and the same answers, in which images alone say of other rows that they are hidden.
 -- Each decision is made by the commit point site of its session tree, once every other branch with changes on it or below it is
 -- sealed; a branch is sealed or decided with the changes that its own statements made, and a seal names the neighbour on the
 -- way to the site. Branches end as their site decided, mixed outcomes are marked, and the SCN law holds.

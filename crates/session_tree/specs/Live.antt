@@ -15,9 +15,9 @@ abbrev pub is_branch : BranchId → Option BranchId → Bool
 is_branch b None = false
 is_branch b (Some c) = same c b
 
--- a live branch that has just begun
-abbrev pub fresh_live : BranchId → BranchId → Option BranchId → ℕ → ℕ → Live
-fresh_live me root parent depth strength = record {
+-- a live branch that has just begun, and the SCN at which it reads where its transaction is READ ONLY
+abbrev pub fresh_live : BranchId → BranchId → Option BranchId → ℕ → ℕ → Option ℕ → Live
+fresh_live me root parent depth strength read_at = record {
   me = me;
   root = root;
   parent = parent;
@@ -28,6 +28,7 @@ fresh_live me root parent depth strength = record {
   phase = phases.Working;
   advice = None;
   comment = [];
+  read_at = read_at;
 }
 
 -- a new child: only its strength is known

@@ -48,6 +48,8 @@ pub struct Live {
     pub advice: Option<Advice>,
     /// The comment of the COMMIT, once that has come; empty before.
     pub comment: Bytes,
+    /// The SCN at which its transaction reads, where that is READ ONLY.
+    pub read_at: Option<u64>,
 }
 
 impl Drop for Live {
@@ -63,6 +65,7 @@ impl Drop for Live {
             phase: _phase,
             advice: _advice,
             comment,
+            read_at: _read_at,
         } = self;
         drop(edges);
         drop(comment);
@@ -87,6 +90,7 @@ impl Duplicate for Live {
             phase: self.phase,
             advice: self.advice,
             comment,
+            read_at: self.read_at,
         })
     }
 }

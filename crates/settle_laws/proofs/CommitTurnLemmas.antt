@@ -13,7 +13,6 @@ use Rattle.node_rules.specs.Data.inputs
 use Rattle.node_rules.specs.Data.kinds
 use Rattle.node_rules.specs.Words.{same, item_at}
 use Rattle.node_rules.specs.NodeState.{NodeState, Branch, TurnDraft, saying, post, post_one, live_at, live_id, kept_row_at, kept_row_id, branch_at}
-use Rattle.node_rules.specs.Recovery.{tells}
 use Rattle.node_rules.specs.Turn.{draft_of, heard, kind_turn, status_of, live_or}
 use Rattle.node_rules.proofs.StandLemmas.{live_so}
 use Rattle.node_rules.proofs.StepLemmas.{branch_found}
@@ -26,7 +25,7 @@ use Rattle.run_rules.specs.Lawful.{MayTurn, History, IsLawfulRun}
 use Rattle.run_rules.specs.Trail.{is_prepare}
 use Rattle.run_base_laws.specs.EventRows.{RowIs}
 use Rattle.run_base_laws.specs.RunEvents.{events_of}
-use Rattle.agreement.specs.Events.{Sealed, exit}
+use Rattle.agreement.specs.Events.{exit}
 use Rattle.run_rules.proofs.AtNodeLemmas.{turn_elsewhere}
 use Rattle.run_base_laws.proofs.EventsStandLemmas.{nodes_are_as_events}
 use Rattle.run_rules.proofs.ListLemmas.{all_weaker}

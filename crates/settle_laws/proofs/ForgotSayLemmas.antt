@@ -1,10 +1,11 @@
 -- Why a branch says Forgotten: its record of this turn is Forgot, or its row has forgotten, or it is gone and is acknowledged.
-use Rattle.std.proofs.Common.{◌≡◌, ℕ, ◌+◌, ◌-◌, ◌⊎◌, ◌&&◌, not, Bool, true, false, if◌then◌else◌, List, [], ◌∷◌, ◌++◌, length, map, filter, fold, is_none, Option, Some, None, inl, inr, refl, ap, ◌∙◌}
+use Rattle.std.proofs.Common.{◌≡◌, ℕ, ◌+◌, ◌⊎◌, ◌&&◌, not, Bool, true, false, if◌then◌else◌, List, [], ◌∷◌, ◌++◌, length, map, filter, fold, is_none, Option, Some, None, inl, inr, refl, ap, ◌∙◌}
 use Rattle.std.specs.Prelude.{flat_map}
 use Rattle.std.specs.List.{AllByRecursion}
 use Rattle.std.proofs.lemmas.Bool.{cond_both}
 use Rattle.agreement.specs.Events.{Event, Forget, Has}
-use Rattle.node_rules.specs.Data.{Answer, BranchId, Decision, Edge, Stmt, Kind, KeptRow, Place, Input, RedoRecord}
+use Rattle.node_rules.specs.Data.{Answer, BranchId, Decision, Edge, Kind, KeptRow, Place, Input, RedoRecord}
+use Rattle.node_rules.specs.declared.work.Errand.{Errand}
 use Rattle.node_rules.specs.Data.decisions
 use Rattle.node_rules.specs.Data.kinds
 use Rattle.node_rules.specs.Data.records
@@ -18,8 +19,8 @@ use Rattle.commit_forget.specs.Next.{ack_counts, acked_by, next_on_ack}
 use Rattle.node_rules.specs.Words.{put_by_branch}
 use Rattle.node_rules.specs.NodeState.{NodeState, Branch, TurnDraft, post_one, to_each, to_one, kept_row_id, kept_row_at, branch_at, with_kept_row, nothing}
 use Rattle.session_tree.specs.Tree.{step as step_from}
-use Rattle.node_rules.specs.Calls.{answer_says, exec_to, with_edge, hears_reply}
-use Rattle.node_rules.specs.Statement.{ran, after_run}
+use Rattle.node_rules.specs.Calls.{answer_says, exec_to, with_edge, hears_reply, branch_ran, less_room}
+use Rattle.node_rules.specs.Statement.{ran}
 use Rattle.node_rules.specs.Prepare.{path_of, prepares, site_neighbors}
 use Rattle.node_rules.specs.Commit.{all_acked, beyond, passes_commit, rollback_to, passes, next_turn, counts_ack, on_ack}
 use Rattle.reco.specs.declared.told.Told.{Told}
@@ -32,6 +33,8 @@ use Rattle.node_rules.proofs.Steps.{Step, Says}
 use Rattle.run_base_laws.specs.EventRows.{RowIs, RowsAre}
 use Rattle.run_rules.proofs.ListLemmas.{all_append, all_each, all_put}
 use Rattle.run_base_laws.proofs.OwnLemmas.{all_found}
+use Rattle.node_rules.specs.Names.{passed_on}
+use Rattle.node_rules.specs.declared.work.Errand.TheVariants as errands
 
 -- ---- lists of messages
 
@@ -58,9 +61,9 @@ module _ (Q : BranchId → BranchId → Type 0) where
   answer_told x a None = tt
   answer_told x a (Some parent) = (tt, tt)
 
-  exec_told : (ss : List Session) (x : Branch) (i : ℕ) (s : Stmt) (given : ℕ) (to : Option BranchId) → AllSo (exec_to ss x i s given to)
-  exec_told ss x i s given None = tt
-  exec_told ss x i s given (Some to) = (tt, tt)
+  exec_told : (ss : List Session) (x : Branch) (i : ℕ) (errand : Errand) (to : Option BranchId) → AllSo (exec_to ss x i errand to)
+  exec_told ss x i errand None = tt
+  exec_told ss x i errand (Some to) = (tt, tt)
 
   prepares_told : (me : BranchId) (comment : List ℕ) (path : Option ℕ) (i : ℕ) (es : List Edge) → AllSo (prepares me comment path i es)
   prepares_told me comment path i [] = tt
@@ -124,18 +127,22 @@ module _ (p : Place) (input : Input) (no : (from to : BranchId) → Came input f
   says_so k _ = (tt, tt)
 
   pub step_so : {k : NodeState} {d : TurnDraft} → Step p input k d → StepSo d
-  step_so (steps.Begins m s call rows fit none step) = step_so step
-  step_so (steps.Pends m l given call has live code step) = step_so step
+  step_so (steps.Begins m s read_at call begins fit none step) = step_so step
+  step_so (steps.Counts_call n s call counts step) = step_so step
+  step_so (steps.Goes_back x step goes next) = step_so next
+  step_so (steps.Pends m l given call has live code writer step) = step_so step
   step_so (steps.Lets_reads_go l comment site_below live begins step) = step_so step
   step_so (steps.Counts_ack s from kept came counts step) = absurd (no from s.me came)
   step_so (steps.Sends {k = k} says why) = says_so k why
-  step_so (steps.Runs {k = k} x s given table asked way) = answer_told (Forgets None) (record x { live = after_run x.live (ran p k x.live.me s table) }) _ x.live.parent
+  step_so (steps.Runs {k = k} x s given table asked way) = answer_told (Forgets None) (branch_ran k.sessions x table (ran p k x.live.me s table)) _ x.live.parent
   step_so (steps.Goes_nowhere {k = k} x s given r asked way) = answer_told (Forgets None) x _ x.live.parent
-  step_so (steps.Calls {k = k} x s given i table asked way) = exec_told (Forgets None) k.sessions x i _ given (peer_of x.live i)
+  step_so (steps.Calls {k = k} x s given i table asked way) = exec_told (Forgets None) k.sessions x i (errands.Statement (passed_on s table) given) (peer_of x.live i)
   step_so (steps.Opens x s given node link table asked way) = (tt, tt)
-  step_so (steps.Goes_on {k = k} x from strength g link opened) = exec_told (Forgets None) k.sessions (with_edge x (new_edge from link strength)) (length x.live.edges + 1) g.statement (g.room - 1) _
+  step_so (steps.Goes_on {k = k} x from strength g link opened) = exec_told (Forgets None) k.sessions (with_edge x (new_edge from link strength)) (length x.live.edges + 1) (less_room g.errand) _
   step_so (steps.Hears_reply {k = k} x weight count a i e answered) = answer_told (Forgets None) (hears_reply x i weight count e) _ x.live.parent
-  step_so (steps.Opens_branch to parent edge root depth came new) = (tt, tt)
+  step_so (steps.Backs {k = k} x step from i calls next) = exec_told (Forgets None) k.sessions x i (errands.GoBack step) (peer_of x.live i)
+  step_so (steps.Is_back x step from calls none) = answer_told (Forgets None) x _ x.live.parent
+  step_so (steps.Opens_branch to parent edge root depth read_at came new) = (tt, tt)
   step_so (steps.Acts {k = k} l site_below acts.AskDown why) = prepares_told (Forgets None) l.me l.comment (path_of site_below (step_from l)) 1 l.edges
   step_so (steps.Acts {k = k} l site_below acts.SayReadOnly why) = one_told (Forgets None) l.me kinds.ReadOnly l.parent (λ b. tt)
   step_so (steps.Acts {k = k} l site_below acts.SayReady why) = one_told (Forgets None) l.me kinds.Ready l.parent (λ b. tt)
@@ -152,7 +159,7 @@ module _ (p : Place) (input : Input) (no : (from to : BranchId) → Came input f
   step_so (steps.Does {k = k} s from nexts.Forget kept why) = each_told (Forgets (Some (records.Forgot s.me))) s.me kinds.Forgotten (map (λ b. b.branch) (beyond s)) (λ b. refl)
   step_so (steps.Does {k = k} s from nexts.SayForgotten kept (steps.Has_forgotten came knows forgot)) = absurd (no from s.me came)
   step_so (steps.Does s from nexts.SayAck kept why) = (tt, tt)
-  step_so (steps.Rolls_back {k = k} m x call has live) = each_told (Forgets None) x.live.me kinds.Rollback (children_of x.live) (λ b. tt)
+  step_so (steps.Leaves {k = k} m s d x call ends has live) = each_told (Forgets None) x.live.me kinds.Rollback (children_of x.live) (λ b. tt)
   step_so (steps.Gives_up_commit {k = k} m b (Some l) gives has pending live) = each_told (Forgets None) l.me kinds.Rollback (children_of l) (λ c. tt)
   step_so _ = tt
 

@@ -48,6 +48,7 @@ heard_stand k (inputs.Message m) b = refl
 heard_stand k (inputs.Call n s) b = refl
 heard_stand k (inputs.GiveUp n) b = refl
 heard_stand k inputs.Reco b = refl
+heard_stand k inputs.Checkpoint b = refl
 
 -- ---- whence a Send_forgotten is
 

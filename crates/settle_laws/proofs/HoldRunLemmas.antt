@@ -1,5 +1,5 @@
 -- In every lawful run the rows of nodes hold so, and those that their records make.
-use Rattle.std.proofs.Common.{◌≡◌, ◌≢◌, ℕ, ◌+◌, Bool, true, false, List, [], ◌∷◌, ◌++◌, map, length, Option, Some, None, inl, inr, refl, sym, ap, subst, subst₂, ◌∙◌, arith, append-nil}
+use Rattle.std.proofs.Common.{◌≡◌, ◌≢◌, ℕ, Bool, true, false, List, [], ◌∷◌, ◌++◌, map, length, Option, Some, None, inl, inr, refl, sym, ap, subst, subst₂, ◌∙◌, arith, append-nil}
 use Rattle.std.specs.Prelude.{IfSome}
 use Rattle.std.specs.Option.{option_to_list}
 use Rattle.std.specs.List.{AllByRecursion}
@@ -52,6 +52,7 @@ heard_stored k (inputs.Message m) = refl
 heard_stored k (inputs.Call n s) = refl
 heard_stored k (inputs.GiveUp n) = refl
 heard_stored k inputs.Reco = refl
+heard_stored k inputs.Checkpoint = refl
 
 module _ (t : History) (whole : IsLawfulRun t) where
   abbrev pub NodesHold : Facts → List Event → Type 0

@@ -14,7 +14,6 @@ use Rattle.node_rules.specs.Data.kinds
 use Rattle.node_rules.specs.Words.{same, item_at}
 use Rattle.node_rules.specs.NodeState.{NodeState, Branch, TurnDraft, post_one, live_at, live_id, kept_row_at, kept_row_id, branch_at, work_at, with_work}
 use Rattle.node_rules.specs.Prepare.{drops}
-use Rattle.node_rules.specs.Recovery.{tells}
 use Rattle.node_rules.specs.Turn.{draft_of, heard, kind_turn, status_of, live_or}
 use Rattle.node_rules.proofs.StandLemmas.{live_so}
 use Rattle.node_rules.proofs.StepLemmas.{branch_found}

@@ -157,9 +157,9 @@ fn first(
     requires rows { AreRowsOf table.now (rows_of_table store.old.rows table.now.name) }
     requires owns { store.old.owns ≡ [] }
 {
-    let answer = run(alloc, statement, table, store, locks, &ME)?;
-    let code = code_of(&answer);
-    drop(answer);
+    let ran = run(alloc, statement, table, store, locks, &ME)?;
+    let code = code_of(&ran.answer);
+    drop(ran);
     Ok(code)
 }
 

@@ -205,6 +205,14 @@ abbrev pub recovery_text : Bool → List ℕ
 recovery_text true = codes "ALTER SYSTEM ENABLE DISTRIBUTED RECOVERY"
 recovery_text false = codes "ALTER SYSTEM DISABLE DISTRIBUTED RECOVERY"
 
+-- ALTER SYSTEM SET COMMIT_POINT_STRENGTH
+abbrev pub strength_text : ℕ → List ℕ
+strength_text strength = codes "ALTER SYSTEM SET COMMIT_POINT_STRENGTH = " ++ decimal strength
+
+-- SET TRANSACTION READ ONLY
+abbrev pub read_only_text : List ℕ
+read_only_text = codes "SET TRANSACTION READ ONLY"
+
 -- `('text')`: the transaction id that a procedure is called with
 abbrev pub argument_text : List ℕ → List ℕ
 argument_text id = codes "(" ++ (quoted_text id ++ codes ")")
@@ -232,6 +240,10 @@ printed statements.Rollback = codes "ROLLBACK"
 printed (statements.RollbackForce id) = codes "ROLLBACK FORCE " ++ quoted_text id
 printed (statements.Advise advice) = advise_text advice
 printed (statements.Recovery on) = recovery_text on
+printed (statements.SetStrength strength) = strength_text strength
+printed statements.SetReadOnly = read_only_text
+printed (statements.Savepoint name) = codes "SAVEPOINT " ++ name
+printed (statements.RollbackTo name) = codes "ROLLBACK TO " ++ name
 printed (statements.PurgeMixed id) = purge_mixed_text id
 printed (statements.PurgeLost id) = purge_lost_text id
 

@@ -197,6 +197,19 @@ fn put_argument(out: &mut Vec<u8>, id: &Bytes) -> Result<(), AllocError>
     out.extend_from_slice(b")")
 }
 
+fn put_strength(out: &mut Vec<u8>, strength: u8) -> Result<(), AllocError>
+    ensures { OnOk result (out.new.items ≡ out.old.items ++ spec.strength_text strength) }
+{
+    out.extend_from_slice(b"ALTER SYSTEM SET COMMIT_POINT_STRENGTH = ")?;
+    put_number(out, strength as u64)
+}
+
+fn put_read_only(out: &mut Vec<u8>) -> Result<(), AllocError>
+    ensures { OnOk result (out.new.items ≡ out.old.items ++ spec.read_only_text) }
+{
+    out.extend_from_slice(b"SET TRANSACTION READ ONLY")
+}
+
 fn put_purge_mixed(out: &mut Vec<u8>, id: &Bytes) -> Result<(), AllocError>
     ensures { OnOk result (out.new.items ≡ out.old.items ++ spec.purge_mixed_text id.now) }
 {
@@ -245,6 +258,16 @@ fn put_statement(alloc: Global, out: &mut Vec<u8>, statement: &Stmt) -> Result<(
         }
         Stmt::Advise(advice) => out.extend_from_slice(advise_text(*advice)),
         Stmt::Recovery(on) => out.extend_from_slice(recovery_text(*on)),
+        Stmt::SetStrength(strength) => put_strength(out, *strength),
+        Stmt::SetReadOnly => put_read_only(out),
+        Stmt::Savepoint(name) => {
+            out.extend_from_slice(b"SAVEPOINT ")?;
+            out.extend_from_slice(name.as_bytes())
+        }
+        Stmt::RollbackTo(name) => {
+            out.extend_from_slice(b"ROLLBACK TO ")?;
+            out.extend_from_slice(name.as_bytes())
+        }
         Stmt::PurgeMixed { id } => put_purge_mixed(out, id),
         Stmt::PurgeLost { id } => put_purge_lost(out, id),
     }

@@ -9,7 +9,7 @@ use Rattle.dtx_values.specs.declared.value.Value.TheVariants as values
 use Rattle.dtx_values.specs.declared.table.Table.{Table}
 use Rattle.sql_statement.specs.Distinct.{are_distinct, column_name}
 use Rattle.dtx_values.specs.Widths.{HasWidth}
-use Rattle.dtx_values.specs.Limits.{column_limit, comment_limit, id_limit, scn_limit}
+use Rattle.dtx_values.specs.Limits.{column_limit, comment_limit, id_limit, scn_limit, strength_limit}
 use Rattle.sql_statement.specs.declared.sum.Term.{Term}
 use Rattle.sql_statement.specs.declared.sum.Term.TheVariants as terms
 use Rattle.sql_statement.specs.declared.sum.Sum.{Sum}
@@ -76,4 +76,5 @@ IsWhole (statements.CommitForce id scn) = IsTextTo id_limit id × IfSome scn (λ
 IsWhole (statements.RollbackForce id) = IsTextTo id_limit id
 IsWhole (statements.PurgeMixed id) = IsTextTo id_limit id
 IsWhole (statements.PurgeLost id) = IsTextTo id_limit id
+IsWhole (statements.SetStrength strength) = strength ≤ strength_limit
 IsWhole _ = ⊤

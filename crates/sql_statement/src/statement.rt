@@ -128,6 +128,14 @@ pub enum Stmt {
     Advise(Option<Advice>),
     /// ALTER SYSTEM ENABLE or DISABLE DISTRIBUTED RECOVERY.
     Recovery(bool),
+    /// ALTER SYSTEM SET COMMIT_POINT_STRENGTH, with the strength.
+    SetStrength(u8),
+    /// SET TRANSACTION READ ONLY
+    SetReadOnly,
+    /// SAVEPOINT, with its name.
+    Savepoint(Name),
+    /// ROLLBACK TO SAVEPOINT, with the savepoint's name.
+    RollbackTo(Name),
     /// EXECUTE DBMS_TRANSACTION.PURGE_MIXED
     PurgeMixed {
         /// A local transaction id.
@@ -175,6 +183,9 @@ impl Drop for Stmt {
             Stmt::Rollback => {}
             Stmt::Advise(_advice) => {}
             Stmt::Recovery(_on) => {}
+            Stmt::SetStrength(_strength) => {}
+            Stmt::SetReadOnly => {}
+            Stmt::Savepoint(name) | Stmt::RollbackTo(name) => drop(name),
         }
     }
 }
@@ -211,6 +222,10 @@ impl Duplicate for Stmt {
             }),
             Stmt::Advise(advice) => Ok(Stmt::Advise(*advice)),
             Stmt::Recovery(on) => Ok(Stmt::Recovery(*on)),
+            Stmt::SetStrength(strength) => Ok(Stmt::SetStrength(*strength)),
+            Stmt::SetReadOnly => Ok(Stmt::SetReadOnly),
+            Stmt::Savepoint(name) => Ok(Stmt::Savepoint(name.copy(alloc)?)),
+            Stmt::RollbackTo(name) => Ok(Stmt::RollbackTo(name.copy(alloc)?)),
             Stmt::PurgeMixed { id } => Ok(Stmt::PurgeMixed {
                 id: id.copy(alloc)?,
             }),

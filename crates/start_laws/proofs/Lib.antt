@@ -1,3 +1,5 @@
+mod IdOrderLemmas
+mod DoubtIdLemmas
 pub mod DoubtLockLemmas
 pub mod StartLemmas
 mod TriedStartLemmas

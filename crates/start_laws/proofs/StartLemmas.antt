@@ -6,7 +6,7 @@ use Rattle.std.specs.Option.{option_map}
 use Rattle.std.proofs.lemmas.List.Folds.{list_any-append}
 use Rattle.dtx_values.proofs.ValueOrder.{equal_from_same, same_from_equal}
 use Rattle.agreement.proofs.BookTests.{not_true}
-use Rattle.redo_record.specs.Durable.{durable_after, durable}
+use Rattle.redo_record.specs.Durable.{durable_after}
 use Rattle.row_locks.specs.Locks.{is_lock_on}
 use Rattle.node_rules.specs.Data.{Value, Change, BranchId, RedoRecord, Doubt}
 use Rattle.node_rules.specs.NodeState.{NodeState, Stored, doubt_id}
@@ -35,7 +35,9 @@ use Rattle.book_laws.proofs.DoubtLemmas.{open_of}
 use Rattle.book_laws.proofs.NodeBookLemmas.{own_entries, own_in_doubt, own_changes_of, ComesHere, all_here}
 use Rattle.book_laws.proofs.NodeDoubtLemmas.{DoubtsStand, disk_stands}
 use Rattle.book_laws.proofs.RowLemmas.{run_book, rows_agree}
-use Rattle.start_laws.specs.StartLaws.{is_change_to, has_changed, doubter_of, lock_in_doubt, held_back, changed_by, IsRestored, EveryStartRestores}
+use Rattle.start_laws.specs.StartLaws.{is_change_to, has_changed, by_id, doubters, doubter_of, lock_in_doubt, held_back, changed_by, IsRestored, EveryStartRestores}
+use Rattle.start_laws.proofs.IdOrderLemmas.{one_by_id, none_by_id}
+use Rattle.start_laws.proofs.DoubtIdLemmas.{disk_are}
 use Rattle.start_laws.proofs.DoubtLockLemmas.{has_it, doubts_lock}
 
 -- ---- what stands on a disk, and sessions
@@ -93,7 +95,7 @@ module _ (table : List ℕ) (key : Value) where
           ∙ (ap (λ q. q || list_any (same_value key) (flat_map (λ b. keys_of (changes_of book b)) bs)) (keys_any (changes_of book b) ∙ is) ∙ rest none)
 
   not_in_doubt : (book : List Entry) (n : ℕ) → doubter_of book n table key ≡ None → list_any (same_value key) (keys_in_doubt book n table) ≡ false
-  not_in_doubt book n none = none_among book (in_doubt book n) none
+  not_in_doubt book n none = none_among book (in_doubt book n) (none_by_id (has_changed book table key) (in_doubt book n) none)
 
   -- ---- who is in doubt
 
@@ -114,9 +116,9 @@ module _ (table : List ℕ) (key : Value) where
   -- by all of the book as by the entries of the node
   own_doubter : (n : ℕ) (book : List Entry) → doubter_of (own_entries n book) n table key ≡ doubter_of book n table key
   own_doubter n book =
-      ap (find (has_changed (own_entries n book) table key)) (own_in_doubt n book)
-      ∙ same_find (has_changed (own_entries n book) table key) (has_changed book table key) (in_doubt book n)
-      (λ b there. ap (list_any (is_change_to table key)) (own_changes_of n book b (open_of book n b there).here))
+      ap (λ bs. find (has_changed (own_entries n book) table key) (by_id bs)) (own_in_doubt n book)
+      ∙ same_find (has_changed (own_entries n book) table key) (has_changed book table key) (doubters book n)
+      (λ b there. ap (list_any (is_change_to table key)) (own_changes_of n book b (open_of book n b (one_by_id b (in_doubt book n) there)).here))
 
 -- ---- what they hold back
 
@@ -134,10 +136,10 @@ same_map : (es book : List Entry) (bs : List BranchId) → ((b : BranchId) → I
 same_map es book [] same = refl
 same_map es book (b ∷ bs) same = ap (λ c. c ∷ map (changed_by es) bs) (with_its b (same b (inl refl))) ∙ ap (λ more. changed_by book b ∷ more) (same_map es book bs (λ c there. same c (inr there)))
 
-own_held : (n : ℕ) (book : List Entry) → map (changed_by (own_entries n book)) (in_doubt (own_entries n book) n) ≡ map (changed_by book) (in_doubt book n)
+own_held : (n : ℕ) (book : List Entry) → map (changed_by (own_entries n book)) (doubters (own_entries n book) n) ≡ map (changed_by book) (doubters book n)
 own_held n book =
-    ap (map (changed_by (own_entries n book))) (own_in_doubt n book)
-    ∙ same_map (own_entries n book) book (in_doubt book n) (λ b there. own_changes_of n book b (open_of book n b there).here)
+    ap (λ bs. map (changed_by (own_entries n book)) (by_id bs)) (own_in_doubt n book)
+    ∙ same_map (own_entries n book) book (doubters book n) (λ b there. own_changes_of n book b (open_of book n b (one_by_id b (in_doubt book n) there)).here)
 
 -- ---- a start
 
@@ -176,22 +178,28 @@ module _ (t : History) (whole : IsLawfulRun t) (hs : List Happening) (n boot : �
   disk : own_entries n (book_of s.trace) ≡ flat_map (entry_of n) rs
   disk = books_are_of_disks s lawful n
 
+  comes : EachAgainst (ComesHere n) [] (flat_map (entry_of n) rs)
+  comes = subst (EachAgainst (ComesHere n) []) disk (all_here n (book_of s.trace) (runs_agree s lawful).0)
+
   stand : DoubtsStand n (flat_map (entry_of n) rs) (stored_by nothing_stored rs).doubts
-  stand = disk_stands n rs (subst (EachAgainst (ComesHere n) []) disk (all_here n (book_of s.trace) (runs_agree s lawful).0))
+  stand = disk_stands n rs comes
+
+  branches : map doubt_id (stored_by nothing_stored rs).doubts ≡ doubters (flat_map (entry_of n) rs) n
+  branches = disk_are n rs comes
 
   -- what the branches in doubt of the disk hold back, is what the book has of them
-  its_doubts : map held_back (stored_by nothing_stored rs).doubts ≡ map (changed_by g.book) (in_doubt g.book n)
+  its_doubts : map held_back (stored_by nothing_stored rs).doubts ≡ map (changed_by g.book) (doubters g.book n)
   its_doubts =
       held_by (flat_map (entry_of n) rs) (stored_by nothing_stored rs).doubts stand.changes
-      ∙ (ap (map (changed_by (flat_map (entry_of n) rs))) stand.branches
-      ∙ (ap (λ es. map (changed_by es) (in_doubt es n)) (sym disk) ∙ (own_held n (book_of s.trace) ∙ ap (λ es. map (changed_by es) (in_doubt es n)) (sym (run_book s)))))
+      ∙ (ap (map (changed_by (flat_map (entry_of n) rs))) branches
+      ∙ (ap (λ es. map (changed_by es) (doubters es n)) (sym disk) ∙ (own_held n (book_of s.trace) ∙ ap (λ es. map (changed_by es) (doubters es n)) (sym (run_book s)))))
 
   module _ (table : List ℕ) (key : Value) where
     -- the branch in doubt of the disk is that of the book
     its_doubter : option_map doubt_id (find (has_it table key) (stored_by nothing_stored rs).doubts) ≡ doubter_of g.book n table key
     its_doubter =
         doubter_by table key (flat_map (entry_of n) rs) (stored_by nothing_stored rs).doubts stand.changes
-        ∙ (ap (find (has_changed (flat_map (entry_of n) rs) table key)) stand.branches
+        ∙ (ap (find (has_changed (flat_map (entry_of n) rs) table key)) branches
         ∙ (ap (λ es. doubter_of es n table key) (sym disk) ∙ (own_doubter table key n (book_of s.trace) ∙ ap (λ es. doubter_of es n table key) (sym (run_book s)))))
 
     its_lock : find (is_lock_on table key) k.locks ≡ option_map (lock_in_doubt table key) (doubter_of g.book n table key)

@@ -20,7 +20,7 @@ use Rattle.sql_eval.specs.Laws.{HasOneKey, AreKeyed}
 use Rattle.row_locks.specs.Locks.{Lock, another, holder_of, taken, keys_held}
 use Rattle.row_locks.specs.Held.{in_doubt_one, live_one, doubt_on, hold_on}
 use Rattle.stmt_run.specs.declared.ran.StmtOutcome.{StmtOutcome}
-use Rattle.stmt_run.specs.Run.{StmtContext, held_refusal, in_doubt_refusal, locked_refusal, space_refusal, ran_within, ran_meant, ran_locked, ran_checked, ran_over}
+use Rattle.stmt_run.specs.Run.{StmtContext, too_old_refusal, held_refusal, in_doubt_refusal, locked_refusal, space_refusal, ran_within, ran_meant, ran_locked, ran_checked, ran_over}
 use Rattle.stmt_run.specs.Keys.{IsFree, LocksFreeKeys}
 use Rattle.stmt_run.proofs.Examined.{written_examined}
 
@@ -96,9 +96,15 @@ module _ (g : StmtContext) (t : Table) where
     locked_free None r is e =
         meant_free (written s t g.view) (meant_over s t g.view) r (All-from_recursion (IsFree g.locks g.me t.name) (written s t g.view) (written_free is)) e
 
+    kept_free : (old : Option Refusal) (r : StmtOutcome)
+        → ran_locked g s t (else_refuse old (else_refuse (in_doubt_refusal g t (examined s t g.view (keys_held g.locks t.name))) (locked_refusal g t (written s t g.view)))) ≡ r
+        → IsSafe r
+    kept_free (Some x) r e = subst IsSafe e tt
+    kept_free None r e = locked_free _ r refl e
+
     checked_free : (o : Option Refusal) (r : StmtOutcome) → ran_checked g s t o ≡ r → IsSafe r
     checked_free (Some x) r e = subst IsSafe e tt
-    checked_free None r e = locked_free _ r refl e
+    checked_free None r e = kept_free (too_old_refusal g) r e
 
     pub run_locks_free : (r : StmtOutcome) → ran_over g s t ≡ r → IsSafe r
     unfolding ran_over

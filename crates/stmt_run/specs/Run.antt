@@ -25,15 +25,20 @@ use Rattle.row_store.specs.Own.{changes_length, undo_length, extents}
 use Rattle.stmt_run.specs.declared.ran.StmtOutcome.{StmtOutcome}
 use Rattle.stmt_run.specs.declared.ran.StmtOutcome.TheVariants.{Refuses, Reads, Writes}
 
--- What a statement meets: the branch that makes it, what the branch sees of the table, the locks of the node, the bytes
--- of the branch's changes and of their undo, and the undo extents that are free.
+-- What a statement meets: the branch that makes it, what the branch sees of the table, whether its SCN lies too far back for
+-- that, the locks of the node, the bytes of the branch's changes and of their undo, and the undo extents that are free.
 pub record StmtContext : Type 0 where
   pub me : BranchId
   pub view : List Keyed
+  pub too_old : Bool
   pub locks : List Lock
   pub bytes : ℕ
   pub undo : ℕ
   pub free : ℕ
+
+-- ORA-01555: what the branch would see is not kept any more
+abbrev pub too_old_refusal : StmtContext → Option Refusal
+too_old_refusal g = refuse_if g.too_old (ora 1555 [])
 
 -- the refusal that names a holder
 abbrev pub held_refusal : ℕ → Option BranchId → Option Refusal
@@ -78,15 +83,16 @@ abbrev pub ran_locked : StmtContext → Stmt → Table → Option Refusal → St
 ran_locked g s t (Some r) = Refuses r
 ran_locked g s t None = ran_meant g (written s t g.view) (meant_over s t g.view)
 
--- after the checks: the examined keys, the written keys, the meaning, the space
+-- after the checks: the SCN, the examined keys, the written keys, the meaning, the space
 abbrev pub ran_checked : StmtContext → Stmt → Table → Option Refusal → StmtOutcome
 ran_checked g s t (Some r) = Refuses r
 ran_checked g s t None =
     ran_locked g s t
-    (else_refuse (in_doubt_refusal g t (examined s t g.view (keys_held g.locks t.name))) (locked_refusal g t (written s t g.view)))
+    (else_refuse (too_old_refusal g)
+    (else_refuse (in_doubt_refusal g t (examined s t g.view (keys_held g.locks t.name))) (locked_refusal g t (written s t g.view))))
 
--- what a statement does at its table's node: the checks, the keys in doubt, the keys that others hold, the meaning, the
--- space, in this order
+-- what a statement does at its table's node: the checks, the SCN of a READ ONLY transaction, the keys in doubt, the keys
+-- that others hold, the meaning, the space, in this order
 unfoldable pub ran_over : StmtContext → Stmt → Table → StmtOutcome
 ran_over g s t = ran_checked g s t (checked s t)
 

@@ -1,6 +1,6 @@
 -- A statement over the store of a node: what it meets there, and what it leaves. A store refuses changes exactly where the
 -- rules of space do.
-use Rattle.std.specs.Prelude.{◌≡◌, List, [], ◌∷◌, Option, None, Some}
+use Rattle.std.specs.Prelude.{◌≡◌, false, List, [], ◌∷◌, Option, None, Some}
 use Rattle.std.specs.List.{AllByRecursion}
 use Rattle.dtx_values.specs.declared.row.Change.{Change}
 use Rattle.dtx_values.specs.declared.table.Table.{Table}
@@ -20,11 +20,12 @@ use Rattle.stmt_run.specs.declared.ran.StmtOutcome.{StmtOutcome}
 use Rattle.stmt_run.specs.declared.ran.StmtOutcome.TheVariants.{Writes}
 use Rattle.stmt_run.specs.Run.{StmtContext, space_refusal}
 
--- what a statement of a branch meets at a table of a store
+-- what a statement of a branch meets at a table of a store, where it reads the newest rows
 abbrev pub ground_in : Contents → List Lock → BranchId → Table → StmtContext
 ground_in s locks b t = record {
   me = b;
   view = seen_by s b t.name;
+  too_old = false;
   locks = locks;
   bytes = changes_length (own_changes s b);
   undo = changes_length (undo_of (sets_at s.owns b));

@@ -26,13 +26,13 @@ use Rattle.row_store.specs.Own.{changes_length}
 use Rattle.row_store.specs.Store.{Contents, AreOfTables, bytes_with, extents_needed, extents_free, has_table, own_changes, refusal_of, seen_by}
 use Rattle.row_store.specs.Tables.{TableRows}
 use Rattle.stmt_run.specs.declared.ran.StmtOutcome.{StmtOutcome}
-use Rattle.stmt_run.specs.Run.{ran_over, ran_within}
+use Rattle.stmt_run.specs.Run.{answer_of_run, ran_over, ran_within, space_refusal}
 use Rattle.stmt_run.specs.Keys.{LocksFreeKeys}
 use Rattle.stmt_run.specs.Stored.{AreOfOneTable, ground_in, refusal_told, store_after_run}
 use Rattle.stmt_run.proofs.Free.{run_locks_free}
 use Rattle.stmt_run.proofs.Lengths.{count_bound}
 use Rattle.stmt_run.proofs.StoreLaws.{store_refuses_alike, store_takes_one_set}
-use Rattle.stmt_store.specs.Stores.{ChangesOnly, kept_unless, ran_changing}
+use Rattle.stmt_store.specs.Stores.{ChangesOnly, kept_unless, ran_changing, written_of, written_unless}
 
 -- what a statement that passed the checks means changes its table alone
 pub changes_only : (s : Stmt) (t : Table) (rows : List Keyed) (m : Meant) → has_one_key t ≡ true → AreRowsOf t rows → checked s t ≡ None → meant_over s t rows ≡ m → ChangesOnly t m
@@ -79,3 +79,13 @@ kept_by s locks b t d cs keys None are = store_takes_one_set s b t cs (of_one_ta
 pub store_as_told : (s : Contents) (locks : List Lock) (b : BranchId) (t : Table) (d : Done) (cs : List Change) (keys : List Value) (r : Option Refusal) → AreChangesOf t cs
     → r ≡ refusal_told (refusal_of s b cs) → kept_unless r s b cs ≡ store_after_run s b t (ran_changing (ground_in s locks b t) d cs keys)
 store_as_told s locks b t d cs keys r are is = kept_by s locks b t d cs keys r are ∙ ap (store_after_run s b t) (sym (ran_as_told s locks b t d cs keys r are is))
+
+written_so : (s : Contents) (locks : List Lock) (b : BranchId) (t : Table) (d : Done) (cs : List Change) (keys : List Value) (r : Option Refusal)
+    → written_unless (answer_of_run (ran_within (ground_in s locks b t) r d cs keys)) keys ≡ written_of (ran_within (ground_in s locks b t) r d cs keys)
+written_so s locks b t d cs keys None = refl
+written_so s locks b t d cs keys (Some r) = refl
+
+-- what changes wrote, by what is answered to them
+pub written_alike : (s : Contents) (locks : List Lock) (b : BranchId) (t : Table) (d : Done) (cs : List Change) (keys : List Value)
+    → written_unless (answer_of_run (ran_changing (ground_in s locks b t) d cs keys)) keys ≡ written_of (ran_changing (ground_in s locks b t) d cs keys)
+written_alike s locks b t d cs keys = written_so s locks b t d cs keys (space_refusal (ground_in s locks b t) cs)

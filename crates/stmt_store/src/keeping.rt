@@ -27,14 +27,14 @@ pub(crate) fn keep(
     branch: &BranchId,
     done: Done,
     changes: Changes,
-    keys: Keys,
+    keys: &Keys,
 ) -> Result<Answer, AllocError>
     requires changes { AreChangesOf table.now changes }
     requires table { has_table store.old.rows table.now.name ≡ true }
-    requires free { All (IsFree locks.old branch.now table.now.name) keys }
-    ensures answer { IfOk result (λ answer. answer ≡ answer_of_run (ran_changing (ground_in store.old locks.old branch.now table.now) done changes keys)) }
-    ensures store { OnOk result (store.new ≡ store_after_run store.old branch.now table.now (ran_changing (ground_in store.old locks.old branch.now table.now) done changes keys)) }
-    ensures locks { OnOk result (locks.new ≡ locks_after locks.old branch.now table.now (ran_changing (ground_in store.old locks.old branch.now table.now) done changes keys)) }
+    requires free { All (IsFree locks.old branch.now table.now.name) keys.now }
+    ensures answer { IfOk result (λ answer. answer ≡ answer_of_run (ran_changing (ground_in store.old locks.old branch.now table.now) done changes keys.now)) }
+    ensures store { OnOk result (store.new ≡ store_after_run store.old branch.now table.now (ran_changing (ground_in store.old locks.old branch.now table.now) done changes keys.now)) }
+    ensures locks { OnOk result (locks.new ≡ locks_after locks.old branch.now table.now (ran_changing (ground_in store.old locks.old branch.now table.now) done changes keys.now)) }
     ensures undo { store.new.extents ≡ store.old.extents }
     ensures err_store { OnErr result (store.new ≡ store.old) }
     ensures err_locks { OnErr result (locks.new ≡ locks.old) }

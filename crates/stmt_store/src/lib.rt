@@ -10,5 +10,7 @@ mod keeping;
 mod running;
 mod sight;
 mod site;
+mod written;
 
 pub use running::run;
+pub use written::{Ran, Written};

@@ -25,7 +25,7 @@ use Rattle.row_locks.specs.Locks.{Lock, is_lock_on, keys_held, named}
 use Rattle.row_locks.specs.Held.{in_doubt_one, doubt_on}
 use Rattle.stmt_run.specs.declared.ran.StmtOutcome.{StmtOutcome}
 use Rattle.stmt_run.specs.declared.ran.StmtOutcome.TheVariants.{Refuses, Reads, Writes}
-use Rattle.stmt_run.specs.Run.{StmtContext, held_refusal, in_doubt_refusal, locked_refusal, space_refusal, ran_within, ran_meant, ran_locked, ran_checked, ran_over}
+use Rattle.stmt_run.specs.Run.{StmtContext, too_old_refusal, held_refusal, in_doubt_refusal, locked_refusal, space_refusal, ran_within, ran_meant, ran_locked, ran_checked, ran_over}
 use Rattle.stmt_view_laws.specs.Views.{AreCertain, AreLocked, SeesAlike}
 use Rattle.stmt_view_laws.specs.RunLaws.{ExaminesNoDoubt, RunsAsMeant, RunDoesAsMeant, RunsDoAsMeant, IsViewBeside, IsMeantOver, RunIsMeantOver, RunsMeanAlike}
 use Rattle.stmt_view_laws.proofs.MeantLemmas.{meant_alike, writes_alike, avoids_alike}
@@ -79,9 +79,14 @@ module _ (g : StmtContext) (s : Stmt) (t : Table) where
   locked_says None passed is =
       meant_says (meant_over s t g.view) passed (none_of (doubt_on g.locks t.name) keys (nobody 1591 _ (first_none _ _ is))) refl
 
+  -- where what the branch sees is kept
+  kept_says : (old : Option Refusal) → checked s t ≡ None → Says (ran_locked g s t (else_refuse old (else_refuse (in_doubt_refusal g t keys) (locked_refusal g t (written s t g.view)))))
+  kept_says (Some x) passed = tt
+  kept_says None passed = locked_says (else_refuse (in_doubt_refusal g t keys) (locked_refusal g t (written s t g.view))) passed refl
+
   checked_says : (o : Option Refusal) → checked s t ≡ o → Says (ran_checked g s t o)
   checked_says (Some x) is = tt
-  checked_says None is = locked_says _ is refl
+  checked_says None is = kept_says (too_old_refusal g) is
 
 pub runs_do_as_meant : RunsDoAsMeant
 unfolding ran_over

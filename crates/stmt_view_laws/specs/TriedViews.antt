@@ -71,7 +71,7 @@ lock key = record { table = codes "T"; key = key; branch = branch; writes = true
 
 -- what a statement of another branch meets
 abbrev pub ground : StmtContext
-ground = record { me = record branch { session = 2 }; view = held_back; locks = lock (number 2) ∷ lock (number 3) ∷ []; bytes = 0; undo = 0; free = 0 }
+ground = record { me = record branch { session = 2 }; view = held_back; too_old = false; locks = lock (number 2) ∷ lock (number 3) ∷ []; bytes = 0; undo = 0; free = 0 }
 
 -- SELECT * FROM T WHERE K = n
 abbrev pub row_at : ℕ → Stmt

@@ -1,5 +1,5 @@
 -- Where a transaction is decided, its plan is that of the tree that was told when the COMMIT came.
-use Rattle.std.proofs.Common.{◌≡◌, List, ◌∷◌, ◌++◌, Some, None, sym, subst, ◌∙◌}
+use Rattle.std.proofs.Common.{◌≡◌, List, ◌∷◌, ◌++◌, Some, None, sym, ap, subst, ◌∙◌}
 use Rattle.node_rules.specs.Data.{BranchId, Live}
 use Rattle.node_rules.specs.declared.session.PendingCall.TheVariants as pending
 use Rattle.node_rules.specs.Data.stmts
@@ -7,7 +7,7 @@ use Rattle.node_rules.specs.Inputs.{IsSession}
 use Rattle.node_rules.specs.NodeState.{NodeState, live_at}
 use Rattle.node_rules.specs.Sessions.{session_at}
 use Rattle.node_rules.proofs.StandLemmas.{live_so}
-use Rattle.run_rules.specs.Data.{Turn, Happening}
+use Rattle.run_rules.specs.Data.{Happening}
 use Rattle.run_rules.specs.Data.happenings
 use Rattle.run_rules.specs.Facts.{Facts, first_facts, node_at, facts_after}
 use Rattle.run_rules.specs.Branches.{Seen, Trail, no_trail, seen_at, root_at, plan_at}
@@ -66,10 +66,18 @@ module _ (t : History) (whole : IsLawfulRun t) (sees : SeesAll t) (r : BranchId)
   unplanned : plan_at tr0 top.0.me ≡ None
   unplanned = let it = saw.lives v.node k up l l_found in subst (λ c. plan_at tr0 c ≡ None) (at.is_me ∙ sym top.2) (it.2.unplanned root_alone at.working)
 
+  -- its transaction is not READ ONLY
+  writer : top.0.read_at ≡ None
+  writer =
+      let it = saw.lives v.node k up l l_found in
+      let both : Some it.0 ≡ Some top.0 = sym it.1 ∙ (ap (λ c. seen_at tr0 c) at.is_me ∙ top.4) in
+      let one : it.0 ≡ top.0 = cc in
+      ap (λ (s : Seen). s.read_at) (sym one) ∙ (it.2.told.read_at ∙ at.writes)
+
   planned_then : plan_at (trail_after t.places f0 tr0 (happenings.Turn v)) r ≡ Some (plan t.places tr0 r)
   planned_then =
       subst (λ c. plan_at (trail_after t.places f0 tr0 (happenings.Turn v)) c ≡ Some (plan t.places tr0 c)) top.2
-      (plan_here t.places f0 tr0 v k up at.session at.given at.call at.code top.0 top.1 unplanned)
+      (plan_here t.places f0 tr0 v k up at.session at.given at.call at.code top.0 top.1 writer unplanned)
 
   -- the plan at a later moment
   pub planned_after : (mid : List Happening) → plan_at (tr_at t (hs0 ++ happenings.Turn v ∷ mid)) r ≡ Some (plan t.places tr0 r)

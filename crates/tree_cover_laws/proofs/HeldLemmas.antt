@@ -1,12 +1,12 @@
 -- What the last answer of a branch told of its weight is what the happenings tell of the branch, whether it is live or has left since.
-use Rattle.std.proofs.Common.{◌≡◌, ◌≢◌, ℕ, zero, suc, ◌+◌, ◌≤◌, true, is_some, slice_get, List, [], ◌∷◌, ◌++◌, map, max, length, Option, Some, None, inl, inr, refl, sym, ap, subst, ◌∙◌, arith}
+use Rattle.std.proofs.Common.{◌≡◌, ◌≢◌, ℕ, zero, suc, ◌+◌, ◌≤◌, true, is_some, slice_get, List, [], ◌∷◌, ◌++◌, map, flat_map, max, length, unwrap_or, Option, Some, None, inl, inr, refl, sym, ap, subst, ◌∙◌, arith}
 use Rattle.std.specs.List.{AllByRecursion}
 use Rattle.dtx_values.specs.Limits.{depth_limit}
 use Rattle.tran_ids.proofs.ListedLemmas.{item_is}
 use Rattle.session_tree.specs.Live.{children_of}
 use Rattle.session_tree.specs.Tree.{place_of_greatest, weight_by, weight}
 use Rattle.agreement.specs.Events.{Exit, exit}
-use Rattle.node_rules.specs.Data.{Advice, BranchId, Edge, Kind, Live, Stmt}
+use Rattle.node_rules.specs.Data.{BranchId, Edge, Kind, Live, Task}
 use Rattle.node_rules.specs.Data.kinds
 use Rattle.node_rules.specs.Inputs.{Came}
 use Rattle.node_rules.specs.Words.{numbered}
@@ -15,10 +15,10 @@ use Rattle.node_rules.proofs.LiveLemmas.{branch_parts}
 use Rattle.run_rules.specs.Births.{Born, births_from, births_of, born_at}
 use Rattle.run_base_laws.specs.BirthLaws.{Began, IsChild, GoesSo, LiveIs}
 use Rattle.run_rules.specs.Branches as told
-use Rattle.run_rules.specs.Branches.{Seen, seen_at, own_of, children_at, is_among}
+use Rattle.run_rules.specs.Branches.{Ran, Seen, seen_at, own_of, strength_set, children_at, is_among}
 use Rattle.run_rules.specs.Data.{Packet, Turn, Happening}
 use Rattle.run_rules.specs.Data.happenings
-use Rattle.run_rules.specs.Facts.{node_at}
+use Rattle.run_rules.specs.Facts.{place_at, node_at}
 use Rattle.run_base_laws.specs.InTurnLaws.{packet_post, said_in, exec_number, newest_exec, call_at, NeedsNoRollback, TakesInTurn}
 use Rattle.run_rules.specs.Lawful.{History, IsLawfulRun}
 use Rattle.run_base_laws.specs.RunEvents.{lives_at}
@@ -49,7 +49,6 @@ use Rattle.tree_laws.proofs.CalledLemmas.{edges_were_called}
 use Rattle.tree_laws.proofs.FateLemmas.{among_found}
 use Rattle.tree_laws.proofs.MemberLemmas.{BornBelow, born_below}
 use Rattle.tree_laws.proofs.ShallowLemmas.{parents_are_shallow}
-use Rattle.tree_laws.proofs.StrengthLemmas.{lives_have_strength}
 use Rattle.tree_laws.proofs.TimeLemmas.{Part, part_lawful, part_on, part_of, may_of, born_end, keep_on}
 use Rattle.tree_laws.proofs.WeighLemmas.{placed_of}
 use Rattle.tree_trail_laws.proofs.FullLemmas.{SeesAll, full}
@@ -84,7 +83,7 @@ module _ (t : History) (whole : IsLawfulRun t) where
     pub taken : n ≤ seen.taken
     pub last : Live
     pub weighs : v ≡ weight last
-    pub strong : strength_of t.places c ≡ last.strength
+    pub strong : strength_of t.places (tr_at t hs) c ≡ last.strength
     pub kids : children_at (tr_at t hs) c ≡ children_of last
     pub marked : has_changes (tr_at t hs) c ≡ last.changed
     pub each : (i : ℕ) (e : Edge) → numbered last.edges i ≡ Some e → ToldLast (said_in (f_at t hs)) c e.peer e.weight × BornBelow (births_of (so_far t hs)) e.peer c
@@ -165,7 +164,7 @@ module _ (t : History) (whole : IsLawfulRun t) where
       reported_of : (z : Seen) × (seen_at (tr_at t hs) me ≡ Some z) × CallsAreTraced s1 (work_at k me) z
       reported_of = lower_calls_are_told s1 lawful1 me.node k up x.live parts.0 not_root
 
-      its_tree : SeesTree (f_at t hs) (tr_at t hs) me
+      its_tree : SeesTree t.places (f_at t hs) (tr_at t hs) me
       its_tree = sees_tree t whole sees hs h rest is me
 
       live1 : live_in (f_at t hs) me ≡ Some x.live
@@ -178,7 +177,7 @@ module _ (t : History) (whole : IsLawfulRun t) where
         taken = omega (arith, last_is, ap (λ w. w.came.last_call) parts.1, reported_of.2.taken);
         last = x.live;
         weighs = (replies_tell_weights s1 lawful1 me.node k up x found).told not_root (omega (arith, last_is, it.some)) rests1 v (well_weight (said_in (f_at t hs)) me x.work.came.last_call v told1);
-        strong = sym (lives_have_strength s1 lawful1 me.node k up x found);
+        strong = its_tree.strength me x.live Is_root live1;
         kids = its_tree.children me x.live Is_root live1;
         marked = its_tree.changed me x.live Is_root live1;
         each = edges_told hs part1 x k up found (λ none. absurd (not_root none)) rests1 fine1;
@@ -224,13 +223,13 @@ module _ (t : History) (whole : IsLawfulRun t) where
       was : WasSo hs c it.number v
       was = before p c below0 v (record { number = it.number; some = it.some; newest = omega (arith, it.newest, newest_on p c); told = told0 })
 
-      low : (u : Turn) (from : BranchId) (call given : ℕ) (advice : Option Advice) (st : Stmt) → h ≡ happenings.Turn u → Came u.input from c (kinds.Exec call given advice st) → call ≤ was.seen.taken
-      low u from call given advice st one came =
+      low : (u : Turn) (from : BranchId) (call : ℕ) (task : Task) → h ≡ happenings.Turn u → Came u.input from c (kinds.Exec call task) → call ≤ was.seen.taken
+      low u from call task one came =
           let may = may_of t whole hs (happenings.Turn u) rest (subst (λ y. hs ++ y ∷ rest ≡ t.trace) one is) in
           let sent : call ≤ newest_exec (said_in f0) from c
-          = came_so (λ a b kind. exec_number kind ≤ newest_exec (said_in f0) a b) f0 (execs_are_low f0) may.0 u.node u.input u.took may.1.comes from c (kinds.Exec call given advice st) came in
+          = came_so (λ a b kind. exec_number kind ≤ newest_exec (said_in f0) a b) f0 (execs_are_low f0) may.0 u.node u.input u.took may.1.comes from c (kinds.Exec call task) came in
           let child : IsChild (Began (births_of s0)) c from
-          = came_so (GoesSo (Began (births_of s0))) f0 (messages_are_of_neighbors s0 lawful0) may.0 u.node u.input u.took may.1.comes from c (kinds.Exec call given advice st) came in
+          = came_so (GoesSo (Began (births_of s0))) f0 (messages_are_of_neighbors s0 lawful0) may.0 u.node u.input u.took may.1.comes from c (kinds.Exec call task) came in
           let same : child.0 ≡ below.born = same_born child.0 below.born (wider child.0 child.1) below.began (child.2 ∙ sym below.is_me) in
           let parent : Some from ≡ Some p = sym child.3 ∙ (ap (λ (b : Born). b.parent) same ∙ below.is_parent) in
           let here : from ≡ p = cc in
@@ -259,9 +258,11 @@ module _ (t : History) (whole : IsLawfulRun t) where
         taken = omega (arith, was.taken, still.taken);
         last = was.last;
         weighs = was.weighs;
-        strong = was.strong;
+        strong = ap (λ (o : Option Seen). unwrap_or (strength_set o) (place_at t.places c.node).strength) still.at
+            ∙ (ap (λ o. unwrap_or o (place_at t.places c.node).strength) still.strength
+            ∙ (sym (ap (λ (o : Option Seen). unwrap_or (strength_set o) (place_at t.places c.node).strength) was.at) ∙ was.strong));
         kids = ap told.children_of still.at ∙ (still.children ∙ (sym (ap told.children_of was.at) ∙ was.kids));
-        marked = ap (λ (o : Option Seen). is_some (slice_get (own_of o) 0)) still.at ∙ (ap (λ cs. is_some (slice_get cs 0)) still.own
+        marked = ap (λ (o : Option Seen). is_some (slice_get (own_of o) 0)) still.at ∙ (ap (λ (rs : List Ran). is_some (slice_get (flat_map (λ (r : Ran). r.changes) rs) 0)) still.runs
             ∙ (sym (ap (λ (o : Option Seen). is_some (slice_get (own_of o) 0)) was.at) ∙ was.marked));
         each = kid_on;
         shallow = was.shallow;
@@ -318,7 +319,7 @@ module _ (t : History) (whole : IsLawfulRun t) where
       unfolding weight
       weighs_told zero p c below v it low deep = absurd (omega (arith, low, deep))
       weighs_told (suc m) p c below v it low deep =
-          ap (λ q. weight_by q (strength_of t.places c) (place_of_greatest 1 (map (weight_in m t.places (tr_at t hs)) (children_at (tr_at t hs) c)) None)) was.marked
+          ap (λ q. weight_by q (strength_of t.places (tr_at t hs) c) (place_of_greatest 1 (map (weight_in m t.places (tr_at t hs)) (children_at (tr_at t hs) c)) None)) was.marked
           ∙ (ap (λ g. weight_by was.last.changed g (place_of_greatest 1 (map (weight_in m t.places (tr_at t hs)) (children_at (tr_at t hs) c)) None)) was.strong
           ∙ (ap (λ ws. weight_by was.last.changed was.last.strength (place_of_greatest 1 ws None)) (kids (λ d its w say less more. weighs_told m c d its w say less more)) ∙ sym was.weighs))
         where

@@ -197,7 +197,7 @@ module _ (t : History) (whole : IsLawfulRun t) (sees : SeesAll t) (hs : List Hap
     abbrev found_whole : WasFound t whole r.root t.trace
     found_whole = record { before = hs0; turn = found.turn; later = found.later ++ h ∷ rest; is = commit_is; commit = same_commit s t lawful whole r.root hs0 found.turn (λ n. refl) found.commit }
 
-    sees0 : SeesTree (f_at t hs0) tr0 r.root
+    sees0 : SeesTree t.places (f_at t hs0) tr0 r.root
     sees0 = sees_tree t whole sees hs0 v (found.later ++ h ∷ rest) commit_is r.root
 
     -- the root is not working any more

@@ -44,7 +44,7 @@ use Rattle.tree_cover_laws.proofs.StepLemmas.{HasNext, KidsTold, told_kept_row, 
 use Rattle.tree_laws.proofs.AtPart.{at_end}
 
 module _ (t : History) (whole : IsLawfulRun t) (hs0 : List Happening) (part0 : Part t whole hs0) (r : BranchId) (next : HasNext t hs0) (root : OnPath t whole hs0 part0 r r) (top : IsTop t whole r)
-    (sees : SeesTree (f_at t hs0) (tr_at t hs0) r) where
+    (sees : SeesTree t.places (f_at t hs0) (tr_at t hs0) r) where
   abbrev tr : Trail
   tr = tr_at t hs0
 

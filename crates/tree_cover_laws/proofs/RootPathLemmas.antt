@@ -56,6 +56,7 @@ same_commit t z whole its r hs u same at = record {
   call = at.call;
   root = at.root;
   code = at.code;
+  writes = at.writes;
 }
 
 module _ (t : History) (whole : IsLawfulRun t) (r : BranchId) (found : WasFound t whole r t.trace) (top : IsTop t whole r)

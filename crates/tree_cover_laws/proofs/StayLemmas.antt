@@ -15,7 +15,7 @@ use Rattle.run_rules.specs.Births.{Born, births_of}
 use Rattle.run_base_laws.specs.BirthLaws.{Began}
 use Rattle.run_rules.specs.Data.{Happening}
 use Rattle.run_base_laws.specs.EventLaws.{EachEventFrom}
-use Rattle.run_rules.specs.Facts.{first_facts, place_at, node_at}
+use Rattle.run_rules.specs.Facts.{first_facts, node_at}
 use Rattle.run_base_laws.specs.FreezeLaws.{was_asked}
 use Rattle.run_base_laws.specs.InTurnLaws.{said_in, NeedsNoRollback}
 use Rattle.run_rules.specs.Lawful.{History, IsLawfulRun, facts_at}
@@ -34,7 +34,7 @@ use Rattle.tree_laws.proofs.PrefixLemmas.{so_far, f_at, e_at}
 use Rattle.tree_laws.proofs.SettleRunLemmas.{known}
 use Rattle.tree_laws.specs.RestLaws.{Rests, SameTree}
 use Rattle.tree_laws.proofs.FateLemmas.{Fate, Stays, Leaves, fate_of}
-use Rattle.tree_laws.proofs.FrozenLemmas.{Found, Since, PointsTo, edge_to, path_down, same_step, strength_at}
+use Rattle.tree_laws.proofs.FrozenLemmas.{Found, Since, PointsTo, edge_to, path_down, same_step, strength_at, same_strength as strengths_stay}
 use Rattle.tree_laws.proofs.TimeLemmas.{Part, part_lawful, part_on, part_of, each_at, exit_end, sent_end, born_end, keep_on}
 use Rattle.tree_laws.proofs.WeighLemmas.{children_weigh, child_parent, placed_of}
 use Rattle.tree_cover_laws.proofs.SentLemmas.{since_on, SentThen, sent_then}
@@ -127,7 +127,7 @@ module _ (t : History) (whole : IsLawfulRun t) (hs0 : List Happening) (part0 : P
       same_strength : st.now.live.strength ≡ x.live.strength
       same_strength =
           let here : Found t whole it.moment st.now = record { kept = st.kept; up = subst (λ b. node_at (f_at t it.moment) b.node ≡ Some st.kept) (sym st.is_me) st.up; found = st.found } in
-          strength_at t whole it.moment it.part st.now here ∙ (ap (λ (b : BranchId). (place_at t.places b.node).strength) st.is_me ∙ sym (strength_at t whole hs0 part0 x up.stands.here))
+          strengths_stay t whole x st.now st.is_me (strength_at t whole hs0 part0 x up.stands.here) (strength_at t whole it.moment it.part st.now here)
 
       same_walk : step st.now.live ≡ step x.live
       same_walk = same_step x.live st.now.live st.same.changed same_strength st.same.weights

@@ -19,7 +19,7 @@ use Rattle.tree_laws.proofs.PrefixLemmas.{f_at}
 use Rattle.tree_laws.proofs.SettleRunLemmas.{known}
 use Rattle.tree_laws.proofs.VoterLemmas.{mapped_at, all_numbered}
 use Rattle.tree_laws.specs.DecideLaws.{SeesTree}
-use Rattle.tree_laws.proofs.FrozenLemmas.{PointsTo, edge_to, strength_at}
+use Rattle.tree_laws.proofs.FrozenLemmas.{PointsTo, edge_to}
 use Rattle.tree_laws.proofs.MemberLemmas.{BornBelow}
 use Rattle.tree_laws.proofs.TimeLemmas.{Part, part_lawful}
 use Rattle.tree_trail_laws.proofs.FullLemmas.{SeesAll, full}
@@ -37,7 +37,7 @@ use Rattle.tree_laws.proofs.StepWeightLemmas.{down_weighs, nowhere_by as nowhere
 abbrev pub HasNext : History → List Happening → Type 0
 HasNext t hs = (h : Happening) × (rest : List Happening) × (hs ++ h ∷ rest ≡ t.trace)
 
-module _ (t : History) (whole : IsLawfulRun t) (hs0 : List Happening) (part0 : Part t whole hs0) (r : BranchId) (next : HasNext t hs0) (sees : SeesTree (f_at t hs0) (tr_at t hs0) r) where
+module _ (t : History) (whole : IsLawfulRun t) (hs0 : List Happening) (part0 : Part t whole hs0) (r : BranchId) (next : HasNext t hs0) (sees : SeesTree t.places (f_at t hs0) (tr_at t hs0) r) where
   abbrev tr : Trail
   tr = tr_at t hs0
 
@@ -52,8 +52,8 @@ module _ (t : History) (whole : IsLawfulRun t) (hs0 : List Happening) (part0 : P
   changes_seen : (x : Branch) → Stands t whole hs0 part0 r x → has_changes tr x.live.me ≡ x.live.changed
   changes_seen x it = sees.changed x.live.me x.live it.tree (stands_live t whole hs0 part0 r x it x.live.me refl)
 
-  strength_seen : (x : Branch) → Stands t whole hs0 part0 r x → strength_of t.places x.live.me ≡ x.live.strength
-  strength_seen x it = sym (strength_at t whole hs0 part0 x it.here)
+  strength_seen : (x : Branch) → Stands t whole hs0 part0 r x → strength_of t.places tr x.live.me ≡ x.live.strength
+  strength_seen x it = sees.strength x.live.me x.live it.tree (stands_live t whole hs0 part0 r x it x.live.me refl)
 
   -- ---- children, live or dropped
 
@@ -105,7 +105,7 @@ module _ (t : History) (whole : IsLawfulRun t) (hs0 : List Happening) (part0 : P
   unfolding step seen.step seen.weight
   step_seen x it c me =
       subst (λ b. seen.step t.places tr b ≡ step x.live) me
-      (ap (λ q. walk_by q (strength_of t.places x.live.me) (place_of_greatest 1 (map (weight_in depth_limit t.places tr) (children_at tr x.live.me)) None)) (changes_seen x it)
+      (ap (λ q. walk_by q (strength_of t.places tr x.live.me) (place_of_greatest 1 (map (weight_in depth_limit t.places tr) (children_at tr x.live.me)) None)) (changes_seen x it)
       ∙ (ap (λ s. walk_by x.live.changed s (place_of_greatest 1 (map (weight_in depth_limit t.places tr) (children_at tr x.live.me)) None)) (strength_seen x it)
       ∙ ap (λ ws. walk_by x.live.changed x.live.strength (place_of_greatest 1 ws None)) (kids_weigh x it)))
 
@@ -115,6 +115,6 @@ module _ (t : History) (whole : IsLawfulRun t) (hs0 : List Happening) (part0 : P
   next_goes x it c down nowhere =
       let edge = edge_to x.live.edges down.0 c down.2 in
       let told : weight_in (suc depth_limit) t.places tr c ≡ None
-      = nowhere_weighs (has_changes tr c) (strength_of t.places c) (place_of_greatest 1 (map (weight_in depth_limit t.places tr) (children_at tr c)) None) nowhere in
+      = nowhere_weighs (has_changes tr c) (strength_of t.places tr c) (place_of_greatest 1 (map (weight_in depth_limit t.places tr) (children_at tr c)) None) nowhere in
       let its : weight_in (suc depth_limit) t.places tr edge.0.peer ≡ edge.0.weight = kid_weighs (suc depth_limit) (omega arith) x it down.0 edge.0 edge.1 in
       down_weighs x.live down.0 edge.0 down.1 edge.1 (sym its ∙ (ap (weight_in (suc depth_limit) t.places tr) edge.2 ∙ told))

@@ -6,16 +6,16 @@ use Rattle.std.proofs.lemmas.Bool.Decides.{nat_tests}
 use Rattle.tran_ids.proofs.BranchLemmas.{equal_from_same}
 use Rattle.tran_ids.proofs.ListedLemmas.{item_is, put_found}
 use Rattle.session_tree.specs.Live.{children_of, peer_of}
-use Rattle.session_tree.specs.Tree.{room}
-use Rattle.node_rules.specs.Data.{Stmt, Answer, BranchId, Edge, Live, Post, ReplyFields, Input}
+use Rattle.node_rules.specs.Data.{Answer, BranchId, Edge, Live, Post, ReplyFields, Input}
 use Rattle.node_rules.specs.Data.answers
 use Rattle.node_rules.specs.Data.kinds
+use Rattle.node_rules.specs.declared.work.Errand.{Errand}
 use Rattle.node_rules.specs.declared.session.Session.{Session}
 use Rattle.node_rules.specs.declared.work.Work.{Work}
 use Rattle.node_rules.specs.Words.{same, numbered, item_at, put_item, drop_item}
 use Rattle.node_rules.specs.Refusals.{dtx}
 use Rattle.node_rules.specs.NodeState.{NodeState, Branch, TurnDraft, live_id, work_id, live_at, branch_at, post, no_work}
-use Rattle.node_rules.specs.Calls.{advice_of, reply_fields, kept_reply, with_answer, answer_says, called, exec_to, next_call, replies, is_gone}
+use Rattle.node_rules.specs.Calls.{task_for, reply_fields, kept_reply, with_answer, answer_says, called, exec_to, next_call, replies, is_gone}
 use Rattle.node_rules.specs.Recovery.{kept_told}
 use Rattle.node_rules.proofs.Steps as steps
 use Rattle.node_rules.proofs.Steps.{Says}
@@ -171,20 +171,20 @@ module _ (E : BranchId → Option ℕ) (A : BranchId → Option BranchId) (G Her
 
     -- ---- a branch calls a child
 
-    exec_quiet : (ss : List Session) (x : Branch) (i : ℕ) (s : Stmt) (given : ℕ) (o : Option BranchId) (b : BranchId) → QuietOf (exec_to ss x i s given o) b
-    exec_quiet ss x i s given None b n v is = is
-    exec_quiet ss x i s given (Some c) b n v (inl here) = here.1
-    exec_quiet ss x i s given (Some c) b n v (inr none) = none
+    exec_quiet : (ss : List Session) (x : Branch) (i : ℕ) (e : Errand) (o : Option BranchId) (b : BranchId) → QuietOf (exec_to ss x i e o) b
+    exec_quiet ss x i e None b n v is = is
+    exec_quiet ss x i e (Some c) b n v (inl here) = here.1
+    exec_quiet ss x i e (Some c) b n v (inr none) = none
 
-    exec_call : (ss : List Session) (x : Branch) (i : ℕ) (s : Stmt) (given : ℕ) → FreeOf x → ((c : BranchId) → numbered (children_of x.live) i ≡ Some c → 1 ≤ call_at x.work i → (v : Option ℕ) × ToldWell said c (call_at x.work i) v)
-        → (c : BranchId) → numbered (children_of x.live) i ≡ Some c → (p d : BranchId) (n : ℕ) → 1 ≤ n → n + 1 ≤ newest_exec (said ++ exec_to ss x i s given (Some c)) p d → (v : Option ℕ) × ToldWell (said ++ exec_to ss x i s given (Some c)) d n v
-    exec_call ss x i s given free told c at p d n some low = by (same x.live.me p && same c d) refl
+    exec_call : (ss : List Session) (x : Branch) (i : ℕ) (e : Errand) → FreeOf x → ((c : BranchId) → numbered (children_of x.live) i ≡ Some c → 1 ≤ call_at x.work i → (v : Option ℕ) × ToldWell said c (call_at x.work i) v)
+        → (c : BranchId) → numbered (children_of x.live) i ≡ Some c → (p d : BranchId) (n : ℕ) → 1 ≤ n → n + 1 ≤ newest_exec (said ++ exec_to ss x i e (Some c)) p d → (v : Option ℕ) × ToldWell (said ++ exec_to ss x i e (Some c)) d n v
+    exec_call ss x i e free told c at p d n some low = by (same x.live.me p && same c d) refl
       where
         says : List Post
-        says = exec_to ss x i s given (Some c)
+        says = exec_to ss x i e (Some c)
 
         new : (q : Bool) → (same x.live.me p && same c d) ≡ q → newest_exec says p d ≡ (if q then next_call x.work i else 0)
-        new q is = one_exec x.live.me c p d (kinds.Exec (next_call x.work i) (room x.live given) (advice_of ss x.live) s) ∙ ap (λ w. if w then next_call x.work i else 0) is
+        new q is = one_exec x.live.me c p d (kinds.Exec (next_call x.work i) (task_for ss x i e)) ∙ ap (λ w. if w then next_call x.work i else 0) is
 
         old : n + 1 ≤ newest_exec said p d → (v : Option ℕ) × ToldWell (said ++ says) d n v
         old it = (let is = calls p d n some it in (is.0, well_more said says d n is.0 is.1))
@@ -210,22 +210,22 @@ module _ (E : BranchId → Option ℕ) (A : BranchId → Option BranchId) (G Her
                 lt true it = (let under : a < b = grind (arith, nat_tests, it) in omega (arith, under, is))
                 lt false it = (let same_number : a ≡ b = grind (arith, nat_tests, it, few) in absurd (other same_number))
 
-    exec_calls : (ss : List Session) (x : Branch) (i : ℕ) (s : Stmt) (given : ℕ) → FreeOf x → ((c : BranchId) → numbered (children_of x.live) i ≡ Some c → 1 ≤ call_at x.work i → (v : Option ℕ) × ToldWell said c (call_at x.work i) v)
-        → (o : Option BranchId) → numbered (children_of x.live) i ≡ o → CallsWell (said ++ exec_to ss x i s given o)
-    exec_calls ss x i s given free told None at = calls_stay said [] (λ a b. refl) calls
-    exec_calls ss x i s given free told (Some c) at = λ p d n some low. exec_call ss x i s given free told c at p d n some low
+    exec_calls : (ss : List Session) (x : Branch) (i : ℕ) (e : Errand) → FreeOf x → ((c : BranchId) → numbered (children_of x.live) i ≡ Some c → 1 ≤ call_at x.work i → (v : Option ℕ) × ToldWell said c (call_at x.work i) v)
+        → (o : Option BranchId) → numbered (children_of x.live) i ≡ o → CallsWell (said ++ exec_to ss x i e o)
+    exec_calls ss x i e free told None at = calls_stay said [] (λ a b. refl) calls
+    exec_calls ss x i e free told (Some c) at = λ p d n some low. exec_call ss x i e free told c at p d n some low
 
-    pub calls_over : (ss : List Session) (x : Branch) (i : ℕ) (s : Stmt) (given : ℕ) → x.work.branch ≡ x.live.me → FreeOf x → WellBut said (Goes x.live) x i
+    pub calls_over : (ss : List Session) (x : Branch) (i : ℕ) (e : Errand) → x.work.branch ≡ x.live.me → FreeOf x → WellBut said (Goes x.live) x i
         → ((c : BranchId) → numbered (children_of x.live) i ≡ Some c → 1 ≤ call_at x.work i → (v : Option ℕ) × ToldWell said c (call_at x.work i) v)
-        → All (exec_to ss x i s given (peer_of x.live i)) (put_item live_id k.lives x.live) (put_item work_id k.works (called x i s given).work)
-    calls_over ss x i s given mine free told last = (
-      put (exec_to ss x i s given (peer_of x.live i)) x.live (called x i s given).work mine (λ b other. exec_quiet ss x i s given (peer_of x.live i) b) (record {
-        held = called_well said (Goes x.live) x (exec_to ss x i s given (peer_of x.live i)) i s given told;
+        → All (exec_to ss x i e (peer_of x.live i)) (put_item live_id k.lives x.live) (put_item work_id k.works (called ss x i e).work)
+    calls_over ss x i e mine free told last = (
+      put (exec_to ss x i e (peer_of x.live i)) x.live (called ss x i e).work mine (λ b other. exec_quiet ss x i e (peer_of x.live i) b) (record {
+        held = called_well said (Goes x.live) x ss (exec_to ss x i e (peer_of x.live i)) i e told;
         kept = λ gone v tells. (let some = gone.1 in let none = free.unanswered in absurd (cc (some, none)));
         first = λ zero_calls. free.unanswered;
       }),
-      exec_calls ss x i s given free last (peer_of x.live i) (numbered_map x.live.edges i),
-      (λ b none. exec_quiet ss x i s given (peer_of x.live i) b),
+      exec_calls ss x i e free last (peer_of x.live i) (numbered_map x.live.edges i),
+      (λ b none. exec_quiet ss x i e (peer_of x.live i) b),
     )
 
     -- ---- messages alone
@@ -288,15 +288,15 @@ module _ (E : BranchId → Option ℕ) (A : BranchId → Option BranchId) (G Her
             stay (replies x to t) l (works_of k.works b) (other_quiet x.live.me to l.me (kinds.Reply x.work.came.last_call t.weight t.count t.result) (subst (λ c. same x.live.me c ≡ false) (sym (item_is live_id k.lives b l live)) is)) (now.each b l live)
 
     pub says_well : {says : List Post} → Says k input says → All says k.lives k.works
-    says_well (steps.Gone_replies to from call given advice s came gone) = still _ (reply_execs to from call None 1 (answers.Refused (dtx 8 []))) (λ b. gone_quiet to from call b)
-    says_well (steps.Replies_again x to call given advice s t came live last kept) = again_says x to t live kept
+    says_well (steps.Gone_replies to from call task came gone) = still _ (reply_execs to from call None 1 (answers.Refused (dtx 8 []))) (λ b. gone_quiet to from call b)
+    says_well (steps.Replies_again x to call task t came live last kept) = again_says x to t live kept
     says_well (steps.Tells s from came kept) = quiet _ (told_says IsIdle idle_decisions (kept_told s from), tt)
     says_well (steps.Recovers reco) = quiet _ (askings_say IsIdle idle_decisions k)
     says_well (steps.Gone_aborts to from b comment came gone) = quiet _ (((λ n v is. is), refl), tt)
     says_well (steps.Gone_rolls_back to from came gone) = quiet _ (((λ n v is. is), refl), tt)
     says_well (steps.Gone_acks to from n came gone) = quiet _ (((λ n v is. is), refl), tt)
     says_well (steps.Gone_forgets to from came gone) = quiet _ (((λ n v is. is), refl), tt)
-    says_well (steps.Opened_again to parent edge root depth o came found) = quiet _ (((λ n v is. is), refl), tt)
+    says_well (steps.Opened_again to parent edge root depth read_at o came found) = quiet _ (((λ n v is. is), refl), tt)
     says_well (steps.Prepared_again s from b comment came kept again) = quiet _ (((λ n v is. is), refl), tt)
     says_well (steps.Knows_commit s from n came kept knows) = quiet _ (((λ n v is. is), refl), tt)
     says_well (steps.Knows_rollback s from came kept knows) = quiet _ (((λ n v is. is), refl), tt)

@@ -2,8 +2,10 @@
 use Rattle.std.proofs.Common.{◌≡◌, ◌≢◌, ℕ, suc, ◌+◌, ◌≤◌, ◌⊎◌, ◌&&◌, Bool, true, false, if◌then◌else◌, List, [], ◌∷◌, ◌++◌, length, max, unwrap_or, Option, Some, None, inl, inr, refl, sym, ap, subst, subst₂, ◌∙◌, arith}
 use Rattle.tran_ids.proofs.BranchLemmas.{same_from_equal}
 use Rattle.tran_ids.proofs.NumberedLemmas.{set_found, set_leaves}
-use Rattle.node_rules.specs.Data.{BranchId, Edge, Kind, Post, Stmt}
+use Rattle.node_rules.specs.Data.{BranchId, Edge, Kind, Post}
 use Rattle.node_rules.specs.Data.kinds
+use Rattle.node_rules.specs.declared.work.Errand.{Errand}
+use Rattle.node_rules.specs.declared.session.Session.{Session}
 use Rattle.node_rules.specs.declared.work.Waits.TheVariants as waiting
 use Rattle.node_rules.specs.declared.work.Going.{Going}
 use Rattle.node_rules.specs.declared.work.Work.{Work}
@@ -118,11 +120,11 @@ module _ (said : List Post) (G : Type 0) (x : Branch) where
   WellBut i = G → (j : ℕ) (e : Edge) → i ≢ j → numbered x.live.edges j ≡ Some e → ToldWell said e.peer (call_at x.work j) e.weight
 
   -- a branch that calls over an edge
-  pub called_well : (says : List Post) (i : ℕ) (s : Stmt) (given : ℕ) → WellBut i → G → (j : ℕ) (e : Edge) → numbered x.live.edges j ≡ Some e
-      → WaitsFor j (called x i s given).work.going ⊎ (ToldWell (said ++ says) e.peer (call_at (called x i s given).work j) e.weight ⊎ HasGone (called x i s given).work)
-  called_well says i s given told goes j e at = elim (cases_nat i j) [
+  pub called_well : (ss : List Session) (says : List Post) (i : ℕ) (errand : Errand) → WellBut i → G → (j : ℕ) (e : Edge) → numbered x.live.edges j ≡ Some e
+      → WaitsFor j (called ss x i errand).work.going ⊎ (ToldWell (said ++ says) e.peer (call_at (called ss x i errand).work j) e.weight ⊎ HasGone (called ss x i errand).work)
+  called_well ss says i errand told goes j e at = elim (cases_nat i j) [
     | inl here ↦ inl (ap waiting.ForReply here)
-    | inr other ↦ inr (inl (well_more said says e.peer (call_at (called x i s given).work j) e.weight
+    | inr other ↦ inr (inl (well_more said says e.peer (call_at (called ss x i errand).work j) e.weight
         (subst (λ n. ToldWell said e.peer n e.weight) (sym (ap (λ (o : Option ℕ). unwrap_or o 0) (set_leaves x.work.calls i j _ other))) (told goes j e other at))))
   ]
 

@@ -1,16 +1,19 @@
 -- Each step of a node passes refusals of gone branches on, and calls a child only after an answer that is none.
-use Rattle.std.proofs.Common.{◌≡◌, ◌≢◌, ℕ, zero, suc, ◌+◌, ◌-◌, ◌<◌, ◌≤◌, ◌&&◌, Bool, true, false, if◌then◌else◌, List, [], map, length, is_none, Option, Some, None, inl, inr, refl, sym, ap, subst, ◌∙◌, arith}
+use Rattle.std.proofs.Common.{◌≡◌, ◌≢◌, ℕ, zero, suc, ◌+◌, ◌<◌, ◌≤◌, ◌&&◌, Bool, true, false, if◌then◌else◌, List, [], map, length, is_none, Option, Some, None, inl, inr, refl, sym, ap, subst, ◌∙◌, arith}
 use Rattle.std.proofs.lemmas.Bool.{cond_both}
 use Rattle.tran_ids.proofs.ListedLemmas.{item_is, put_found}
 use Rattle.link_session.proofs.OnceLemmas.{run_is_new}
 use Rattle.commit_forget.specs.declared.next.Next.TheVariants as nexts
 use Rattle.session_tree.specs.Live.{children_of, peer_of, new_edge, next_edge, fresh_live}
 use Rattle.session_tree.specs.Tree.{step as step_from}
-use Rattle.node_rules.specs.Data.{Stmt, Answer, BranchId, Edge, Live, Act, Kind, Post, ReplyFields, Place, Input}
+use Rattle.node_rules.specs.Data.{Stmt, Answer, BranchId, Edge, Live, Act, Kind, Post, ReplyFields, Place, Input, Task}
 use Rattle.node_rules.specs.Data.acts
+use Rattle.node_rules.specs.Data.admits
 use Rattle.node_rules.specs.Data.answers
 use Rattle.node_rules.specs.Data.kinds
 use Rattle.node_rules.specs.Data.stmts
+use Rattle.node_rules.specs.Data.tasks
+use Rattle.node_rules.specs.declared.work.Errand.TheVariants as errands
 use Rattle.node_rules.specs.declared.session.Session.{Session}
 use Rattle.node_rules.specs.declared.session.PendingCall.TheVariants as pending
 use Rattle.node_rules.specs.declared.work.Work.{Work}
@@ -20,26 +23,27 @@ use Rattle.node_rules.specs.Inputs.{Came, IsCall}
 use Rattle.node_rules.specs.NodeState.{NodeState, Branch, TurnDraft, live_id, work_id, live_at, branch_at, post, to_one, to_each, no_work}
 use Rattle.node_rules.specs.Sessions.{session_at, with_call, needs_rollback}
 use Rattle.node_rules.specs.Names.{passed_on}
-use Rattle.node_rules.specs.Statement.{ran, after_run}
-use Rattle.node_rules.specs.Calls.{reply_fields, kept_reply, with_answer, answer_says, next_child, strength_of, with_edge, waits_for_opened, hears_reply, nobody_at, is_gone, heard_answer, heard_sessions, answered_sessions, call_pends}
-use Rattle.node_rules.specs.Client.{new_root, fresh_root, begun_by, gives_up}
+use Rattle.node_rules.specs.Statement.{ran}
+use Rattle.node_rules.specs.Calls.{reply_fields, kept_reply, with_answer, answer_says, next_child, strength_of, with_edge, waits_for_opened, hears_reply, nobody_at, is_gone, heard_answer, heard_sessions, answered_sessions, call_pends, branch_ran, less_room, admit}
+use Rattle.node_rules.specs.Client.{new_root, fresh_root, begun_by, counted, gives_up, marked}
+use Rattle.node_rules.specs.Marks.{node_back}
 use Rattle.node_rules.specs.Prepare.{path_of, with_prepare_sent, has_voted, answers_first, site_neighbors, ready, act_turn}
 use Rattle.node_rules.specs.Commit.{beyond}
 use Rattle.node_rules.proofs.Steps as steps
-use Rattle.node_rules.proofs.Steps.{Step, Asked, Acting}
+use Rattle.node_rules.proofs.Steps.{Step, Asked, Acting, Goes_to, Calls_back, IsNoRefusal}
 use Rattle.node_rules.proofs.StandLemmas.{live_so, call_set}
 use Rattle.node_rules.proofs.StepLemmas.{acting_so}
 use Rattle.node_rules.specs.LiveBranches.{works_of}
 use Rattle.node_rules.proofs.LiveLemmas.{each_changed, each_begun, branch_parts, work_is}
 use Rattle.run_base_laws.specs.InTurnLaws.{newest_exec, newest_reply, call_at}
 use Rattle.run_rules.proofs.ListLemmas.{all_append}
-use Rattle.run_base_laws.proofs.RootLemmas.{SessionsFit, root_alone, pends_so, begun_so}
+use Rattle.run_base_laws.proofs.RootLemmas.{SessionsFit, root_alone, pends_so, begun_so, counted_so, back_so}
 use Rattle.run_base_laws.proofs.NeighborLemmas.{News, reply_is}
-use Rattle.run_base_laws.proofs.NeighborStepLemmas.{begun_news, pends_news, lets_news, acked_news}
+use Rattle.run_base_laws.proofs.NeighborStepLemmas.{begun_news, pends_news, lets_news, acked_news, counted_news, back_news}
 use Rattle.run_base_laws.proofs.KindSayLemmas.{AllSay, one_says, each_says, prepares_say, passes_say}
 use Rattle.run_base_laws.proofs.InTurnLemmas as turns
 use Rattle.run_base_laws.proofs.InTurnLemmas.{length_peers, reply_for, none_waits}
-use Rattle.run_base_laws.proofs.InTurnEdgeLemmas.{opened_free, heard_free}
+use Rattle.run_base_laws.proofs.InTurnEdgeLemmas.{opened_free, heard_free, calling_free}
 use Rattle.run_base_laws.proofs.InTurnStepLemmas as drafts
 use Rattle.run_base_laws.proofs.TurnEventLemmas.{cases_nat}
 use Rattle.tree_laws.proofs.HoldLemmas.{given_code}
@@ -138,26 +142,37 @@ module _ (E : BranchId → Option ℕ) (A : BranchId → Option BranchId) (G Her
           above_zero zero not = absurd (not refl)
           above_zero (suc n) not = omega arith
 
-      asked_well : {x : Branch} {s : Stmt} {given : ℕ} → Asked k input x s given → Well said (Goes x.live) x
-      asked_well (steps.By_call n x s call rows has code live) =
+      -- the root of a session that calls, and a branch that takes a call
+      root_well : (n : ℕ) (x : Branch) (s : Stmt) → IsCall input n s → (session_at k.sessions n).root ≡ Some x.live.me → branch_at k x.live.me ≡ Some x → Well said (Goes x.live) x
+      root_well n x s call has live =
           let was : Begun x.live x.work = turns.branch_begun E A G Here input said received k nodes x live in
           let none : x.live.parent ≡ None = root_alone k ss n x.live.me has x.live (live_so k x.live.me x live) in
           let free : x.work.going ≡ None = was.idle none s (subst (λ m. IsCall input m s) (sym (ss.roots.each n x.live.me has)) call) in
           told_free x live free (λ gone. (let some = gone.1 in let unanswered = was.turn.alone none in absurd (cc (some, unanswered))))
-      asked_well (steps.By_exec x from call given advice s came live runs) =
-          let so = received.exec from x.live.me call given advice s came in
+
+      taker_well : (x : Branch) (from : BranchId) (call : ℕ) (task : Task) → Came input from x.live.me (kinds.Exec call task) → branch_at k x.live.me ≡ Some x → admit x.work.came call ≡ admits.Run → Well said (Goes x.live) x
+      taker_well x from call task came live runs =
+          let so = received.exec from x.live.me call task came in
           let new : x.work.came.last_call < call = run_is_new x.work.came call runs in
           told_free x live (exec_free x from call live new so.0 so.1) (exec_fine x from call live new so.1)
 
+      asked_well : {x : Branch} {s : Stmt} {given : ℕ} → Asked k input x s given → Well said (Goes x.live) x
+      asked_well (steps.By_call n x s call rows has code live may) = root_well n x s call has live
+      asked_well (steps.By_exec x from call given advice s came live runs) = taker_well x from call (tasks.Run given advice s) came live runs
+
+      goes_well : {x : Branch} {step : ℕ} → Goes_to k input x step → Well said (Goes x.live) x
+      goes_well (steps.By_rollback_to n x name step call has code live set) = root_well n x (stmts.RollbackTo name) call has live
+      goes_well (steps.By_back x from call keep came live runs) = taker_well x from call (tasks.GoBack keep) came live runs
+
       -- a root that calls goes on
       asked_goes : {x : Branch} {s : Stmt} {given : ℕ} → Asked k input x s given → (x.live.parent ≡ None → (session_at (call_pends k.sessions x.live) x.live.me.session).code ≡ None → G x.live.me) → Goes x.live
-      asked_goes (steps.By_call n x s call rows has code live) may none =
+      asked_goes (steps.By_call n x s call rows has code live writes) may none =
           let at : x.live.me.session ≡ n = ss.roots.each n x.live.me has in
           let set : (session_at (with_call k.sessions n pending.Statement) n).code ≡ None = ap (λ s. s.code) (call_set k.sessions n x.live.me pending.Statement has) ∙ code in
           let there : (session_at (with_call k.sessions x.live.me.session pending.Statement) x.live.me.session).code ≡ None = subst (λ m. (session_at (with_call k.sessions m pending.Statement) m).code ≡ None) (sym at) set in
           may none (subst (λ q. (session_at (if q then with_call k.sessions x.live.me.session pending.Statement else k.sessions) x.live.me.session).code ≡ None) (sym (ap is_none none)) there)
       asked_goes (steps.By_exec x from call given advice s came live runs) may none =
-          let so = received.exec from x.live.me call given advice s came in
+          let so = received.exec from x.live.me call (tasks.Run given advice s) came in
           let parent : x.live.parent ≡ Some from = (turns.branch_begun E A G Here input said received k nodes x live).above from so.0 in
           absurd (cc (none, parent))
 
@@ -207,6 +222,28 @@ module _ (E : BranchId → Option ℕ) (A : BranchId → Option BranchId) (G Her
   no_call_came : (k : NodeState) (n : ℕ) (s : Stmt) → IsCall input n s → Rooted k
   no_call_came k n s call from to kind came l live top = absurd (cc (call, came.is))
 
+  -- no refusal is one of a gone branch
+  not_gone : (a : Answer) → IsNoRefusal a → is_gone a ≡ false
+  not_gone (answers.Refused r) good = absurd good
+  not_gone (answers.Found rows) good = refl
+  not_gone (answers.Did d n) good = refl
+
+  module _ (welled : Welled) (k : NodeState) (calls : CallsWell said) (now : Olds k) (ss : SessionsFit k) (nodes : Nodes k) where
+    -- a Reply that is no such refusal
+    heard_fine : (x : Branch) (weight : Option ℕ) (count : ℕ) (a : Answer) (i : ℕ) (e : Edge) → steps.Is_answered k input x weight count a i e → is_gone a ≡ false → Well said (Goes x.live) (hears_reply x i weight count e)
+    heard_fine x weight count a i e answered well =
+        let over = reply_for x answered.from answered.call i e answered.waits in
+        let free : FreeOf (hears_reply x i weight count e) = heard_free E A G Here input said received k nodes x weight count a i e answered in
+        heard_well said (Goes x.live) x (found_old k calls now ss nodes x answered.live).held free.unanswered i weight count e answered.from answered.call (reply_is x answered.from answered.call i e answered.waits) over.0
+        (welled answered.from x.live.me answered.call weight count a answered.came well) over.1 over.2
+
+    -- a branch whose children are to go back
+    calling_well : {x : Branch} {step from : ℕ} → Calls_back k input x step from → Well said (Goes x.live) x
+    calling_well (steps.Has_gone j x step goes is) =
+        let fits : SessionsFit (node_back j x step) = subst SessionsFit is ss in
+        let told : Well said (Goes x.live) x = goes_well j calls (subst Olds is now) (record { roots = fits.roots; above = fits.above }) (subst Nodes is nodes) goes in told
+    calling_well (steps.Has_heard x weight count a i e g step answered going errand done) = heard_fine x weight count a i e answered (not_gone a done)
+
   -- a Reply is heard
   module _ (welled : Welled) (k : NodeState) (calls : CallsWell said) (now : Olds k) (ss : SessionsFit k) (nodes : Nodes k) (rooted : Rooted k) (x : Branch) (weight : Option ℕ) (count : ℕ) (a : Answer) (i : ℕ) (e : Edge)
       (answered : steps.Is_answered k input x weight count a i e) (seen : x.live.parent ≡ None → G x.live.me → (session_at (answered_sessions (heard_sessions k.sessions x.live a) x.live x.live.parent) x.live.me.session).code ≡ None) where
@@ -223,10 +260,7 @@ module _ (E : BranchId → Option ℕ) (A : BranchId → Option BranchId) (G Her
     free = heard_free E A G Here input said received k nodes x weight count a i e answered
 
     fine : is_gone a ≡ false → Well said (Goes y.live) y
-    fine well =
-        let over = reply_for x answered.from answered.call i e answered.waits in
-        heard_well said (Goes x.live) x was.held free.unanswered i weight count e answered.from answered.call (reply_is x answered.from answered.call i e answered.waits) over.0
-        (welled answered.from x.live.me answered.call weight count a answered.came well) over.1 over.2
+    fine well = heard_fine welled k calls now ss nodes x weight count a i e answered well
 
     passed : is_gone a ≡ true → Goes y.live → HasGone (with_answer y told_answer).work
     passed gone goes = by x.live.parent refl
@@ -244,12 +278,16 @@ module _ (E : BranchId → Option ℕ) (A : BranchId → Option BranchId) (G Her
 
   module _ (welled : Welled) (p : Place) (place : (b : BranchId) → b.node ≡ p.number → Here b) where
     pub wells_on : {k : NodeState} {d : TurnDraft} → Step p input k d → drafts.Granted E A G Here input said received d → SessionsFit k → News (drafts.NewBorn E A G Here input said received) p input k → Rooted k → Nodes k → CallsWell said → Olds k → Leaves d
-    wells_on (steps.Begins {k = k} n s call rows range none step) granted ss news rooted nodes calls now =
-        let root = news.root n s call rows none in
-        wells_on step granted (begun_so k ss p n) (begun_news (drafts.NewBorn E A G Here input said received) p input k n news) (no_call_came (begun_by p k n None) n s call)
-        (drafts.begins_so E A G Here input said received k nodes (fresh_root p k (new_root p k n)) refl (place (new_root p k n) refl) root) calls
-        (each_begun Old Old k.lives k.works now (fresh_root p k (new_root p k n)) (draft.fresh_well E A G Here input said received said (fresh_root p k (new_root p k n)) (no_work (new_root p k n)) refl refl) (λ y v live any is. is))
-    wells_on (steps.Pends {k = k} n l given call has live code step) granted ss news rooted nodes calls now =
+    wells_on (steps.Begins {k = k} n s read_at call begins range none step) granted ss news rooted nodes calls now =
+        let root = news.root n s read_at call begins none in
+        wells_on step granted (begun_so k ss p n read_at) (begun_news (drafts.NewBorn E A G Here input said received) p input k n read_at news) (no_call_came (begun_by p k n read_at None) n s call)
+        (drafts.begins_so E A G Here input said received k nodes (fresh_root p k (new_root p k n) read_at) refl (place (new_root p k n) refl) root) calls
+        (each_begun Old Old k.lives k.works now (fresh_root p k (new_root p k n) read_at) (draft.fresh_well E A G Here input said received said (fresh_root p k (new_root p k n) read_at) (no_work (new_root p k n)) refl refl) (λ y v live any is. is))
+    wells_on (steps.Counts_call {k = k} n s call counts step) granted ss news rooted nodes calls now =
+        wells_on step granted (counted_so k ss n) (counted_news (drafts.NewBorn E A G Here input said received) p input k n news) (no_call_came (counted k n) n s call) nodes calls now
+    wells_on (steps.Goes_back {k = k} x step goes next) granted ss news rooted nodes calls now =
+        wells_on next granted (back_so k ss x step) (back_news (drafts.NewBorn E A G Here input said received) p input k x step news) rooted nodes calls now
+    wells_on (steps.Pends {k = k} n l given call has live code writer step) granted ss news rooted nodes calls now =
         wells_on step granted (pends_so k ss n pending.Commit) (pends_news (drafts.NewBorn E A G Here input said received) p input k n given call news) (no_call_came (record k { sessions = with_call k.sessions n pending.Commit }) n (stmts.Commit given) call) nodes calls now
     wells_on (steps.Lets_reads_go {k = k} l comment b live begins step) granted ss news rooted nodes calls now =
         wells_on step granted (record { roots = ss.roots; above = ss.above }) (lets_news (drafts.NewBorn E A G Here input said received) p input k l.me news) rooted nodes calls now
@@ -258,7 +296,7 @@ module _ (E : BranchId → Option ℕ) (A : BranchId → Option BranchId) (G Her
     wells_on (steps.Sends {k = k} posts why) granted ss news rooted nodes calls now = draft.says_well E A G Here input said received k calls now why
     wells_on (steps.Runs {k = k} x s given t asked way) granted ss news rooted nodes calls now =
         let free : FreeOf x = turns.asked_free E A G Here input said received k ss nodes asked in
-        draft.answers_well E A G Here input said received k calls now (record x { live = after_run x.live (ran p k x.live.me s t) }) _ (drafts.asked_mine E A G Here input said received k asked)
+        draft.answers_well E A G Here input said received k calls now (branch_ran k.sessions x t (ran p k x.live.me s t)) _ (drafts.asked_mine E A G Here input said received k asked)
         (record { kids = free.kids; taken = free.taken; told = free.told; owes = free.owes; unanswered = free.unanswered; numbers = free.numbers; made = free.made; no_other = free.no_other; heard = free.heard })
         (asked_well k calls now ss nodes asked)
     wells_on (steps.Goes_nowhere {k = k} x s given r asked way) granted ss news rooted nodes calls now =
@@ -266,12 +304,12 @@ module _ (E : BranchId → Option ℕ) (A : BranchId → Option BranchId) (G Her
     wells_on (steps.Calls {k = k} x s given i table asked way) granted ss news rooted nodes calls now =
         let told = asked_well k calls now ss nodes asked in
         let goes = asked_goes k calls now ss nodes asked (λ none code. granted.grants x.live.me x.live (put_found live_id k.lives x.live) none code) in
-        draft.calls_over E A G Here input said received k calls now k.sessions x i (passed_on s table) given (drafts.asked_mine E A G Here input said received k asked) (turns.asked_free E A G Here input said received k ss nodes asked) (λ g j e other at. told g j e at)
+        draft.calls_over E A G Here input said received k calls now k.sessions x i (errands.Statement (passed_on s table) given) (drafts.asked_mine E A G Here input said received k asked) (turns.asked_free E A G Here input said received k ss nodes asked) (λ g j e other at. told g j e at)
         (told_at k calls now ss nodes x i goes told)
     wells_on (steps.Opens {k = k} x s given node link table asked way) granted ss news rooted nodes calls now =
         let free : FreeOf x = turns.asked_free E A G Here input said received k ss nodes asked in
         let told = asked_well k calls now ss nodes asked in
-        let says : List Post = post x.live.me (nobody_at node) (kinds.Open (next_edge x.live) x.live.root (x.live.depth + 1)) in (
+        let says : List Post = post x.live.me (nobody_at node) (kinds.Open (next_edge x.live) x.live.root (x.live.depth + 1) x.live.read_at) in (
           draft.put E A G Here input said received k calls now says x.live (waits_for_opened x link (passed_on s table) given).work (drafts.asked_mine E A G Here input said received k asked) (λ b other. idle_quiet says b (((λ n v is. is), refl), tt)) (record {
             held = λ goes j e at. inr (inl (well_more said says e.peer (call_at x.work j) e.weight (told goes j e at)));
             kept = λ gone v tells. (let some = gone.1 in let unanswered = free.unanswered in absurd (cc (some, unanswered)));
@@ -284,13 +322,21 @@ module _ (E : BranchId → Option ℕ) (A : BranchId → Option BranchId) (G Her
         let was : Begun x.live x.work = turns.branch_begun E A G Here input said received k nodes x opened.live in
         let even = was.turn.makes.numbers ∙ length_peers x.live.edges in
         let unanswered : x.work.came.reply ≡ None = was.turn.answered (λ none. (let some = opened.going in absurd (cc (none, some)))) in
-        draft.calls_over E A G Here input said received k calls now k.sessions (with_edge x (new_edge from link strength)) (length x.live.edges + 1) g.statement (g.room - 1) (work_is k x.live.me x opened.live) (opened_free E A G Here input said received k nodes x from strength g link opened)
+        draft.calls_over E A G Here input said received k calls now k.sessions (with_edge x (new_edge from link strength)) (length x.live.edges + 1) (less_room g.errand) (work_is k x.live.me x opened.live) (opened_free E A G Here input said received k nodes x from strength g link opened)
         (opened_well said (Goes x.live) x (found_old k calls now ss nodes x opened.live).held unanswered (new_edge from link strength) g link opened.going opened.waits even)
         (λ c at some. (let none : call_at (with_edge x (new_edge from link strength)).work (length x.live.edges + 1) ≡ 0 = no_call x.work.calls x.live.edges even in absurd (omega (arith, some, none))))
     wells_on (steps.Hears_reply {k = k} x weight count a i e answered) granted ss news rooted nodes calls now =
         reply_well welled k calls now ss nodes rooted x weight count a i e answered (λ none goes. granted.sees x.live.me goes)
-    wells_on (steps.Opens_branch {k = k} to parent edge root depth came new) granted ss news rooted nodes calls now =
-        draft.begun E A G Here input said received k calls now (post (next_child p k) parent (kinds.Opened edge (strength_of p k))) (((λ n v is. is), refl), tt) (fresh_live (next_child p k) root (Some parent) depth (strength_of p k)) refl
+    wells_on (steps.Backs {k = k} x step from i calling next) granted ss news rooted nodes calls now =
+        let told = calling_well welled k calls now ss nodes calling in
+        let mine = drafts.calling_mine E A G Here input said received k calling in
+        let goes : Goes x.live = drafts.waits_goes E A G Here input said received k x i (errands.GoBack step) mine granted in
+        draft.calls_over E A G Here input said received k calls now k.sessions x i (errands.GoBack step) mine (calling_free E A G Here input said received k ss nodes calling) (λ g j e other at. told g j e at)
+        (told_at k calls now ss nodes x i goes told)
+    wells_on (steps.Is_back {k = k} x step from calling none) granted ss news rooted nodes calls now =
+        draft.answers_well E A G Here input said received k calls now x _ (drafts.calling_mine E A G Here input said received k calling) (calling_free E A G Here input said received k ss nodes calling) (calling_well welled k calls now ss nodes calling)
+    wells_on (steps.Opens_branch {k = k} to parent edge root depth read_at came new) granted ss news rooted nodes calls now =
+        draft.begun E A G Here input said received k calls now (post (next_child p k) parent (kinds.Opened edge (strength_of p k))) (((λ n v is. is), refl), tt) (fresh_live (next_child p k) root (Some parent) depth (strength_of p k) read_at) refl
     wells_on (steps.Acts {k = k} l b a why) granted ss news rooted nodes calls now = acts_well k calls now ss nodes a why
     wells_on (steps.Drops_told {k = k} l live drops) granted ss news rooted nodes calls now = draft.left E A G Here input said received k calls now l.me _ (rolled l)
     wells_on (steps.Drops_asked {k = k} l from live came parent) granted ss news rooted nodes calls now = draft.left E A G Here input said received k calls now l.me _ (((λ n v is. is), refl), rolled l)
@@ -300,7 +346,13 @@ module _ (E : BranchId → Option ℕ) (A : BranchId → Option BranchId) (G Her
     wells_on (steps.Does {k = k} s from nexts.Forget kept why) granted ss news rooted nodes calls now = draft.quiet E A G Here input said received k calls now _ (each_says IsIdle s.me kinds.Forgotten (map (λ b. b.branch) (beyond s)) ((λ n v is. is), refl))
     wells_on (steps.Does {k = k} s from nexts.SayForgotten kept why) granted ss news rooted nodes calls now = draft.quiet E A G Here input said received k calls now _ (((λ n v is. is), refl), tt)
     wells_on (steps.Does {k = k} s from nexts.SayAck kept why) granted ss news rooted nodes calls now = draft.quiet E A G Here input said received k calls now _ (((λ n v is. is), refl), tt)
-    wells_on (steps.Rolls_back {k = k} n x call has live) granted ss news rooted nodes calls now = draft.left E A G Here input said received k calls now x.live.me _ (rolled x.live)
+    wells_on (steps.Leaves {k = k} n s d x call ends has live) granted ss news rooted nodes calls now = draft.left E A G Here input said received k calls now x.live.me _ (rolled x.live)
+    wells_on (steps.Sets_savepoint {k = k} n x name call has code live) granted ss news rooted nodes calls now =
+        let so : Then [] x.live x.work = draft.stay E A G Here input said received k calls now [] x.live x.work (λ n v is. is) (found_old k calls now ss nodes x live) in (
+          draft.put E A G Here input said received k calls now [] x.live (marked k.sessions x name).work (work_is k x.live.me x live) (λ b other n v is. is) (record { held = so.held; kept = so.kept; first = so.first }),
+          calls_stay said [] (λ a b. refl) calls,
+          (λ b none n v is. is),
+        )
     wells_on (steps.Gives_up {k = k} n x gives has pends live) granted ss news rooted nodes calls now =
         let was : Old x.live x.work = found_old k calls now ss nodes x live in
         let none : x.live.parent ≡ None = root_alone k ss n x.live.me has x.live (live_so k x.live.me x live) in

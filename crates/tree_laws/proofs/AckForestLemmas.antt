@@ -60,6 +60,7 @@ gone_before k (inputs.Message m) b gone = gone
 gone_before k (inputs.Call n s) b gone = gone
 gone_before k (inputs.GiveUp n) b gone = gone
 gone_before k inputs.Reco b gone = gone
+gone_before k inputs.Checkpoint b gone = gone
 
 -- ---- more events
 
@@ -161,7 +162,7 @@ module _ (t : History) (whole : IsLawfulRun t) where
 
     -- why each message is told
     pub whys : AllByRecursion (λ x. TellsSo e (heard k u.input) u.input d x.from x.to x.kind) d.says
-    whys = tells_on e (heard k u.input) (place_at t.places u.node) u.input (serves t.places f u k may).step (λ direct. refl) (subst (λ xs. RowsAre e xs) (sym (heard_rows k u.input)) rows)
+    whys = tells_on e (heard k u.input) (place_at t.places u.node) u.input (serves t.places f u k may).step (λ direct. refl) (λ no. refl) (subst (λ xs. RowsAre e xs) (sym (heard_rows k u.input)) rows)
 
     pub acks_allowed : (cut : Bool) → IsOwed (place_at t.places u.node) k u.input u.wrote u.sent cut → AllByRecursion (λ m. AckByForest p r m.from m.to m.kind) u.sent
     unfolding turn_of

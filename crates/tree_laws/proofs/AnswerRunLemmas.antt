@@ -42,12 +42,14 @@ heard_branch k (inputs.Message m) b x is = is
 heard_branch k (inputs.Call n s) b x is = is
 heard_branch k (inputs.GiveUp n) b x is = is
 heard_branch k inputs.Reco b x is = is
+heard_branch k inputs.Checkpoint b x is = is
 
 pub lives_heard : (k : NodeState) (input : Input) → (heard k input).lives ≡ k.lives
 lives_heard k (inputs.Message m) = refl
 lives_heard k (inputs.Call n s) = refl
 lives_heard k (inputs.GiveUp n) = refl
 lives_heard k inputs.Reco = refl
+lives_heard k inputs.Checkpoint = refl
 
 -- ---- more messages
 

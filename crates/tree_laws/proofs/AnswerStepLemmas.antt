@@ -6,7 +6,6 @@ use Rattle.std.proofs.lemmas.Bool.{cond_both, and_parts}
 use Rattle.tran_ids.proofs.BranchLemmas.{equal_from_same}
 use Rattle.session_tree.specs.Live.{new_edge}
 use Rattle.node_rules.specs.Data.{BranchId, Edge, Vote, Live, Act, Phase, Post, Place, Input}
-use Rattle.node_rules.specs.Data.acts
 use Rattle.node_rules.specs.Data.kinds
 use Rattle.node_rules.specs.Data.phases
 use Rattle.node_rules.specs.Data.votes
@@ -14,7 +13,7 @@ use Rattle.node_rules.specs.declared.work.Going.{Going}
 use Rattle.node_rules.specs.Words.{same, numbered, set_numbered}
 use Rattle.node_rules.specs.Inputs.{Came}
 use Rattle.node_rules.specs.NodeState.{NodeState, Branch, TurnDraft, live_id, live_at, branch_at}
-use Rattle.node_rules.specs.Prepare.{with_prepare_sent, ready, voted, has_voted, is_awaited, answers_first}
+use Rattle.node_rules.specs.Prepare.{with_prepare_sent, voted, has_voted, is_awaited, answers_first}
 use Rattle.node_rules.proofs.Steps.{Step, Answers, Acting, vote_kind}
 use Rattle.run_branch_laws.specs.WalkLaws.{is_below, was_sent}
 use Rattle.run_rules.proofs.ListLemmas.{all_weaker, all_append, all_map, all_each}
@@ -78,7 +77,9 @@ module _ (said : List Post) (p : Place) (input : Input) (came_ready : (from to :
 
   opens_lasts : LastsInTurn p input OpensAtWork
   opens_lasts = record {
-    begun = λ k n s call rows free works from to edge strength came. absurd (came_apart n s came call);
+    begun = λ k n s read_at call begins free works from to edge strength came. absurd (came_apart n s came call);
+    counts = λ k n s call counts works. works;
+    backs = λ k x step goes works. works;
     pends = λ k n l given call has works. works;
     lets = λ k b works. works;
     acked = λ k s from kept came works. works;
@@ -87,10 +88,11 @@ module _ (said : List Post) (p : Place) (input : Input) (came_ready : (from to :
   each : LiveCases p input OpensAtWork (λ d. Unit {0}) Told
   each = record {
     lasts = opens_lasts;
-    root = λ k n s call rows free works. tt;
-    child = λ k to parent edge root depth came new works. tt;
+    root = λ k n s read_at call begins free works. tt;
+    child = λ k to parent edge root depth read_at came new works. tt;
     advised = λ l advice so. so;
     runs = λ k x s t so. so;
+    backs = λ l changed so. so;
     opens = λ k x from strength g link opened works so.
         (let working : x.live.phase ≡ phases.Working = works from x.live.me opened.edge strength opened.came x g opened.live opened.going in
         all_append (EdgeTold said x.live.me x.live.phase) x.live.edges (new_edge from link strength ∷ []) so (record { ready = λ is. absurd cc; asked = λ other. absurd (other working) }, tt));

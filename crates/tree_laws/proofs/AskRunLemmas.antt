@@ -108,8 +108,8 @@ module _ (places : List Place) (asked : List Command) (each : (n : ℕ) (p : Pla
 
       pub news : News Unasking p u.input (heard k u.input)
       news = record {
-        root = λ m s call rows none. ((calls.news places asked each f t bs stand roots turned u k may).root m s call rows none, silent.root m s call rows none);
-        child = λ to parent edge root depth came none. ((calls.news places asked each f t bs stand roots turned u k may).child to parent edge root depth came none, silent.child to parent edge root depth came none);
+        root = λ m s read_at call begins none. ((calls.news places asked each f t bs stand roots turned u k may).root m s read_at call begins none, silent.root m s read_at call begins none);
+        child = λ to parent edge root depth read_at came none. ((calls.news places asked each f t bs stand roots turned u k may).child to parent edge root depth read_at came none, silent.child to parent edge root depth read_at came none);
       }
 
       pub sent : (from to : BranchId) (b : Bool) (comment : List ℕ) → Came u.input from to (kinds.Prepare b comment) → was_sent (tells b) said from to ≡ true

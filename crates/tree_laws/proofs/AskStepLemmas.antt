@@ -1,6 +1,6 @@
 -- Each step of a node leaves live branches collecting as their parents told them, and asks children in the name of collecting
 -- branches alone.
-use Rattle.std.proofs.Common.{◌≡◌, ◌≢◌, ℕ, zero, suc, ◌+◌, ◌-◌, Bool, true, false, List, [], ◌∷◌, ◌++◌, map, length, Option, Some, None, inl, inr, refl, sym, ap, subst, subst₂, ◌∙◌, arith}
+use Rattle.std.proofs.Common.{◌≡◌, ◌≢◌, ℕ, zero, suc, ◌+◌, Bool, true, false, List, [], ◌∷◌, ◌++◌, map, length, Option, Some, None, inl, inr, refl, sym, ap, subst, subst₂, ◌∙◌, arith}
 use Rattle.std.proofs.lemmas.Bool.{cond_both}
 use Rattle.tran_ids.proofs.BranchLemmas.{equal_from_same}
 use Rattle.tran_ids.proofs.ListedLemmas.{put_found}
@@ -14,6 +14,8 @@ use Rattle.node_rules.specs.Data.kinds
 use Rattle.node_rules.specs.Data.phases
 use Rattle.node_rules.specs.Data.stmts
 use Rattle.node_rules.specs.Data.votes
+use Rattle.node_rules.specs.declared.work.Errand.{Errand}
+use Rattle.node_rules.specs.declared.work.Errand.TheVariants as errands
 use Rattle.node_rules.specs.declared.session.Session.{Session}
 use Rattle.node_rules.specs.declared.session.PendingCall.TheVariants as pending
 use Rattle.node_rules.specs.declared.work.Work.{Work}
@@ -21,9 +23,9 @@ use Rattle.node_rules.specs.Words.{same, numbered, item_at, put_item, drop_item}
 use Rattle.node_rules.specs.Inputs.{Came, IsCall}
 use Rattle.node_rules.specs.NodeState.{NodeState, Branch, TurnDraft, live_id, work_id, live_at, post, to_one, to_each}
 use Rattle.node_rules.specs.Names.{passed_on}
-use Rattle.node_rules.specs.Statement.{ran, after_run}
-use Rattle.node_rules.specs.Calls.{with_answer, answer_says, called, exec_to, next_child, strength_of, with_edge, waits_for_opened, hears_reply, nobody_at}
-use Rattle.node_rules.specs.Client.{new_root, fresh_root, gives_up}
+use Rattle.node_rules.specs.Statement.{ran}
+use Rattle.node_rules.specs.Calls.{with_answer, answer_says, called, exec_to, next_child, strength_of, with_edge, waits_for_opened, hears_reply, nobody_at, branch_ran, less_room}
+use Rattle.node_rules.specs.Client.{new_root, fresh_root, gives_up, marked}
 use Rattle.node_rules.specs.Prepare.{path_of, prepares, site_neighbors, with_prepare_sent, has_voted, answers_first, ready, collecting, with_comment, voted, act_turn}
 use Rattle.node_rules.specs.Commit.{beyond}
 use Rattle.node_rules.specs.Recovery.{kept_told}
@@ -35,10 +37,10 @@ use Rattle.run_branch_laws.specs.WalkLaws.{is_below, was_sent}
 use Rattle.run_rules.proofs.ListLemmas.{all_append, map_after}
 use Rattle.node_rules.specs.LiveBranches.{EachLive, works_of}
 use Rattle.node_rules.proofs.LiveLemmas.{each_put, each_changed, each_left, each_begun, each_same, branch_parts, work_is}
-use Rattle.run_base_laws.proofs.RootLemmas.{SessionsFit, root_alone, pends_so, begun_so}
+use Rattle.run_base_laws.proofs.RootLemmas.{SessionsFit, root_alone, pends_so, begun_so, counted_so, back_so}
 use Rattle.run_base_laws.proofs.RestStepLemmas.{going_of}
 use Rattle.run_base_laws.proofs.NeighborLemmas.{News}
-use Rattle.run_base_laws.proofs.NeighborStepLemmas.{begun_news, pends_news, lets_news, acked_news}
+use Rattle.run_base_laws.proofs.NeighborStepLemmas.{begun_news, pends_news, lets_news, acked_news, counted_news, back_news}
 use Rattle.run_base_laws.proofs.KindSayLemmas.{AllSay, one_says, each_says, told_says, passes_say, askings_say}
 use Rattle.run_base_laws.proofs.InTurnLemmas as turns
 use Rattle.run_base_laws.proofs.InTurnStepLemmas as drafts
@@ -73,9 +75,9 @@ pub answer_plain : (x : Branch) (a : Answer) (o : Option BranchId) → AllSay Is
 answer_plain x a None = tt
 answer_plain x a (Some parent) = (refl, tt)
 
-pub exec_plain : (ss : List Session) (x : Branch) (i : ℕ) (s : Stmt) (given : ℕ) (o : Option BranchId) → AllSay IsPlain (exec_to ss x i s given o)
-exec_plain ss x i s given None = tt
-exec_plain ss x i s given (Some c) = (refl, tt)
+pub exec_plain : (ss : List Session) (x : Branch) (i : ℕ) (e : Errand) (o : Option BranchId) → AllSay IsPlain (exec_to ss x i e o)
+exec_plain ss x i e None = tt
+exec_plain ss x i e (Some c) = (refl, tt)
 
 rolled : (l : Live) → AllSay IsPlain (to_each l.me kinds.Rollback (children_of l))
 rolled l = each_says IsPlain l.me kinds.Rollback (children_of l) refl
@@ -148,11 +150,11 @@ module _ (E : BranchId → Option ℕ) (A : BranchId → Option BranchId) (G Her
     answers k now x a after mine working =
         let plain = answer_plain x a x.live.parent in (works k now (answer_says x a x.live.parent) x.live (with_answer x a).work mine plain working, plain_askers Here (answer_says x a x.live.parent) after plain)
 
-    calls : (k : NodeState) → Olds k → (x : Branch) (i : ℕ) (s : Stmt) (given : ℕ) (ss : List Session) (after : NodeState) → x.work.branch ≡ x.live.me → x.live.phase ≡ phases.Working
-        → EachLive (Then (exec_to ss x i s given (peer_of x.live i))) (put_item live_id k.lives x.live) (put_item work_id k.works (called x i s given).work) × Askers Here (exec_to ss x i s given (peer_of x.live i)) after
-    calls k now x i s given ss after mine working =
-        let says : List Post = exec_to ss x i s given (peer_of x.live i) in
-        let plain = exec_plain ss x i s given (peer_of x.live i) in (works k now says x.live (called x i s given).work mine plain working, plain_askers Here says after plain)
+    calls : (k : NodeState) → Olds k → (x : Branch) (i : ℕ) (e : Errand) (ss : List Session) (after : NodeState) → x.work.branch ≡ x.live.me → x.live.phase ≡ phases.Working
+        → EachLive (Then (exec_to ss x i e (peer_of x.live i))) (put_item live_id k.lives x.live) (put_item work_id k.works (called ss x i e).work) × Askers Here (exec_to ss x i e (peer_of x.live i)) after
+    calls k now x i e ss after mine working =
+        let says : List Post = exec_to ss x i e (peer_of x.live i) in
+        let plain = exec_plain ss x i e (peer_of x.live i) in (works k now says x.live (called ss x i e).work mine plain working, plain_askers Here says after plain)
 
     begun : (k : NodeState) → Olds k → (says : List Post) → AllSay IsPlain says → (l : Live) → l.phase ≡ phases.Working → EachLive (Then says) (k.lives ++ l ∷ []) k.works
     begun k now says plain l working =
@@ -163,7 +165,7 @@ module _ (E : BranchId → Option ℕ) (A : BranchId → Option BranchId) (G Her
     module _ (k : NodeState) (ss : SessionsFit k) (nodes : Nodes k) (ice : Ices k) (now : Olds k) where
       -- a branch begins its collect as its parent told it, and was working
       collects_told : {comment : List ℕ} {b : Bool} (l : Live) → live_at k l.me ≡ Some l → Collects k input l comment b → (q : BranchId) → l.parent ≡ Some q → was_sent (tells b) said q l.me ≡ true
-      collects_told l live (steps.By_commit n given call has free is) q above = let none : l.parent ≡ None = root_alone k ss n l.me has l live in absurd (cc (none, above))
+      collects_told l live (steps.By_commit n given call has free writer is) q above = let none : l.parent ≡ None = root_alone k ss n l.me has l live in absurd (cc (none, above))
       collects_told {comment = comment} l live (steps.By_prepare from b came working) q above =
           let parent : l.parent ≡ Some from = (nodes.each l.me l live).above from (prepared.came from l.me b comment came).0 in
           let it : Some from ≡ Some q = sym parent ∙ above in
@@ -171,13 +173,13 @@ module _ (E : BranchId → Option ℕ) (A : BranchId → Option BranchId) (G Her
           subst (λ a. was_sent (tells b) said a l.me ≡ true) here (sent from l.me b comment came)
 
       collects_working : {comment : List ℕ} {b : Bool} (l : Live) → live_at k l.me ≡ Some l → Collects k input l comment b → l.phase ≡ phases.Working
-      collects_working l live (steps.By_commit n given call has free is) =
+      collects_working l live (steps.By_commit n given call has free writer is) =
           (ice.each l.me l live).calls (root_alone k ss n l.me has l live) (stmts.Commit given) (subst (λ m. IsCall input m (stmts.Commit given)) (sym (ss.roots.each n l.me has)) call)
       collects_working l live (steps.By_prepare from b came working) = working
 
       -- the walk comes to a root
       collects_root : {comment : List ℕ} {b : Bool} (l : Live) → live_at k l.me ≡ Some l → Collects k input l comment b → l.parent ≡ None → Some b ≢ Some false
-      collects_root l live (steps.By_commit n given call has free is) none at = absurd cc
+      collects_root l live (steps.By_commit n given call has free writer is) none at = absurd cc
       collects_root {comment = comment} l live (steps.By_prepare from b came working) none at =
           let parent : l.parent ≡ Some from = (nodes.each l.me l live).above from (prepared.came from l.me b comment came).0 in absurd (cc (parent, none))
 
@@ -305,15 +307,15 @@ module _ (E : BranchId → Option ℕ) (A : BranchId → Option BranchId) (G Her
     -- ---- every step
 
     says_told : (k : NodeState) → Olds k → {says : List Post} → Says k input says → AllSay IsPlain says
-    says_told k now (steps.Gone_replies to from call given advice s came gone) = (refl, tt)
-    says_told k now (steps.Replies_again x to call given advice s t came live last kept) = (refl, tt)
+    says_told k now (steps.Gone_replies to from call task came gone) = (refl, tt)
+    says_told k now (steps.Replies_again x to call task t came live last kept) = (refl, tt)
     says_told k now (steps.Tells s from came kept) = (told_says IsPlain plain_decisions (kept_told s from), tt)
     says_told k now (steps.Recovers reco) = askings_say IsPlain plain_decisions k
     says_told k now (steps.Gone_aborts to from b comment came gone) = (refl, tt)
     says_told k now (steps.Gone_rolls_back to from came gone) = (refl, tt)
     says_told k now (steps.Gone_acks to from n came gone) = (refl, tt)
     says_told k now (steps.Gone_forgets to from came gone) = (refl, tt)
-    says_told k now (steps.Opened_again to parent edge root depth o came found) = (refl, tt)
+    says_told k now (steps.Opened_again to parent edge root depth read_at o came found) = (refl, tt)
     says_told k now (steps.Prepared_again s from b comment came kept again) = (refl, tt)
     says_told k now (steps.Knows_commit s from n came kept knows) = (refl, tt)
     says_told k now (steps.Knows_rollback s from came kept knows) = (refl, tt)
@@ -328,32 +330,38 @@ module _ (E : BranchId → Option ℕ) (A : BranchId → Option BranchId) (G Her
       works_on {k = k} ss nodes ice x asked = frost.asked_works E A G Here input said received prepared k ss nodes ice asked
 
       pub told_on : {k : NodeState} {d : TurnDraft} → Step p input k d → SessionsFit k → News (frost.Unasking E A G Here input said received) p input k → Nodes k → Ices k → Olds k → Leaves d
-      told_on (steps.Begins {k = k} n s call rows range none step) ss news nodes ice now =
-          let root = news.root n s call rows none in
-          told_on step (begun_so k ss p n) (begun_news (frost.Unasking E A G Here input said received) p input k n news)
-          (drafts.begins_so E A G Here input said received k nodes (fresh_root p k (new_root p k n)) refl (place (new_root p k n) refl) root.0)
-          (frost.begins_ice E A G Here input said received prepared k ice (fresh_root p k (new_root p k n)) refl root.1)
-          (each_begun Old Old k.lives k.works now (fresh_root p k (new_root p k n)) (working_told said (new_root p k n) None phases.Working [] _ refl) (λ y v live any is. is))
-      told_on (steps.Pends {k = k} n l given call has live code step) ss news nodes ice now = told_on step (pends_so k ss n pending.Commit) (pends_news (frost.Unasking E A G Here input said received) p input k n given call news) nodes ice now
+      told_on (steps.Begins {k = k} n s read_at call begins range none step) ss news nodes ice now =
+          let root = news.root n s read_at call begins none in
+          told_on step (begun_so k ss p n read_at) (begun_news (frost.Unasking E A G Here input said received) p input k n read_at news)
+          (drafts.begins_so E A G Here input said received k nodes (fresh_root p k (new_root p k n) read_at) refl (place (new_root p k n) refl) root.0)
+          (frost.begins_ice E A G Here input said received prepared k ice (fresh_root p k (new_root p k n) read_at) refl root.1)
+          (each_begun Old Old k.lives k.works now (fresh_root p k (new_root p k n) read_at) (working_told said (new_root p k n) None phases.Working [] _ refl) (λ y v live any is. is))
+      told_on (steps.Counts_call {k = k} n s call counts step) ss news nodes ice now = told_on step (counted_so k ss n) (counted_news (frost.Unasking E A G Here input said received) p input k n news) nodes ice now
+      told_on (steps.Goes_back {k = k} x step goes next) ss news nodes ice now = told_on next (back_so k ss x step) (back_news (frost.Unasking E A G Here input said received) p input k x step news) nodes ice now
+      told_on (steps.Pends {k = k} n l given call has live code writer step) ss news nodes ice now = told_on step (pends_so k ss n pending.Commit) (pends_news (frost.Unasking E A G Here input said received) p input k n given call news) nodes ice now
       told_on (steps.Lets_reads_go {k = k} l comment b live begins step) ss news nodes ice now = told_on step (record { roots = ss.roots; above = ss.above }) (lets_news (frost.Unasking E A G Here input said received) p input k l.me news) nodes ice now
       told_on (steps.Counts_ack {k = k} s from kept came counts step) ss news nodes ice now = told_on step (record { roots = ss.roots; above = ss.above }) (acked_news (frost.Unasking E A G Here input said received) p input k _ news) nodes ice now
       told_on (steps.Sends {k = k} posts why) ss news nodes ice now = same_lives k now posts _ (says_told k now why)
       told_on (steps.Runs {k = k} x s given t asked way) ss news nodes ice now =
-          answers k now (record x { live = after_run x.live (ran p k x.live.me s t) }) _ _ (drafts.asked_mine E A G Here input said received k asked) (works_on ss nodes ice x asked)
+          answers k now (branch_ran k.sessions x t (ran p k x.live.me s t)) _ _ (drafts.asked_mine E A G Here input said received k asked) (works_on ss nodes ice x asked)
       told_on (steps.Goes_nowhere {k = k} x s given r asked way) ss news nodes ice now = answers k now x _ _ (drafts.asked_mine E A G Here input said received k asked) (works_on ss nodes ice x asked)
-      told_on (steps.Calls {k = k} x s given i table asked way) ss news nodes ice now = calls k now x i (passed_on s table) given k.sessions _ (drafts.asked_mine E A G Here input said received k asked) (works_on ss nodes ice x asked)
+      told_on (steps.Calls {k = k} x s given i table asked way) ss news nodes ice now = calls k now x i (errands.Statement (passed_on s table) given) k.sessions _ (drafts.asked_mine E A G Here input said received k asked) (works_on ss nodes ice x asked)
       told_on (steps.Opens {k = k} x s given node link table asked way) ss news nodes ice now =
-          let says : List Post = post x.live.me (nobody_at node) (kinds.Open (next_edge x.live) x.live.root (x.live.depth + 1)) in
+          let says : List Post = post x.live.me (nobody_at node) (kinds.Open (next_edge x.live) x.live.root (x.live.depth + 1) x.live.read_at) in
           (works k now says x.live (waits_for_opened x link (passed_on s table) given).work (drafts.asked_mine E A G Here input said received k asked) (refl, tt) (works_on ss nodes ice x asked), plain_askers Here says _ (refl, tt))
       told_on (steps.Goes_on {k = k} x from strength g link opened) ss news nodes ice now =
-          calls k now (with_edge x (new_edge from link strength)) (length x.live.edges + 1) g.statement (g.room - 1) k.sessions _ (work_is k x.live.me x opened.live)
+          calls k now (with_edge x (new_edge from link strength)) (length x.live.edges + 1) (less_room g.errand) k.sessions _ (work_is k x.live.me x opened.live)
           (frost.waits_working E A G Here input said received prepared k ss nodes ice x g opened.live opened.going)
       told_on (steps.Hears_reply {k = k} x weight count a i e answered) ss news nodes ice now =
           let g = going_of x answered.from answered.call i e answered.waits in
           answers k now (hears_reply x i weight count e) _ _ (work_is k x.live.me x answered.live) (frost.waits_working E A G Here input said received prepared k ss nodes ice x g.0 answered.live g.1)
-      told_on (steps.Opens_branch {k = k} to parent edge root depth came new) ss news nodes ice now =
+      told_on (steps.Backs {k = k} x step from i calling next) ss news nodes ice now =
+          calls k now x i (errands.GoBack step) k.sessions _ (drafts.calling_mine E A G Here input said received k calling) (frost.calling_working E A G Here input said received prepared k ss nodes ice calling)
+      told_on (steps.Is_back {k = k} x step from calling none) ss news nodes ice now =
+          answers k now x _ _ (drafts.calling_mine E A G Here input said received k calling) (frost.calling_working E A G Here input said received prepared k ss nodes ice calling)
+      told_on (steps.Opens_branch {k = k} to parent edge root depth read_at came new) ss news nodes ice now =
           let says : List Post = post (next_child p k) parent (kinds.Opened edge (strength_of p k)) in
-          (begun k now says (refl, tt) (fresh_live (next_child p k) root (Some parent) depth (strength_of p k)) refl, plain_askers Here says _ (refl, tt))
+          (begun k now says (refl, tt) (fresh_live (next_child p k) root (Some parent) depth (strength_of p k) read_at) refl, plain_askers Here says _ (refl, tt))
       told_on (steps.Acts {k = k} l b a why) ss news nodes ice now = acts_told k ss nodes ice now a why
       told_on (steps.Drops_told {k = k} l live drops) ss news nodes ice now = (left k now l.me _ (rolled l), plain_askers Here _ _ (rolled l))
       told_on (steps.Drops_asked {k = k} l from live came parent) ss news nodes ice now = (left k now l.me _ (refl, rolled l), plain_askers Here _ _ (refl, rolled l))
@@ -363,7 +371,9 @@ module _ (E : BranchId → Option ℕ) (A : BranchId → Option BranchId) (G Her
       told_on (steps.Does {k = k} s from nexts.Forget kept why) ss news nodes ice now = same_lives k now _ _ (each_says IsPlain s.me kinds.Forgotten (map (λ b. b.branch) (beyond s)) refl)
       told_on (steps.Does {k = k} s from nexts.SayForgotten kept why) ss news nodes ice now = same_lives k now _ _ (refl, tt)
       told_on (steps.Does {k = k} s from nexts.SayAck kept why) ss news nodes ice now = same_lives k now _ _ (refl, tt)
-      told_on (steps.Rolls_back {k = k} n x call has live) ss news nodes ice now = (left k now x.live.me _ (rolled x.live), plain_askers Here _ _ (rolled x.live))
+      told_on (steps.Leaves {k = k} n s d x call ends has live) ss news nodes ice now = (left k now x.live.me _ (rolled x.live), plain_askers Here _ _ (rolled x.live))
+      told_on (steps.Sets_savepoint {k = k} n x name call has code live) ss news nodes ice now =
+          (put k now [] x.live (marked k.sessions x name).work (work_is k x.live.me x live) tt (now.each x.live.me x.live (branch_parts k x.live.me x live).0), plain_askers Here [] _ tt)
       told_on (steps.Gives_up {k = k} n x gives has calls live) ss news nodes ice now =
           (put k now [] x.live (gives_up x).work (work_is k x.live.me x live) tt (now.each x.live.me x.live (branch_parts k x.live.me x live).0), plain_askers Here [] _ tt)
       told_on (steps.Gives_up_commit {k = k} n b (Some l) gives has calls live) ss news nodes ice now = (left k now l.me _ (rolled l), plain_askers Here _ _ (rolled l))

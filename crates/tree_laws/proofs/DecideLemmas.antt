@@ -13,7 +13,7 @@ use Rattle.node_rules.proofs.Steps.{HasRoot}
 use Rattle.node_rules.proofs.StandLemmas.{live_so}
 use Rattle.prepare_phase.specs.Acts.{is_awaited}
 use Rattle.tree_laws.proofs.VoterLemmas.{mapped_at}
-use Rattle.run_rules.specs.Data.{Turn, Happening}
+use Rattle.run_rules.specs.Data.{Happening}
 use Rattle.run_rules.specs.Data.happenings
 use Rattle.run_rules.specs.Facts.{first_facts, place_at, node_at, kept_after, facts_after}
 use Rattle.run_rules.specs.Lawful.{MayHappen, History, IsLawfulRun, facts_at}
@@ -108,7 +108,7 @@ module _ (t : History) (whole : IsLawfulRun t) (r : BranchId) (found : WasFound 
   unfolding turn_of
   asked_so w is me =
       let live : live_at (draft_of (place_at t.places u.node) k u.input).after x.live.me ≡ Some w.live = subst (λ b. live_at (draft_of (place_at t.places u.node) k u.input).after b ≡ Some w.live) me (live_so (draft_of (place_at t.places u.node) k u.input).after w.live.me w is) in
-      let so = commit_leaves (place_at t.places u.node) k at.session at.given x (subst (λ b. HasRoot k at.session b) (sym at.is_me) at.root) at.found at.code w.live
+      let so = commit_leaves (place_at t.places u.node) k at.session at.given x (subst (λ b. HasRoot k at.session b) (sym at.is_me) at.root) at.found at.code at.writes w.live
       (subst (λ (i : Input). live_at (draft_of (place_at t.places u.node) k i).after x.live.me ≡ Some w.live) at.call live) in
       (record { peers = so.0; weights = so.1; changed = so.2 }, so.3)
 
@@ -348,6 +348,9 @@ module _ (t : History) (whole : IsLawfulRun t) where
       up = subst (λ i. node_at (f_at t found.before) i ≡ Some found.commit.kept) (sym found.commit.node) found.commit.up;
       has = found.commit.root;
       accepted = found.commit.code;
+      writes = λ l live. (let both : Some found.commit.branch.live ≡ Some l = sym (subst (λ b. live_at found.commit.kept b ≡ Some found.commit.branch.live) found.commit.is_me (live_so found.commit.kept found.commit.branch.live.me found.commit.branch found.commit.found)) ∙ live in
+          let it : found.commit.branch.live ≡ l = cc in
+          sym (ap (λ (y : Live). y.read_at) it) ∙ found.commit.writes);
       walk = walk_down;
       planned = λ tr sees. (
         site_seen t whole found.before part_found r (asked_well t whole b n decided r inside) tr sees root_low found.commit.branch member found.commit.is_me high b walk_down,

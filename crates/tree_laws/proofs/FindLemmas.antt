@@ -46,7 +46,7 @@ use Rattle.tree_laws.proofs.SealLemmas.{later_unsealed}
 use Rattle.tree_laws.proofs.SettleRunLemmas.{known}
 use Rattle.tree_laws.proofs.SiteLemmas.{wrote_decision, later_undecided}
 use Rattle.tree_laws.specs.LeaveLaws.{Begins_by, LeftSo}
-use Rattle.tree_laws.proofs.CommitLemmas.{Ends_record, Commits_root, commit_changes, commit_writes}
+use Rattle.tree_laws.proofs.CommitLemmas.{Ends_record, Commits_root, CommitTurns, Is_other, Is_committed, Is_reader, commit_changes, commit_writes}
 use Rattle.tree_laws.proofs.FateLemmas.{node_back, drops_alone}
 use Rattle.tree_laws.proofs.LeaveLemmas.{messages_exit, all_quiet, wrote_quiet, was_there}
 use Rattle.tree_laws.proofs.TimeLemmas.{may_of, fact_at, exit_end, born_end, keep_on}
@@ -70,6 +70,7 @@ module _ (t : History) (whole : IsLawfulRun t) (r : BranchId) where
     pub call : IsCall u.input session (stmts.Commit given)
     pub root : HasRoot kept session r
     pub code : (session_at kept.sessions session).code ≡ None
+    pub writes : branch.live.read_at ≡ None
 
   -- so it was before these happenings
   pub record WasFound (hs : List Happening) : Type 0 where
@@ -120,6 +121,7 @@ module _ (t : History) (whole : IsLawfulRun t) (r : BranchId) where
             call = call;
             root = subst (HasRoot k n) root.2 root.3;
             code = root.4;
+            writes = root.5;
           }
 
       -- no Prepare comes to a root
@@ -155,9 +157,9 @@ module _ (t : History) (whole : IsLawfulRun t) (r : BranchId) where
           let its : node_at g r.node ≡ None = subst (λ (y : Happening). node_at (facts_after t.places t.commands f y) r.node ≡ None) (sym turn) there in
           subst (λ x. node_at x r.node ≡ None) (sym (one_on t hs h)) its
 
-      changes : (n : ℕ) (given : Option (List ℕ)) → IsCall u.input n (stmts.Commit given) → (live_at d.after r ≡ live_at k r) ⊎ Commits_root k n (unwrap_or given []) r
+      changes : (n : ℕ) (given : Option (List ℕ)) → IsCall u.input n (stmts.Commit given) → CommitTurns k n (unwrap_or given []) r d
       changes n given call =
-          subst (λ (i : Input). (live_at (draft_of (place_at t.places u.node) k i).after r ≡ live_at k r) ⊎ Commits_root k n (unwrap_or given []) r) (sym call) (commit_changes (place_at t.places u.node) k n given r)
+          subst (λ (i : Input). CommitTurns k n (unwrap_or given []) r (draft_of (place_at t.places u.node) k i)) (sym call) (commit_changes (place_at t.places u.node) k n given r)
 
       -- a live root that is not working afterwards
       busy_commits : (l : Live) → live_at d.after r ≡ Some l → l.phase ≢ phases.Working → CommitAt hs u
@@ -169,8 +171,9 @@ module _ (t : History) (whole : IsLawfulRun t) (r : BranchId) where
           elim (why (λ z at. works k z up (subst (λ b. live_at k b ≡ Some z) me at))) [
             | inl working ↦ absurd (other working)
             | inr begins ↦ begun (subst (Begins_by u.input) me begins) (λ n given call. elim (changes n given call) [
-              | inr root ↦ root
-              | inl same ↦ absurd (other (works k l up (sym same ∙ live)))
+              | Is_committed root ↦ root
+              | Is_other same ↦ absurd (other (works k l up (sym same ∙ live)))
+              | Is_reader gone loud ↦ absurd (cc (gone, live))
             ])
           ]
 
@@ -191,11 +194,13 @@ module _ (t : History) (whole : IsLawfulRun t) (r : BranchId) where
 
       -- one that answers without changes
       quiet_commits : (cut : Bool) → u.cut ≡ cut → IsOwed (place_at t.places u.node) k u.input u.wrote u.sent cut → list_any (is_quiet r) u.sent ≡ true → exit (e_at t after) r ≡ Some Quiet → LeftSo k u.input (said_in f) r Quiet → CommitAt hs u
+      unfolding turn_of
       quiet_commits true cut owed quiet left so = (let no : list_any (is_quiet r) u.sent ≡ false = ap (λ (ms : List Msg). list_any (is_quiet r) ms) owed.1 in absurd (cc (quiet, no)))
       quiet_commits false cut owed quiet left so =
           begun (left_begins so) (λ n given call. elim (changes n given call) [
-            | inr root ↦ root
-            | inl same ↦ (let live : live_at d.after r ≡ Some so.live = same ∙ subst (λ b. live_at k b ≡ Some so.live) so.is_me so.found in
+            | Is_committed root ↦ root
+            | Is_reader gone loud ↦ (let no : list_any (is_quiet r) u.sent ≡ false = ap (λ (ms : List Msg). list_any (is_quiet r) ms) owed.1 ∙ loud d.after.clock in absurd (cc (quiet, no)))
+            | Is_other same ↦ (let live : live_at d.after r ≡ Some so.live = same ∙ subst (λ b. live_at k b ≡ Some so.live) so.is_me so.found in
                 let clean : exit (e_at t after) so.live.me ≡ None = all_found (λ (l : Live). exit (e_at t after) l.me ≡ None) live_id d.after.lives r so.live (nodes_are_as_events (so_far t after) lawful_z r.node d.after (whole_after cut)).0 live in
                 let none_left : exit (e_at t after) r ≡ None = subst (λ b. exit (e_at t after) b ≡ None) so.is_me clean in
                 absurd (cc (none_left, left)))

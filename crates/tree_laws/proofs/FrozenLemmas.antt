@@ -12,7 +12,7 @@ use Rattle.node_rules.specs.Words.{numbered}
 use Rattle.node_rules.specs.NodeState.{NodeState, Branch, branch_at}
 use Rattle.node_rules.proofs.StandLemmas.{live_so}
 use Rattle.run_rules.specs.Data.{Happening}
-use Rattle.run_rules.specs.Facts.{place_at, node_at}
+use Rattle.run_rules.specs.Facts.{node_at}
 use Rattle.run_rules.specs.Lawful.{History, IsLawfulRun, facts_at}
 use Rattle.run_base_laws.specs.InTurnLaws.{said_in, NeedsNoRollback}
 use Rattle.run_base_laws.specs.FreezeLaws.{was_asked}
@@ -34,10 +34,10 @@ use Rattle.tree_laws.proofs.AskRunLemmas.{edges_asked, paths_are_told, run_asks}
 use Rattle.tree_laws.proofs.PrefixLemmas.{so_far, f_at, e_at, one_on, more_on}
 use Rattle.tree_laws.specs.LeaveLaws.{EndsAs, LeavesSo}
 use Rattle.tree_laws.specs.RestLaws.{Rests, SameTree}
-use Rattle.tree_laws.specs.WeighLaws.{ChildRests}
+use Rattle.tree_laws.specs.WeighLaws.{BeganWith, ChildRests}
 use Rattle.tree_laws.proofs.FateLemmas.{Fate, Stays, Leaves, fate_of}
-use Rattle.tree_laws.proofs.StrengthLemmas.{lives_have_strength}
-use Rattle.tree_laws.proofs.TimeLemmas.{Part, part_lawful, may_of, exit_end, sent_end}
+use Rattle.tree_laws.proofs.StrengthLemmas.{same_start, lives_have_strength}
+use Rattle.tree_laws.proofs.TimeLemmas.{Part, part_lawful, may_of, exit_end, sent_end, born_end}
 use Rattle.tree_laws.proofs.WeighLemmas.{children_weigh, child_parent}
 use Rattle.tree_laws.proofs.AtTurn.{at_happening}
 
@@ -100,10 +100,18 @@ module _ (t : History) (whole : IsLawfulRun t) where
     pub up : node_at (f_at t hs) x.live.me.node ≡ Some kept
     pub found : branch_at kept x.live.me ≡ Some x
 
-  pub strength_at : (hs : List Happening) → Part t whole hs → (x : Branch) → Found hs x → x.live.strength ≡ (place_at t.places x.live.me.node).strength
-  strength_at hs part x is = lives_have_strength (so_far t hs) (part_lawful t whole hs part) x.live.me.node is.kept is.up x is.found
+  -- it began with its strength
+  pub strength_at : (hs : List Happening) → Part t whole hs → (x : Branch) → Found hs x → BeganWith (births_of t) x.live.me x.live.strength x.live.read_at
+  strength_at hs part x is =
+      let so = lives_have_strength (so_far t hs) (part_lawful t whole hs part) x.live.me.node is.kept is.up x is.found in
+      record { born = so.born; began = born_end t whole hs part so.born so.began; is_me = so.is_me; is_strength = so.is_strength; is_read_at = so.is_read_at }
 
-  module _ (x : Branch) (strong : x.live.strength ≡ (place_at t.places x.live.me.node).strength) (good : (z : Exit) → exit (events_of t) x.live.me ≡ Some z → z ≢ Dropped) where
+  -- so it has the same at each moment
+  pub same_strength : (x y : Branch) → y.live.me ≡ x.live.me → BeganWith (births_of t) x.live.me x.live.strength x.live.read_at → BeganWith (births_of t) y.live.me y.live.strength y.live.read_at → y.live.strength ≡ x.live.strength
+  same_strength x y me one two =
+      same_start (births_of t) x.live.me y.live.strength x.live.strength y.live.read_at x.live.read_at (subst (λ b. BeganWith (births_of t) b y.live.strength y.live.read_at) me two) one
+
+  module _ (x : Branch) (strong : BeganWith (births_of t) x.live.me x.live.strength x.live.read_at) (good : (z : Exit) → exit (events_of t) x.live.me ≡ Some z → z ≢ Dropped) where
     module _ (hs : List Happening) (h : Happening) (rest : List Happening) (is : hs ++ h ∷ rest ≡ t.trace) where
       open at_happening t whole hs h rest is use {after, s_after as z, part, part_after as later, lawful_after as lawful_z}
 
@@ -143,7 +151,7 @@ module _ (t : History) (whole : IsLawfulRun t) where
       state_by y me same here (Leaves w left leaves) =
           let gone : exit (e_at t after) x.live.me ≡ Some w = subst (λ b. exit (e_at t after) b ≡ Some w) me left in
           let so : LeavesSo (said_in (f_at t hs)) y.live w = leaves (good w (exit_end t whole after later x.live.me w gone)) in
-          let strengths : y.live.strength ≡ x.live.strength = strength_at hs part y here ∙ (ap (λ (b : BranchId). (place_at t.places b.node).strength) me ∙ sym strong) in
+          let strengths : y.live.strength ≡ x.live.strength = same_strength x y me strong (strength_at hs part y here) in
           Left w gone (λ i c at. asked_on x.live.me c (subst (λ b. was_asked (said_in (f_at t hs)) b c ≡ true) me (so.kids i c (subst (λ bs. numbered bs i ≡ Some c) (sym same.peers) at))))
           (ends_same x.live y.live w same.changed strengths same.weights so.ends)
           (λ c sent. (let down = told_down here.kept y here.up here.found c (subst (λ b. was_sent is_below (said_in (f_at t hs)) b c ≡ true) (sym me) (silent_on (λ none. absurd (cc (gone, none))) c sent)) in

@@ -2,7 +2,8 @@
 use Rattle.std.proofs.Common.{◌≡◌, ◌≢◌, ℕ, zero, suc, ◌+◌, ◌⊎◌, true, false, List, [], ◌∷◌, ◌++◌, map, length, unwrap_or, Option, Some, None, inl, inr, refl, sym, ap, subst, subst₂, ◌∙◌, arith}
 use Rattle.std.proofs.lemmas.Bool.{cond_both}
 use Rattle.tran_ids.proofs.NumberedLemmas.{set_found, set_leaves}
-use Rattle.node_rules.specs.Data.{Stmt, BranchId, Edge, Post, Vote}
+use Rattle.node_rules.specs.Data.{BranchId, Edge, Post, Vote}
+use Rattle.node_rules.specs.declared.work.Errand.{Errand}
 use Rattle.node_rules.specs.declared.work.Waits.TheVariants as waiting
 use Rattle.node_rules.specs.declared.session.PendingCall.TheVariants as pending
 use Rattle.node_rules.specs.declared.session.Session.{Session}
@@ -115,11 +116,11 @@ module _ (said : List Post) (G : Type 0) (x : Branch) where
   Held = G → (i : ℕ) (e : Edge) → numbered x.live.edges i ≡ Some e → WaitsFor i x.work.going ⊎ EdgeTells said x.work i e
 
   -- a branch that calls over an edge
-  pub called_holding : (says : List Post) (i : ℕ) (s : Stmt) (given : ℕ) → (G → (j : ℕ) (e : Edge) → i ≢ j → numbered x.live.edges j ≡ Some e → EdgeTells said x.work j e)
-      → G → (j : ℕ) (e : Edge) → numbered x.live.edges j ≡ Some e → WaitsFor j (called x i s given).work.going ⊎ EdgeTells (said ++ says) (called x i s given).work j e
-  called_holding says i s given told goes j e at = elim (cases_nat i j) [
+  pub called_holding : (ss : List Session) (says : List Post) (i : ℕ) (errand : Errand) → (G → (j : ℕ) (e : Edge) → i ≢ j → numbered x.live.edges j ≡ Some e → EdgeTells said x.work j e)
+      → G → (j : ℕ) (e : Edge) → numbered x.live.edges j ≡ Some e → WaitsFor j (called ss x i errand).work.going ⊎ EdgeTells (said ++ says) (called ss x i errand).work j e
+  called_holding ss says i errand told goes j e at = elim (cases_nat i j) [
     | inl here ↦ inl (ap waiting.ForReply here)
-    | inr other ↦ inr (told_more said says e.peer (call_at (called x i s given).work j) e.weight
+    | inr other ↦ inr (told_more said says e.peer (call_at (called ss x i errand).work j) e.weight
         (subst (λ n. ToldWeight said e.peer n e.weight) (sym (ap (λ (o : Option ℕ). unwrap_or o 0) (set_leaves x.work.calls i j _ other))) (told goes j e other at)))
   ]
 

@@ -179,7 +179,7 @@ collected_step l comment b = ap (λ ws. walk_by l.changed l.strength (place_of_g
 
 -- the collect of a branch begins
 pub begins_so : {k : NodeState} {input : Input} {comment : List ℕ} {b : Bool} (l : Live) → Collects k input l comment b → Begins_by input l.me
-begins_so l (steps.By_commit n given call has code is) = inl (n, given, call)
+begins_so l (steps.By_commit n given call has code writer is) = inl (n, given, call)
 begins_so {comment = comment} {b = b} l (steps.By_prepare from _ came working) = inr (from, b, comment, came)
 
 -- ---- a turn
@@ -210,7 +210,7 @@ module _ (t : History) (before : List Happening) (lawful : IsLawfulRun (so_far t
   -- who begins its collect below a root was asked
   begun_asked : {at : NodeState} {comment : List ℕ} {b : Bool} {a : Act} {x : Exit} (l : Live) → live_at k l.me ≡ Some l → Collects at u.input l comment b → Collected (collecting (with_comment l comment) b) b a → Ends a x
       → (q : BranchId) → l.parent ≡ Some q → was_asked said q l.me ≡ true
-  begun_asked l live (steps.By_commit n given call has code is) collected ends q above = let none : l.parent ≡ None = none_is l.parent (root_ends collected ends) in absurd (cc (none, above))
+  begun_asked l live (steps.By_commit n given call has code writer is) collected ends q above = let none : l.parent ≡ None = none_is l.parent (root_ends collected ends) in absurd (cc (none, above))
   begun_asked {comment = comment} {b = b} l live (steps.By_prepare from _ came working) collected ends q above =
       let kid = came_so (GoesSo (Began (births_of s))) f (messages_are_of_neighbors s lawful) k u.node u.input u.took may.comes from l.me (kinds.Prepare b comment) came in
       let parent : l.parent ≡ Some from = above_of (births_of s) l (born_of t before lawful u k may l live) from (child_parent (births_of s) l.me from kid) in

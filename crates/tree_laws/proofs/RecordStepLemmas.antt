@@ -23,9 +23,9 @@ use Rattle.node_rules.proofs.Steps.{Step, Acting, Collected, Pointed}
 use Rattle.run_branch_laws.specs.WalkLaws.{is_below, was_sent}
 use Rattle.node_rules.specs.LiveBranches.{EachLive}
 use Rattle.node_rules.proofs.LiveLemmas.{each_begun}
-use Rattle.run_base_laws.proofs.RootLemmas.{SessionsFit, pends_so, begun_so}
+use Rattle.run_base_laws.proofs.RootLemmas.{SessionsFit, pends_so, begun_so, counted_so, back_so}
 use Rattle.run_base_laws.proofs.NeighborLemmas.{News}
-use Rattle.run_base_laws.proofs.NeighborStepLemmas.{begun_news, pends_news, lets_news, acked_news}
+use Rattle.run_base_laws.proofs.NeighborStepLemmas.{begun_news, pends_news, lets_news, acked_news, counted_news, back_news}
 use Rattle.run_base_laws.proofs.InTurnLemmas as turns
 use Rattle.run_base_laws.proofs.InTurnStepLemmas as drafts
 use Rattle.run_branch_laws.proofs.FreezeStepLemmas as frost
@@ -214,13 +214,15 @@ module _ (E : BranchId → Option ℕ) (A : BranchId → Option BranchId) (G Her
   module _ (p : Place) (place : (b : BranchId) → b.node ≡ p.number → Here b) where
     pub leads_on : {k : NodeState} {d : TurnDraft} → Step p input k d → SessionsFit k → News (frost.Unasking E A G Here input said received) p input k → Nodes k → frost.Ices E A G Here input said received k → asks.Olds E A G Here input said received prepared k
         → IfSome d.wrote (RecordLeads said)
-    leads_on (steps.Begins {k = k} n s call rows range none step) ss news nodes ice now =
-        let root = news.root n s call rows none in
-        leads_on step (begun_so k ss p n) (begun_news (frost.Unasking E A G Here input said received) p input k n news)
-        (drafts.begins_so E A G Here input said received k nodes (fresh_root p k (new_root p k n)) refl (place (new_root p k n) refl) root.0)
-        (frost.begins_ice E A G Here input said received prepared k ice (fresh_root p k (new_root p k n)) refl root.1)
-        (each_begun (λ l w. AsTold said l) (λ l w. AsTold said l) k.lives k.works now (fresh_root p k (new_root p k n)) (working_told said (new_root p k n) None phases.Working [] _ refl) (λ y v live any is. is))
-    leads_on (steps.Pends {k = k} n l given call has live code step) ss news nodes ice now = leads_on step (pends_so k ss n pending.Commit) (pends_news (frost.Unasking E A G Here input said received) p input k n given call news) nodes ice now
+    leads_on (steps.Begins {k = k} n s read_at call begins range none step) ss news nodes ice now =
+        let root = news.root n s read_at call begins none in
+        leads_on step (begun_so k ss p n read_at) (begun_news (frost.Unasking E A G Here input said received) p input k n read_at news)
+        (drafts.begins_so E A G Here input said received k nodes (fresh_root p k (new_root p k n) read_at) refl (place (new_root p k n) refl) root.0)
+        (frost.begins_ice E A G Here input said received prepared k ice (fresh_root p k (new_root p k n) read_at) refl root.1)
+        (each_begun (λ l w. AsTold said l) (λ l w. AsTold said l) k.lives k.works now (fresh_root p k (new_root p k n) read_at) (working_told said (new_root p k n) None phases.Working [] _ refl) (λ y v live any is. is))
+    leads_on (steps.Counts_call {k = k} n s call counts step) ss news nodes ice now = leads_on step (counted_so k ss n) (counted_news (frost.Unasking E A G Here input said received) p input k n news) nodes ice now
+    leads_on (steps.Goes_back {k = k} x step goes next) ss news nodes ice now = leads_on next (back_so k ss x step) (back_news (frost.Unasking E A G Here input said received) p input k x step news) nodes ice now
+    leads_on (steps.Pends {k = k} n l given call has live code writer step) ss news nodes ice now = leads_on step (pends_so k ss n pending.Commit) (pends_news (frost.Unasking E A G Here input said received) p input k n given call news) nodes ice now
     leads_on (steps.Lets_reads_go {k = k} l comment b live begins step) ss news nodes ice now = leads_on step (record { roots = ss.roots; above = ss.above }) (lets_news (frost.Unasking E A G Here input said received) p input k l.me news) nodes ice now
     leads_on (steps.Counts_ack {k = k} s from kept came counts step) ss news nodes ice now = leads_on step (record { roots = ss.roots; above = ss.above }) (acked_news (frost.Unasking E A G Here input said received) p input k _ news) nodes ice now
     leads_on (steps.Acts {k = k} l b a why) ss news nodes ice now = acts_lead k ss nodes ice now a why

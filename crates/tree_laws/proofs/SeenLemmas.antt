@@ -25,7 +25,7 @@ use Rattle.tree_laws.proofs.ForestLemmas as trees
 use Rattle.tree_laws.proofs.SettleRunLemmas.{known}
 use Rattle.tree_laws.proofs.VoterLemmas.{mapped_at, all_numbered}
 use Rattle.tree_laws.specs.DecideLaws.{live_of, live_in, WalksTo, Ends_here, Goes_down, InTree, Is_root, Is_child, SeesTree, IsCoveredBy}
-use Rattle.tree_laws.proofs.FrozenLemmas.{strength_at, Member}
+use Rattle.tree_laws.proofs.FrozenLemmas.{Member}
 use Rattle.tree_laws.proofs.MemberLemmas.{IsIn, kid_of}
 use Rattle.tree_laws.proofs.ShallowLemmas.{parents_are_shallow}
 use Rattle.tree_laws.proofs.TimeLemmas.{Part, part_lawful, born_end}
@@ -122,7 +122,7 @@ module _ (t : History) (whole : IsLawfulRun t) (hs0 : List Happening) (part0 : P
   low_of root c Is_root = root
   low_of root c (Is_child p _ l i above live at) = low_kid p c l i (low_of root p above) live at
 
-  module _ (tr : Trail) (sees : SeesTree f0 tr r) (top : Low r) where
+  module _ (tr : Trail) (sees : SeesTree t.places f0 tr r) (top : Low r) where
     -- what the trail sees of it
     pub kids_seen : (x : Branch) → Member t whole hs0 part0 r x → InTree f0 r x.live.me → children_at tr x.live.me ≡ children_of x.live
     kids_seen x member tree = sees.children x.live.me x.live tree (member_live x member x.live.me refl)
@@ -138,8 +138,8 @@ module _ (t : History) (whole : IsLawfulRun t) (hs0 : List Happening) (part0 : P
         let it : is.branch.live ≡ x.live = cc in
         subst (λ (z : Live). z.depth ≤ depth_limit) it is.low
 
-    strength_seen : (x : Branch) → Member t whole hs0 part0 r x → strength_of t.places x.live.me ≡ x.live.strength
-    strength_seen x member = sym (strength_at t whole hs0 part0 x member.here)
+    strength_seen : (x : Branch) → Member t whole hs0 part0 r x → InTree f0 r x.live.me → strength_of t.places tr x.live.me ≡ x.live.strength
+    strength_seen x member tree = sees.strength x.live.me x.live tree (member_live x member x.live.me refl)
 
     pub kid_in : (x : Branch) → Member t whole hs0 part0 r x → InTree f0 r x.live.me → (i : ℕ) (e : Edge) → numbered x.live.edges i ≡ Some e → InTree f0 r e.peer
     kid_in x member tree i e at = Is_child x.live.me e.peer x.live i tree (member_live x member x.live.me refl) (mapped_at (λ (z : Edge). z.peer) x.live.edges i e at)
@@ -161,8 +161,8 @@ module _ (t : History) (whole : IsLawfulRun t) (hs0 : List Happening) (part0 : P
     weighs_in (suc m) x member tree deep =
         let kids : map (weight_in m t.places tr) (children_at tr x.live.me) ≡ map (λ (e : Edge). e.weight) x.live.edges
         = kids_weigh m x member tree (λ y its inside deeper. weighs_in m y its inside (omega (arith, deep, deeper))) in
-        ap (λ q. weight_by q (strength_of t.places x.live.me) (place_of_greatest 1 (map (weight_in m t.places tr) (children_at tr x.live.me)) None)) (changes_seen x member tree) ∙
-        (ap (λ s. weight_by x.live.changed s (place_of_greatest 1 (map (weight_in m t.places tr) (children_at tr x.live.me)) None)) (strength_seen x member) ∙
+        ap (λ q. weight_by q (strength_of t.places tr x.live.me) (place_of_greatest 1 (map (weight_in m t.places tr) (children_at tr x.live.me)) None)) (changes_seen x member tree) ∙
+        (ap (λ s. weight_by x.live.changed s (place_of_greatest 1 (map (weight_in m t.places tr) (children_at tr x.live.me)) None)) (strength_seen x member tree) ∙
         ap (λ ws. weight_by x.live.changed x.live.strength (place_of_greatest 1 ws None)) kids)
 
     -- the step of the walk
@@ -171,8 +171,8 @@ module _ (t : History) (whole : IsLawfulRun t) (hs0 : List Happening) (part0 : P
     step_seen x member tree =
         let kids : map (weight_in depth_limit t.places tr) (children_at tr x.live.me) ≡ map (λ (e : Edge). e.weight) x.live.edges
         = kids_weigh depth_limit x member tree (λ y its inside deeper. weighs_in depth_limit y its inside (omega (arith, deeper))) in
-        ap (λ q. walk_by q (strength_of t.places x.live.me) (place_of_greatest 1 (map (weight_in depth_limit t.places tr) (children_at tr x.live.me)) None)) (changes_seen x member tree) ∙
-        (ap (λ s. walk_by x.live.changed s (place_of_greatest 1 (map (weight_in depth_limit t.places tr) (children_at tr x.live.me)) None)) (strength_seen x member) ∙
+        ap (λ q. walk_by q (strength_of t.places tr x.live.me) (place_of_greatest 1 (map (weight_in depth_limit t.places tr) (children_at tr x.live.me)) None)) (changes_seen x member tree) ∙
+        (ap (λ s. walk_by x.live.changed s (place_of_greatest 1 (map (weight_in depth_limit t.places tr) (children_at tr x.live.me)) None)) (strength_seen x member tree) ∙
         ap (λ ws. walk_by x.live.changed x.live.strength (place_of_greatest 1 ws None)) kids)
 
     -- ---- the walk

@@ -96,6 +96,7 @@ clock_up k (inputs.Message m) = omega arith
 clock_up k (inputs.Call n s) = omega arith
 clock_up k (inputs.GiveUp n) = omega arith
 clock_up k inputs.Reco = omega arith
+clock_up k inputs.Checkpoint = omega arith
 
 scn_met : (k : NodeState) (input : Input) (from to : BranchId) (kind : Kind) (came : Came input from to kind) → came.scn ≤ (heard k input).clock
 scn_met k input from to kind came = subst (λ i. came.scn ≤ (heard k i).clock) (sym came.is) (omega arith)
@@ -219,7 +220,7 @@ module _ (t : History) (before : List Happening) (lawful : IsLawfulRun (so_far t
 
     -- off the walk it is not told so
     begins_off : (at : NodeState) → Near k0 at → {comment : List ℕ} {b : Bool} (l : Live) → live_at k l.me ≡ Some l → Collects at u.input l comment b → b ≡ false → (x : BranchId) → was_sent is_below all x l.me ≡ true → ⊥
-    begins_off at near l live (steps.By_commit n given call has code is) off x told = absurd cc
+    begins_off at near l live (steps.By_commit n given call has code writer is) off x told = absurd cc
     begins_off at near {comment = comment} l live (steps.By_prepare from b came working) off x told =
         let child : IsChild (Began bs) l.me from = comes from l.me (kinds.Prepare b comment) came in
         let parent : l.parent ≡ Some from = parent_as l live from (child.0, wider child.0 child.1, child.2, child.3) in
@@ -269,7 +270,7 @@ module _ (t : History) (before : List Happening) (lawful : IsLawfulRun (so_far t
 
     -- and its parent told it so
     begins_above : (at : NodeState) → Near k0 at → {comment : List ℕ} {b : Bool} (l : Live) → live_at k l.me ≡ Some l → Collects at u.input l comment b → b ≡ false → (q : BranchId) → l.parent ≡ Some q → was_sent is_above said q l.me ≡ true
-    begins_above at near l live (steps.By_commit n given call has code is) off q above = absurd cc
+    begins_above at near l live (steps.By_commit n given call has code writer is) off q above = absurd cc
     begins_above at near {comment = comment} l live (steps.By_prepare from b came working) off q above =
         let child : IsChild (Began bs) l.me from = comes from l.me (kinds.Prepare b comment) came in
         let it : Some from ≡ Some q = sym (parent_as l live from (child.0, wider child.0 child.1, child.2, child.3)) ∙ above in

@@ -1,6 +1,6 @@
 -- Why a turn tells Ack or a rollback. Who says Ack learns the commit now, knows it, or is gone. Who tells a rollback was live and wrote
 -- nothing, learns it now, knows it, is gone, or does not know the one that asks as a neighbour.
-use Rattle.std.proofs.Common.{◌≡◌, ◌≢◌, ℕ, ◌+◌, ◌-◌, ◌&&◌, not, Bool, true, false, List, [], ◌∷◌, ◌++◌, map, filter, fold, length, Option, Some, None, inl, inr, refl, sym, ap, subst, ◌∙◌}
+use Rattle.std.proofs.Common.{◌≡◌, ◌≢◌, ℕ, ◌+◌, ◌&&◌, not, Bool, true, false, List, [], ◌∷◌, ◌++◌, map, filter, fold, length, Option, Some, None, inl, inr, refl, sym, ap, subst, ◌∙◌}
 use Rattle.std.specs.Prelude.{flat_map}
 use Rattle.std.specs.List.{AllByRecursion}
 use Rattle.std.proofs.lemmas.Bool.{cond_both}
@@ -19,18 +19,22 @@ use Rattle.node_rules.specs.Data.inputs
 use Rattle.node_rules.specs.Data.kinds
 use Rattle.node_rules.specs.Data.records
 use Rattle.node_rules.specs.Data.stmts
+use Rattle.node_rules.specs.declared.work.Errand.{Errand}
+use Rattle.node_rules.specs.declared.work.Errand.TheVariants as errands
 use Rattle.node_rules.specs.declared.session.Session.{Session}
-use Rattle.node_rules.specs.Words.{put_by_branch}
+use Rattle.node_rules.specs.Words.{put_by_branch, item_at}
 use Rattle.node_rules.specs.Inputs.{Came, IsCall}
 use Rattle.node_rules.specs.NodeState.{NodeState, Branch, TurnDraft, live_id, kept_row_id, live_at, to_one, to_each}
-use Rattle.node_rules.specs.Calls.{answer_says, exec_to, with_edge, hears_reply}
-use Rattle.node_rules.specs.Statement.{ran, after_run}
+use Rattle.node_rules.specs.Calls.{answer_says, exec_to, with_edge, hears_reply, branch_ran, less_room, backs_to, goes_back}
+use Rattle.node_rules.specs.Names.{passed_on}
+use Rattle.node_rules.specs.Marks.{node_back, branch_back, next_back}
+use Rattle.node_rules.specs.Statement.{ran}
 use Rattle.node_rules.specs.Prepare.{path_of, site_neighbors, act_turn}
 use Rattle.node_rules.specs.Commit.{beyond, all_acked, acked_by, passes_commit, rollback_to, passes}
 use Rattle.node_rules.specs.Recovery.{told_by, kept_told, told_kind, Asking, asking_id, asks_live, asks_kept, acks_again, recovers, askings}
 use Rattle.node_rules.specs.Turn.{Is_gone, status_of}
 use Rattle.node_rules.proofs.Steps as steps
-use Rattle.node_rules.proofs.Steps.{Step, Says, IsKept, IsOfRows, Acting, Collects}
+use Rattle.node_rules.proofs.Steps.{Step, Says, IsKept, IsCounted, Acting, Collects}
 use Rattle.node_rules.proofs.StandLemmas.{live_so}
 use Rattle.node_rules.proofs.StepLemmas.{IsLive, acting_live}
 use Rattle.agreement.specs.Events.{Event, learned, Knows}
@@ -38,6 +42,7 @@ use Rattle.run_base_laws.specs.EventRows.{RowIs, IsKnown}
 use Rattle.run_rules.proofs.ListLemmas.{all_weaker, all_append, all_each, all_put}
 use Rattle.run_base_laws.proofs.OwnLemmas.{all_found, all_with}
 use Rattle.run_base_laws.proofs.KindSayLemmas.{AllSay, prepares_say}
+use Rattle.run_base_laws.proofs.BeginLemmas.{MayBegin, may_begin, ends_begin_none}
 use Rattle.run_branch_laws.proofs.QuietLemmas.{NoRows, call_apart, came_apart}
 use Rattle.run_branch_laws.proofs.RowSayLemmas.{LearnsRollback}
 
@@ -57,36 +62,31 @@ kinds_apart {a = a} {b = b} {c = c} {e = e} {x = x} {y = y} one other =
 -- A node meets this input without a change before its draft.
 pub record Direct (input : Input) : Type 0 where
   pub rows : NoRows input
+  pub counts : (n : ℕ) (s : Stmt) → IsCall input n s → IsCounted s → ⊥
   pub commit : (n : ℕ) (c : Option (List ℕ)) → IsCall input n (stmts.Commit c) → ⊥
   pub prepare : (from to : BranchId) (b : Bool) (comment : List ℕ) → Came input from to (kinds.Prepare b comment) → ⊥
   pub ack : (from to : BranchId) → Came input from to kinds.Ack → ⊥
 
 direct_came : {input : Input} {a b : BranchId} {kind : Kind} → Came input a b kind → (kind ≢ kinds.Ack) → ((w : Bool) (comment : List ℕ) → kind ≢ kinds.Prepare w comment) → Direct input
 direct_came came other no_prepare = record {
-  rows = λ n s call rows. came_apart n s came call;
+  rows = λ n s call begins. came_apart n s came call;
+  counts = λ n s call counts. came_apart n s came call;
   commit = λ n c call. came_apart n (stmts.Commit c) came call;
   prepare = λ from to w comment came2. no_prepare w comment (kinds_apart came came2);
   ack = λ from to came2. other (kinds_apart came came2);
 }
 
-direct_rollback : {input : Input} (n : ℕ) → IsCall input n stmts.Rollback → Direct input
-direct_rollback n call = record {
-  rows = λ m s other rows. subst IsOfRows (call_apart m n s stmts.Rollback other call) rows;
-  commit = λ m c other. (let it : stmts.Commit c ≡ stmts.Rollback = call_apart m n (stmts.Commit c) stmts.Rollback other call in absurd cc);
-  prepare = λ from to w comment came. came_apart n stmts.Rollback came call;
-  ack = λ from to came. came_apart n stmts.Rollback came call;
-}
-
 direct_give_up : {input : Input} (n : ℕ) → input ≡ inputs.GiveUp n → Direct input
 direct_give_up n gives = record {
-  rows = λ m s call rows. (let it : inputs.GiveUp n ≡ inputs.Call m (Some s) = sym gives ∙ call in absurd cc);
+  rows = λ m s call begins. (let it : inputs.GiveUp n ≡ inputs.Call m (Some s) = sym gives ∙ call in absurd cc);
+  counts = λ m s call counts. (let it : inputs.GiveUp n ≡ inputs.Call m (Some s) = sym gives ∙ call in absurd cc);
   commit = λ m c call. (let it : inputs.GiveUp n ≡ inputs.Call m (Some (stmts.Commit c)) = sym gives ∙ call in absurd cc);
   prepare = λ from to w comment came. (let it : inputs.GiveUp n ≡ inputs.Message _ = sym gives ∙ came.is in absurd cc);
   ack = λ from to came. (let it : inputs.GiveUp n ≡ inputs.Message _ = sym gives ∙ came.is in absurd cc);
 }
 
 collects_indirect : {k : NodeState} {input : Input} {l : Live} {comment : List ℕ} {b : Bool} → Collects k input l comment b → Direct input → ⊥
-collects_indirect (steps.By_commit n given call has code is) direct = direct.commit n given call
+collects_indirect (steps.By_commit n given call has code writer is) direct = direct.commit n given call
 collects_indirect {l = l} {comment = comment} (steps.By_prepare from b came working) direct = direct.prepare from l.me b comment came
 
 abandons_direct : {k : NodeState} {input : Input} {l : Live} {b : Bool} → Acting k input l b acts.Abandon → Direct input
@@ -230,9 +230,17 @@ module _ (t : List Event) where
   answer_other x a None = tt
   answer_other x a (Some parent) = (((λ is. absurd cc), (λ is. absurd cc), (λ is. absurd cc)), tt)
 
-  exec_other : (ss : List Session) (x : Branch) (i : ℕ) (s : Stmt) (given : ℕ) (o : Option BranchId) → AllSay IsOther (exec_to ss x i s given o)
-  exec_other ss x i s given None = tt
-  exec_other ss x i s given (Some c) = (((λ is. absurd cc), (λ is. absurd cc), (λ is. absurd cc)), tt)
+  exec_other : (ss : List Session) (x : Branch) (i : ℕ) (e : Errand) (o : Option BranchId) → AllSay IsOther (exec_to ss x i e o)
+  exec_other ss x i e None = tt
+  exec_other ss x i e (Some c) = (((λ is. absurd cc), (λ is. absurd cc), (λ is. absurd cc)), tt)
+
+  -- a branch goes back to a step
+  backs_other : (k : NodeState) (x : Branch) (step : ℕ) (o : Option ℕ) → AllSay IsOther (backs_to k x step o).says
+  backs_other k x step None = answer_other x _ x.live.parent
+  backs_other k x step (Some i) = exec_other k.sessions x i (errands.GoBack step) (peer_of x.live i)
+
+  back_other : (k : NodeState) (x : Branch) (step : ℕ) → AllSay IsOther (goes_back k x step).says
+  back_other k x step = backs_other (node_back k x step) (branch_back k x step) step (next_back (branch_back k x step).work step 1)
 
   module _ (k0 : NodeState) (p : Place) (input : Input) where
     abbrev DraftSo : TurnDraft → Type 0
@@ -254,41 +262,49 @@ module _ (t : List Event) where
     acts_tell k near {l = l} acts.Abandon why =
         all_append (So k0 input _) (to_one l.me kinds.Abort l.parent) _ (one_so k0 input _ l.me kinds.Abort l.parent (λ b. tt)) (rolls_all k0 input _ l (live_there k near (abandons_direct why) l.me (acting_live why)) refl)
 
-    pub tells_on : {k : NodeState} {d : TurnDraft} → Step p input k d → (Direct input → k ≡ k0) → AllByRecursion (RowIs t) k.stored.durable.kept → DraftSo d
-    tells_on (steps.Begins n s call rows fit none step) near all = tells_on step (λ direct. absurd (direct.rows n s call rows)) all
-    tells_on (steps.Pends n l given call has live code step) near all = tells_on step (λ direct. absurd (direct.commit n given call)) all
-    tells_on (steps.Lets_reads_go l comment b live begins step) near all = tells_on step (λ direct. absurd (collects_indirect begins direct)) all
-    tells_on (steps.Counts_ack {k = k} s from kept came counts step) near all =
+    -- no branch begins where no statement comes that begins a transaction
+    pub tells_on : {k : NodeState} {d : TurnDraft} → Step p input k d → (Direct input → k ≡ k0) → (NoRows input → k.lives ≡ k0.lives) → AllByRecursion (RowIs t) k.stored.durable.kept → DraftSo d
+    tells_on (steps.Begins n s read_at call begins fit none step) near same all = tells_on step (λ direct. absurd (direct.rows n s call (may_begin begins))) (λ no. absurd (no n s call (may_begin begins))) all
+    tells_on (steps.Counts_call n s call counts step) near same all = tells_on step (λ direct. absurd (direct.counts n s call counts)) same all
+    tells_on (steps.Goes_back {k = k} x step goes next) near same all = others_so k0 input _ _ (back_other k x step)
+    tells_on (steps.Pends n l given call has live code writer step) near same all = tells_on step (λ direct. absurd (direct.commit n given call)) same all
+    tells_on (steps.Lets_reads_go l comment b live begins step) near same all = tells_on step (λ direct. absurd (collects_indirect begins direct)) same all
+    tells_on (steps.Counts_ack {k = k} s from kept came counts step) near same all =
         let was : RowIs t s = all_found (RowIs t) kept_row_id k.stored.durable.kept s.me s all kept in
-        tells_on step (λ direct. absurd (direct.ack from s.me came))
+        tells_on step (λ direct. absurd (direct.ack from s.me came)) same
         (all_with (RowIs t) kept_row_id k.stored.durable.kept (acked_by s from) all (record { left = was.left; known = was.known; force = was.force; forgot = was.forgot }))
-    tells_on (steps.Sends {k = k} says why) near all = says_so k0 input _ k near all why
-    tells_on (steps.Runs {k = k} x s given table asked way) near all = others_so k0 input _ _ (answer_other (record x { live = after_run x.live (ran p k x.live.me s table) }) _ x.live.parent)
-    tells_on (steps.Goes_nowhere x s given r asked way) near all = others_so k0 input _ _ (answer_other x _ x.live.parent)
-    tells_on (steps.Calls {k = k} x s given i table asked way) near all = others_so k0 input _ _ (exec_other k.sessions x i _ given (peer_of x.live i))
-    tells_on (steps.Opens x s given node link table asked way) near all = (tt, tt)
-    tells_on (steps.Goes_on {k = k} x from strength g link opened) near all =
-        others_so k0 input _ _ (exec_other k.sessions (with_edge x (new_edge from link strength)) (length x.live.edges + 1) g.statement (g.room - 1) (peer_of (with_edge x (new_edge from link strength)).live (length x.live.edges + 1)))
-    tells_on (steps.Hears_reply x weight count a i e answered) near all = others_so k0 input _ _ (answer_other (hears_reply x i weight count e) _ x.live.parent)
-    tells_on (steps.Opens_branch to parent edge root depth came new) near all = (tt, tt)
-    tells_on (steps.Acts {k = k} l b a why) near all = acts_tell k near a why
-    tells_on (steps.Drops_told {k = k} l live (steps.By_rollback from came)) near all =
+    tells_on (steps.Sends {k = k} says why) near same all = says_so k0 input _ k near all why
+    tells_on (steps.Runs {k = k} x s given table asked way) near same all = others_so k0 input _ _ (answer_other (branch_ran k.sessions x table (ran p k x.live.me s table)) _ x.live.parent)
+    tells_on (steps.Goes_nowhere x s given r asked way) near same all = others_so k0 input _ _ (answer_other x _ x.live.parent)
+    tells_on (steps.Calls {k = k} x s given i table asked way) near same all = others_so k0 input _ _ (exec_other k.sessions x i (errands.Statement (passed_on s table) given) (peer_of x.live i))
+    tells_on (steps.Opens x s given node link table asked way) near same all = (tt, tt)
+    tells_on (steps.Goes_on {k = k} x from strength g link opened) near same all =
+        others_so k0 input _ _ (exec_other k.sessions (with_edge x (new_edge from link strength)) (length x.live.edges + 1) (less_room g.errand) (peer_of (with_edge x (new_edge from link strength)).live (length x.live.edges + 1)))
+    tells_on (steps.Hears_reply x weight count a i e answered) near same all = others_so k0 input _ _ (answer_other (hears_reply x i weight count e) _ x.live.parent)
+    tells_on (steps.Backs {k = k} x step from i calls next) near same all = others_so k0 input _ _ (exec_other k.sessions x i (errands.GoBack step) (peer_of x.live i))
+    tells_on (steps.Is_back x step from calls none) near same all = others_so k0 input _ _ (answer_other x _ x.live.parent)
+    tells_on (steps.Opens_branch to parent edge root depth read_at came new) near same all = (tt, tt)
+    tells_on (steps.Acts {k = k} l b a why) near same all = acts_tell k near a why
+    tells_on (steps.Drops_told {k = k} l live (steps.By_rollback from came)) near same all =
         rolls_all k0 input _ l (live_there k near (direct_came came (λ is. absurd cc) (λ w comment is. absurd cc)) l.me (l, live)) refl
-    tells_on (steps.Drops_told {k = k} l live (steps.By_parent from came parent)) near all =
+    tells_on (steps.Drops_told {k = k} l live (steps.By_parent from came parent)) near same all =
         rolls_all k0 input _ l (live_there k near (direct_came came (λ is. absurd cc) (λ w comment is. absurd cc)) l.me (l, live)) refl
-    tells_on (steps.Drops_asked {k = k} l from live came parent) near all =
+    tells_on (steps.Drops_asked {k = k} l from live came parent) near same all =
         let there : IsLive k0 l.me = live_there k near (direct_came came (λ is. absurd cc) (λ w comment is. absurd cc)) l.me (l, live) in (Was_live there refl, rolls_all k0 input _ l there refl)
-    tells_on (steps.Does s from (nexts.End e) kept why) near all =
+    tells_on (steps.Does s from (nexts.End e) kept why) near same all =
         passes_so k0 input _ s e (λ n is. Learns_it (subst (λ x. LearnsCommit (Some (records.Ended s.me x)) s.me) (sym is) refl)) (λ is. subst (λ x. LearnsRollback (Some (records.Ended s.me x)) s.me) (sym is) refl)
-    tells_on (steps.Does s from (nexts.Meet e mixed) kept why) near all =
+    tells_on (steps.Does s from (nexts.Meet e mixed) kept why) near same all =
         passes_so k0 input _ s e (λ n is. Learns_it (subst (λ x. LearnsCommit (Some (records.Met s.me x mixed)) s.me) (sym is) refl)) (λ is. subst (λ x. LearnsRollback (Some (records.Met s.me x mixed)) s.me) (sym is) refl)
-    tells_on (steps.Does {k = k} s from nexts.AckToward kept (steps.Acks_on came knows new all_so other)) near all =
+    tells_on (steps.Does {k = k} s from nexts.AckToward kept (steps.Acks_on came knows new all_so other)) near same all =
         let known = knows_known s s.decision knows (all_found (RowIs t) kept_row_id k.stored.durable.kept s.me s all kept).known in one_so k0 input _ s.me kinds.Ack s.toward (λ b. Knows_it known.0 known.1)
-    tells_on (steps.Does s from nexts.Forget kept why) near all = each_so k0 input _ s.me kinds.Forgotten (map (λ b. b.branch) (beyond s)) (λ b. tt)
-    tells_on (steps.Does s from nexts.SayForgotten kept why) near all = (tt, tt)
-    tells_on (steps.Does {k = k} s from nexts.SayAck kept (steps.Acks_again n m came toward knows all_so)) near all =
+    tells_on (steps.Does s from nexts.Forget kept why) near same all = each_so k0 input _ s.me kinds.Forgotten (map (λ b. b.branch) (beyond s)) (λ b. tt)
+    tells_on (steps.Does s from nexts.SayForgotten kept why) near same all = (tt, tt)
+    tells_on (steps.Does {k = k} s from nexts.SayAck kept (steps.Acks_again n m came toward knows all_so)) near same all =
         (Knows_it n (subst (IsKnown t s) knows (all_found (RowIs t) kept_row_id k.stored.durable.kept s.me s all kept).known), tt)
-    tells_on (steps.Rolls_back {k = k} n x call has live) near all = rolls_all k0 input _ x.live (live_there k near (direct_rollback n call) x.live.me (x.live, live_so k x.live.me x live)) refl
-    tells_on (steps.Gives_up_commit {k = k} n b (Some l) gives has calls live) near all =
+    tells_on (steps.Leaves {k = k} n s d x call ends has live) near same all =
+        let none : NoRows input = λ m u other begins. (let it : u ≡ s = call_apart m n u s other call in ends_begin_none ends (subst MayBegin it begins)) in
+        let there : IsLive k0 x.live.me = (x.live, subst (λ ls. item_at live_id ls x.live.me ≡ Some x.live) (same none) (live_so k x.live.me x live)) in
+        rolls_all k0 input _ x.live there refl
+    tells_on (steps.Gives_up_commit {k = k} n b (Some l) gives has calls live) near same all =
         rolls_all k0 input _ l (live_there k near (direct_give_up n gives) l.me (l, subst (λ c. live_at k c ≡ Some l) (sym (item_is live_id k.lives b l live)) live)) refl
-    tells_on _ near all = tt
+    tells_on _ near same all = tt

@@ -8,7 +8,7 @@ use Rattle.reco.specs.declared.post.Post.{Post}
 use Rattle.session_tree.specs.Live.{is_branch}
 use Rattle.session_tree.specs.Tree.{step as step_from}
 use Rattle.session_tree.specs.declared.act.Walk.TheVariants as walks
-use Rattle.node_rules.specs.Data.{Stmt, BranchId, RedoRecord, Vote, Live, Act, Place, Input}
+use Rattle.node_rules.specs.Data.{Stmt, Done, BranchId, RedoRecord, Vote, Live, Act, Place, Input}
 use Rattle.node_rules.specs.Data.acts
 use Rattle.node_rules.specs.Data.inputs
 use Rattle.node_rules.specs.Data.kinds
@@ -20,16 +20,18 @@ use Rattle.node_rules.specs.declared.session.Session.{Session}
 use Rattle.node_rules.specs.Words.{same, is_item_of, item_at, put_item, drop_item}
 use Rattle.node_rules.specs.Inputs.{Came, IsCall}
 use Rattle.node_rules.specs.NodeState.{NodeState, TurnDraft, live_id, live_at, post, to_one}
-use Rattle.node_rules.specs.Sessions.{session_at, with_call}
+use Rattle.node_rules.specs.Sessions.{session_at, with_call, with_call_of}
 use Rattle.node_rules.specs.Client.{new_root, fresh_root}
 use Rattle.node_rules.specs.Calls.{next_child, strength_of}
 use Rattle.session_tree.specs.Live.{fresh_live}
 use Rattle.node_rules.specs.Prepare.{act_turn, collecting, with_comment, voted, all_answered}
 use Rattle.node_rules.proofs.Steps as steps
-use Rattle.node_rules.proofs.Steps.{Step, Acting, Answers, Collected, IsOfRows, Drops}
+use Rattle.node_rules.proofs.Steps.{Step, Acting, Answers, Collected, Drops, EndsAtOnce}
+use Rattle.node_rules.proofs.StandLemmas.{live_so}
 use Rattle.node_rules.proofs.StepLemmas.{acting_so}
 use Rattle.run_rules.specs.Trail.{recorded_exit}
-use Rattle.run_base_laws.proofs.RootLemmas.{SessionsFit, session_or_before, root_alone, pends_so, begun_so}
+use Rattle.run_base_laws.proofs.RootLemmas.{SessionsFit, session_or_before, counted_session, root_alone, pends_so, begun_so, counted_so, back_so}
+use Rattle.run_base_laws.proofs.BeginLemmas.{MayBegin, may_begin}
 
 -- what is found is found with more behind it
 pub find_more : {A : Type 0} (p : A → Bool) (xs ys : List A) (y : A) → find p xs ≡ Some y → find p (xs ++ ys) ≡ Some y
@@ -57,23 +59,25 @@ module _ (input : Input) (b : BranchId) (z : Live) where
     By_parent : (from : BranchId) → Came input from b kinds.RolledBack → is_branch from z.parent ≡ true → Why ss wrote says
     By_ask : (from : BranchId) → Came input from b kinds.Ask → is_branch from z.parent ≡ true → Why ss wrote says
     By_call : (n : ℕ) → IsCall input n stmts.Rollback → b.session ≡ n → z.parent ≡ None → Why ss wrote says
+    By_reading : (n : ℕ) (comment : Option (List ℕ)) (scn : ℕ) → IsCall input n (stmts.Commit comment) → z.read_at ≡ Some scn → b.session ≡ n → z.parent ≡ None → Why ss wrote says
     By_give_up : (n : ℕ) → input ≡ inputs.GiveUp n → (session_at ss n).root ≡ Some b → (session_at ss n).call ≡ pending.Commit → Why ss wrote says
 
   -- ---- sessions that a change before the draft leaves so
 
-  begun_why : (n : ℕ) (s : Stmt) → IsCall input n s → IsOfRows s → (ss ts : List Session) (wrote : Option RedoRecord) (says : List Post) → Why ts wrote says → Why ss wrote says
+  begun_why : (n : ℕ) (s : Stmt) → IsCall input n s → MayBegin s → (ss ts : List Session) (wrote : Option RedoRecord) (says : List Post) → Why ts wrote says → Why ss wrote says
   begun_why n s call rows ss ts wrote says (By_record e is) = By_record e is
   begun_why n s call rows ss ts wrote says (By_quiet q above said) = By_quiet q above said
   begun_why n s call rows ss ts wrote says (By_finish root (On_answer from v sb answers other all is)) = By_finish root (On_answer from v sb answers other all is)
   begun_why n s call rows ss ts wrote says (By_finish root (At_once m given commit has code none is)) =
       let it : inputs.Call n (Some s) ≡ inputs.Call m (Some (stmts.Commit given)) = sym call ∙ commit in
       let here : s ≡ stmts.Commit given = cc in
-      absurd (subst IsOfRows here rows)
+      absurd (subst MayBegin here rows)
   begun_why n s call rows ss ts wrote says (By_abort from sb answers) = By_abort from sb answers
   begun_why n s call rows ss ts wrote says (By_rollback from came) = By_rollback from came
   begun_why n s call rows ss ts wrote says (By_parent from came above) = By_parent from came above
   begun_why n s call rows ss ts wrote says (By_ask from came above) = By_ask from came above
   begun_why n s call rows ss ts wrote says (By_call m is at root) = By_call m is at root
+  begun_why n s call rows ss ts wrote says (By_reading m comment scn is reads at root) = By_reading m comment scn is reads at root
   begun_why n s call rows ss ts wrote says (By_give_up m is has pends) = absurd (cc (call, is))
 
   pends_why : (n : ℕ) (given : Option (List ℕ)) → IsCall input n (stmts.Commit given) → (ss : List Session) (wrote : Option RedoRecord) (says : List Post) → Why (with_call ss n pending.Commit) wrote says → Why ss wrote says
@@ -91,7 +95,29 @@ module _ (input : Input) (b : BranchId) (z : Live) where
   pends_why n given call ss wrote says (By_parent from came above) = By_parent from came above
   pends_why n given call ss wrote says (By_ask from came above) = By_ask from came above
   pends_why n given call ss wrote says (By_call m is at root) = By_call m is at root
+  pends_why n given call ss wrote says (By_reading m comment scn is reads at root) = By_reading m comment scn is reads at root
   pends_why n given call ss wrote says (By_give_up m is has pends) = absurd (cc (call, is))
+
+  counted_why : (n : ℕ) (s : Stmt) → IsCall input n s → (ss : List Session) (o : Option BranchId) (wrote : Option RedoRecord) (says : List Post) → Why (with_call_of ss n o) wrote says → Why ss wrote says
+  counted_why n s call ss o wrote says (By_record e is) = By_record e is
+  counted_why n s call ss o wrote says (By_quiet q above said) = By_quiet q above said
+  counted_why n s call ss o wrote says (By_finish root (On_answer from v sb answers other all is)) = By_finish root (On_answer from v sb answers other all is)
+  counted_why n s call ss o wrote says (By_finish root (At_once m given commit has code none is)) =
+      let still = (counted_session ss n m o).1 in By_finish root (At_once m given commit (sym (ap (λ (s : Session). s.root) still) ∙ has) (sym (ap (λ (s : Session). s.code) still) ∙ code) none is)
+  counted_why n s call ss o wrote says (By_abort from sb answers) = By_abort from sb answers
+  counted_why n s call ss o wrote says (By_rollback from came) = By_rollback from came
+  counted_why n s call ss o wrote says (By_parent from came above) = By_parent from came above
+  counted_why n s call ss o wrote says (By_ask from came above) = By_ask from came above
+  counted_why n s call ss o wrote says (By_call m is at root) = By_call m is at root
+  counted_why n s call ss o wrote says (By_reading m comment scn is reads at root) = By_reading m comment scn is reads at root
+  counted_why n s call ss o wrote says (By_give_up m is has pends) = absurd (cc (call, is))
+
+  -- ---- a root that ends at once
+
+  left_so : {ss : List Session} {wrote : Option RedoRecord} {says : List Post} {code : Option ℕ} {x : Live} {s : Stmt} {d : Done} (n : ℕ) → EndsAtOnce code x.read_at s d → IsCall input n s → x ≡ z → b.session ≡ n → z.parent ≡ None
+      → Why ss wrote says
+  left_so n steps.By_rollback_call call it at root = By_call n call at root
+  left_so n (steps.By_reading comment scn open_so reads) call it at root = By_reading n comment scn call (ap (λ (y : Live). y.read_at) (sym it) ∙ reads) at root
 
   -- ---- an act that drops it
 
@@ -139,14 +165,14 @@ module _ (input : Input) (b : BranchId) (z : Live) where
       acting_parent why = acting_so (λ (l : Live). l.me ≡ b → l.parent ≡ z.parent) (λ l comment sb is. is) (λ l from v is. is) (λ c l found me. ap (λ (y : Live). y.parent) (mine l (subst (λ d. live_at k d ≡ Some l) (sym (item_is live_id k.lives c l found)) found) me)) why
 
       quiet_below : {l : Live} {sb : Bool} → Acting k input l sb acts.SayReadOnly → l.me ≡ b → z.parent ≢ None
-      quiet_below (steps.Has_no_children l comment sb _ found (steps.By_commit n given call has code is) none collected) me = absurd (let off = none_off collected in cc)
+      quiet_below (steps.Has_no_children l comment sb _ found (steps.By_commit n given call has code writer is) none collected) me = absurd (let off = none_off collected in cc)
       quiet_below (steps.Has_no_children l comment sb _ found (steps.By_prepare from _ came working) none collected) me = asked_below from sb comment (subst (λ c. Came input from c (kinds.Prepare sb comment)) me came)
       quiet_below (steps.Hears_last l from v sb _ found answers other all collected) me =
           λ none. way none (subst (λ (y : Live). y.phase ≡ phases.Collecting false) (mine l found me) (answers.collecting ∙ ap phases.Collecting (none_off collected)))
       quiet_below (steps.At_point l from _ found came ready pointed) me = elim pointed [ ]
 
       finish_why : {l : Live} {sb : Bool} → Acting k input l sb acts.Finish → l.me ≡ b → (z.parent ≡ None) × Finishes k.sessions
-      finish_why (steps.Has_no_children l comment sb _ found (steps.By_commit n given call has code is) none collected) me =
+      finish_why (steps.Has_no_children l comment sb _ found (steps.By_commit n given call has code writer is) none collected) me =
           let it : l ≡ z = mine l found me in
           let so = no_site collected in (
             ap (λ (y : Live). y.parent) (sym it) ∙ so.0,
@@ -198,9 +224,11 @@ module _ (input : Input) (b : BranchId) (z : Live) where
     -- ---- every step
 
     pub why_on : {k : NodeState} {d : TurnDraft} → Step p input k d → SessionsFit k → live_at k b ≡ Some z → live_at d.after b ≡ None → Why k.sessions d.wrote d.says
-    why_on {d = d} (steps.Begins {k = k} n s call rows range none step) fit live gone =
-        begun_why n s call rows k.sessions _ d.wrote d.says (why_on step (begun_so k fit p n) (find_more (is_item_of live_id b) k.lives (fresh_root p k (new_root p k n) ∷ []) z live) gone)
-    why_on {d = d} (steps.Pends {k = k} n l given call has found code step) fit live gone = pends_why n given call k.sessions d.wrote d.says (why_on step (pends_so k fit n pending.Commit) live gone)
+    why_on {d = d} (steps.Begins {k = k} n s read_at call begins range none step) fit live gone =
+        begun_why n s call (may_begin begins) k.sessions _ d.wrote d.says (why_on step (begun_so k fit p n read_at) (find_more (is_item_of live_id b) k.lives (fresh_root p k (new_root p k n) read_at ∷ []) z live) gone)
+    why_on {d = d} (steps.Counts_call {k = k} n s call counts step) fit live gone = counted_why n s call k.sessions (session_at k.sessions n).root d.wrote d.says (why_on step (counted_so k fit n) live gone)
+    why_on (steps.Goes_back {k = k} x step goes next) fit live gone = why_on next (back_so k fit x step) live gone
+    why_on {d = d} (steps.Pends {k = k} n l given call has found code writer step) fit live gone = pends_why n given call k.sessions d.wrote d.says (why_on step (pends_so k fit n pending.Commit) live gone)
     why_on (steps.Lets_reads_go l comment q found begins step) fit live gone = why_on step (record { roots = fit.roots; above = fit.above }) live gone
     why_on (steps.Counts_ack s from kept came counts step) fit live gone = why_on step (record { roots = fit.roots; above = fit.above }) live gone
     why_on (steps.Runs {k = k} x s given t ask way_is) fit live gone = absurd (put k fit live _ gone)
@@ -209,16 +237,21 @@ module _ (input : Input) (b : BranchId) (z : Live) where
     why_on (steps.Opens {k = k} x s given node link table ask way_is) fit live gone = absurd (put k fit live _ gone)
     why_on (steps.Goes_on {k = k} x from strength g link opened) fit live gone = absurd (put k fit live _ gone)
     why_on (steps.Hears_reply {k = k} x weight count a i e answered) fit live gone = absurd (put k fit live _ gone)
-    why_on (steps.Opens_branch {k = k} to parent edge root depth came new) fit live gone = absurd (more k fit live (fresh_live (next_child p k) root (Some parent) depth (strength_of p k)) gone)
+    why_on (steps.Backs {k = k} x step from i calls next) fit live gone = absurd (put k fit live _ gone)
+    why_on (steps.Is_back {k = k} x step from calls none) fit live gone = absurd (put k fit live _ gone)
+    why_on (steps.Opens_branch {k = k} to parent edge root depth read_at came new) fit live gone = absurd (more k fit live (fresh_live (next_child p k) root (Some parent) depth (strength_of p k) read_at) gone)
     why_on (steps.Acts {k = k} l q a why) fit live gone = act_why k fit live l q a why gone
     why_on (steps.Drops_told {k = k} l found drops) fit live gone = told_why k fit live l None _ found drops (left k fit live l.me gone)
     why_on (steps.Drops_asked {k = k} l from found came parent) fit live gone =
         let me : l.me ≡ b = left k fit live l.me gone in
         By_ask from (subst (λ c. Came input from c kinds.Ask) me came) (subst (λ (y : Live). is_branch from y.parent ≡ true) (mine k fit live l found me) parent)
-    why_on (steps.Rolls_back {k = k} n x call has found) fit live gone =
+    why_on (steps.Leaves {k = k} n s d x call ends has found) fit live gone =
         let me : x.live.me ≡ b = left k fit live x.live.me gone in
         let root : (session_at k.sessions n).root ≡ Some b = subst (λ c. (session_at k.sessions n).root ≡ Some c) me has in
-        By_call n call (fit.roots.each n b root) (root_alone k fit n b root z live)
+        left_so n ends call (mine k fit live x.live (live_so k x.live.me x found) me) (fit.roots.each n b root) (root_alone k fit n b root z live)
+    why_on (steps.Sets_read_only {k = k} n call) fit live gone = absurd (there k fit live gone)
+    why_on (steps.Sets_savepoint {k = k} n x name call has code found) fit live gone = absurd (put k fit live x.live gone)
+    why_on (steps.Images {k = k} is) fit live gone = absurd (there k fit live gone)
     why_on (steps.Gives_up {k = k} n x gives has calls found) fit live gone = absurd (put k fit live x.live gone)
     why_on (steps.Gives_up_commit {k = k} n c (Some l) gives has calls found) fit live gone =
         let me : l.me ≡ b = left k fit live l.me gone in

@@ -1,23 +1,25 @@
 -- Each step of a node leaves it true that live branches told their weights in their last Replies.
-use Rattle.std.proofs.Common.{◌≡◌, ◌≢◌, ℕ, ◌+◌, ◌-◌, ◌≤◌, ◌⊎◌, Bool, true, false, if◌then◌else◌, List, [], ◌∷◌, ◌++◌, map, length, max, Option, Some, None, inl, inr, refl, sym, ap, subst, ◌∙◌, arith}
+use Rattle.std.proofs.Common.{◌≡◌, ◌≢◌, ℕ, ◌+◌, ◌≤◌, ◌⊎◌, Bool, true, false, if◌then◌else◌, List, [], ◌∷◌, ◌++◌, map, length, max, Option, Some, None, inl, inr, refl, sym, ap, subst, ◌∙◌, arith}
 use Rattle.std.proofs.lemmas.Bool.{cond_both}
 use Rattle.tran_ids.proofs.BranchLemmas.{equal_from_same, same_from_equal}
 use Rattle.tran_ids.proofs.ListedLemmas.{item_is}
 use Rattle.commit_forget.specs.declared.next.Next.TheVariants as nexts
 use Rattle.session_tree.specs.Live.{children_of, peer_of, new_edge, next_edge, fresh_live}
 use Rattle.session_tree.specs.Tree.{place_of_greatest, weight_by, weight, step as step_from}
-use Rattle.node_rules.specs.Data.{Stmt, Answer, BranchId, Edge, Kind, Live, Act, Post, ReplyFields, Vote, Place, Input}
+use Rattle.node_rules.specs.Data.{Answer, BranchId, Edge, Kind, Live, Act, Post, ReplyFields, Vote, Place, Input}
 use Rattle.node_rules.specs.Data.acts
 use Rattle.node_rules.specs.Data.kinds
+use Rattle.node_rules.specs.declared.work.Errand.{Errand}
+use Rattle.node_rules.specs.declared.work.Errand.TheVariants as errands
 use Rattle.node_rules.specs.declared.session.Session.{Session}
 use Rattle.node_rules.specs.declared.session.PendingCall.TheVariants as pending
 use Rattle.node_rules.specs.declared.work.Work.{Work}
 use Rattle.node_rules.specs.Words.{same, put_item, drop_item}
 use Rattle.node_rules.specs.NodeState.{NodeState, Branch, TurnDraft, live_id, work_id, live_at, branch_at, post, to_one, to_each, no_work, with_work, kept_row_at}
 use Rattle.node_rules.specs.Names.{passed_on}
-use Rattle.node_rules.specs.Statement.{ran, after_run}
-use Rattle.node_rules.specs.Calls.{reply_fields, kept_reply, with_answer, answer_says, called, exec_to, next_child, strength_of, with_edge, waits_for_opened, hears_reply, replies, nobody_at}
-use Rattle.node_rules.specs.Client.{new_root, fresh_root, gives_up}
+use Rattle.node_rules.specs.Statement.{ran}
+use Rattle.node_rules.specs.Calls.{reply_fields, kept_reply, with_answer, answer_says, called, exec_to, next_child, strength_of, with_edge, waits_for_opened, hears_reply, replies, nobody_at, branch_ran, less_room}
+use Rattle.node_rules.specs.Client.{new_root, fresh_root, gives_up, marked}
 use Rattle.node_rules.specs.Prepare.{path_of, site_neighbors, with_prepare_sent, has_voted, answers_first, ready, collecting, with_comment, voted, act_turn}
 use Rattle.node_rules.specs.Commit.{beyond}
 use Rattle.node_rules.specs.Recovery.{kept_told}
@@ -30,12 +32,12 @@ use Rattle.node_rules.specs.LiveBranches.{EachLive, works_of}
 use Rattle.node_rules.proofs.LiveLemmas.{each_put, each_changed, each_left, each_begun, each_same, branch_parts, work_is}
 use Rattle.run_base_laws.specs.InTurnLaws.{reply_number, newest_reply}
 use Rattle.run_rules.proofs.ListLemmas.{all_append, map_after}
-use Rattle.run_base_laws.proofs.RootLemmas.{SessionsFit, root_alone, pends_so, begun_so}
+use Rattle.run_base_laws.proofs.RootLemmas.{SessionsFit, root_alone, pends_so, begun_so, counted_so, back_so}
 use Rattle.run_base_laws.proofs.NeighborLemmas.{News}
-use Rattle.run_base_laws.proofs.NeighborStepLemmas.{begun_news, pends_news, lets_news, acked_news}
+use Rattle.run_base_laws.proofs.NeighborStepLemmas.{begun_news, pends_news, lets_news, acked_news, counted_news, back_news}
 use Rattle.run_base_laws.proofs.KindSayLemmas.{OfDecisions, AllSay, one_says, each_says, prepares_say, told_says, passes_say, askings_say}
 use Rattle.run_base_laws.proofs.InTurnLemmas as turns
-use Rattle.run_base_laws.proofs.InTurnEdgeLemmas.{opened_free, heard_free}
+use Rattle.run_base_laws.proofs.InTurnEdgeLemmas.{opened_free, heard_free, calling_free}
 use Rattle.run_base_laws.proofs.InTurnStepLemmas as drafts
 use Rattle.tree_laws.specs.WeightLaws.{TellsWeight, ToldWeight, TellsItsWeight}
 
@@ -114,9 +116,9 @@ ready_weight : (l : Live) → weight (ready l) ≡ weight l
 unfolding weight
 ready_weight l = refl
 
-fresh_weight : (me root : BranchId) (parent : Option BranchId) (depth strength : ℕ) → weight (fresh_live me root parent depth strength) ≡ None
+fresh_weight : (me root : BranchId) (parent : Option BranchId) (depth strength : ℕ) (read_at : Option ℕ) → weight (fresh_live me root parent depth strength read_at) ≡ None
 unfolding weight
-fresh_weight me root parent depth strength = refl
+fresh_weight me root parent depth strength read_at = refl
 
 -- ---- branches
 
@@ -197,9 +199,9 @@ module _ (E : BranchId → Option ℕ) (A : BranchId → Option BranchId) (G Her
     answer_silent x a None b other n v is = is
     answer_silent x a (Some parent) b other n v is = other_silent x.live.me parent b (kinds.Reply x.work.came.last_call (reply_fields x.live a).weight (reply_fields x.live a).count (reply_fields x.live a).result) other n v is
 
-    exec_none : (ss : List Session) (x : Branch) (i : ℕ) (s : Stmt) (given : ℕ) (o : Option BranchId) → AllSay IsNoReply (exec_to ss x i s given o)
-    exec_none ss x i s given None = tt
-    exec_none ss x i s given (Some c) = ((λ n v is. is), tt)
+    exec_none : (ss : List Session) (x : Branch) (i : ℕ) (e : Errand) (o : Option BranchId) → AllSay IsNoReply (exec_to ss x i e o)
+    exec_none ss x i e None = tt
+    exec_none ss x i e (Some c) = ((λ n v is. is), tt)
 
     answers : (x : Branch) (a : Answer) → x.work.branch ≡ x.live.me → turns.FreeOf E A G Here input said x → EachLive (Then (answer_says x a x.live.parent)) (put_item live_id k.lives x.live) (put_item work_id k.works (with_answer x a).work)
     answers x a mine free = put (answer_says x a x.live.parent) x.live (with_answer x a).work mine (λ b other. answer_silent x a x.live.parent b other) (answers_weighing said x a free.unanswered free.owes)
@@ -207,11 +209,11 @@ module _ (E : BranchId → Option ℕ) (A : BranchId → Option BranchId) (G Her
     owes_calls : (x : Branch) → turns.FreeOf E A G Here input said x → x.live.parent ≢ None → 1 ≤ x.work.came.last_call
     owes_calls x free below = (let owed : newest_reply said x.live.me + 1 ≤ x.work.came.last_call = free.owes below in omega (arith, owed))
 
-    calls : (ss : List Session) (x : Branch) (i : ℕ) (s : Stmt) (given : ℕ) → x.work.branch ≡ x.live.me → turns.FreeOf E A G Here input said x
-        → EachLive (Then (exec_to ss x i s given (peer_of x.live i))) (put_item live_id k.lives x.live) (put_item work_id k.works (called x i s given).work)
-    calls ss x i s given mine free =
-        let none = exec_none ss x i s given (peer_of x.live i) in
-        put (exec_to ss x i s given (peer_of x.live i)) x.live (called x i s given).work mine (λ b other. no_reply _ b none) (waits_weighing _ x.live (called x i s given).work (λ is. absurd cc) free.unanswered (owes_calls x free))
+    calls : (ss : List Session) (x : Branch) (i : ℕ) (e : Errand) → x.work.branch ≡ x.live.me → turns.FreeOf E A G Here input said x
+        → EachLive (Then (exec_to ss x i e (peer_of x.live i))) (put_item live_id k.lives x.live) (put_item work_id k.works (called ss x i e).work)
+    calls ss x i e mine free =
+        let none = exec_none ss x i e (peer_of x.live i) in
+        put (exec_to ss x i e (peer_of x.live i)) x.live (called ss x i e).work mine (λ b other. no_reply _ b none) (waits_weighing _ x.live (called ss x i e).work (λ is. absurd cc) free.unanswered (owes_calls x free))
 
     -- ---- acts
 
@@ -282,15 +284,15 @@ module _ (E : BranchId → Option ℕ) (A : BranchId → Option BranchId) (G Her
             stays_weighing said (replies x to t) l (works_of k.works b) (other_silent x.live.me to l.me (kinds.Reply x.work.came.last_call t.weight t.count t.result) (subst (λ c. same x.live.me c ≡ false) (sym (item_is live_id k.lives b l live)) is)) (now.each b l live)
 
     says_tell : {says : List Post} → Says k input says → EachLive (Then says) k.lives k.works
-    says_tell (steps.Gone_replies to from call given advice s came gone) = gone_says to from _ (gone_live k to gone)
-    says_tell (steps.Replies_again x to call given advice s t came live last kept) = again_says x to t live kept
+    says_tell (steps.Gone_replies to from call task came gone) = gone_says to from _ (gone_live k to gone)
+    says_tell (steps.Replies_again x to call task t came live last kept) = again_says x to t live kept
     says_tell (steps.Tells s from came kept) = quiet _ (told_says IsNoReply no_reply_decisions (kept_told s from), tt)
     says_tell (steps.Recovers reco) = quiet _ (askings_say IsNoReply no_reply_decisions k)
     says_tell (steps.Gone_aborts to from b comment came gone) = quiet _ ((λ n v is. is), tt)
     says_tell (steps.Gone_rolls_back to from came gone) = quiet _ ((λ n v is. is), tt)
     says_tell (steps.Gone_acks to from n came gone) = quiet _ ((λ n v is. is), tt)
     says_tell (steps.Gone_forgets to from came gone) = quiet _ ((λ n v is. is), tt)
-    says_tell (steps.Opened_again to parent edge root depth o came found) = quiet _ ((λ n v is. is), tt)
+    says_tell (steps.Opened_again to parent edge root depth read_at o came found) = quiet _ ((λ n v is. is), tt)
     says_tell (steps.Prepared_again s from b comment came kept again) = quiet _ ((λ n v is. is), tt)
     says_tell (steps.Knows_commit s from n came kept knows) = quiet _ ((λ n v is. is), tt)
     says_tell (steps.Knows_rollback s from came kept knows) = quiet _ ((λ n v is. is), tt)
@@ -311,35 +313,41 @@ module _ (E : BranchId → Option ℕ) (A : BranchId → Option BranchId) (G Her
 
   module _ (p : Place) (place : (b : BranchId) → b.node ≡ p.number → Here b) where
     pub tolds_on : {k : NodeState} {d : TurnDraft} → Step p input k d → SessionsFit k → News (drafts.NewBorn E A G Here input said received) p input k → Nodes k → Tolds k → Leaves d
-    tolds_on (steps.Begins {k = k} n s call rows range none step) ss news nodes now =
-        let root = news.root n s call rows none in
-        tolds_on step (begun_so k ss p n) (begun_news (drafts.NewBorn E A G Here input said received) p input k n news)
-        (drafts.begins_so E A G Here input said received k nodes (fresh_root p k (new_root p k n)) refl (place (new_root p k n) refl) root)
-        (each_begun (Weighs said) (Weighs said) k.lives k.works now (fresh_root p k (new_root p k n)) (begins_weighing said (fresh_root p k (new_root p k n)) (no_work (new_root p k n)) refl refl (fresh_weight _ _ _ _ _)) (λ y v live any is. is))
-    tolds_on (steps.Pends {k = k} n l given call has live code step) ss news nodes now = tolds_on step (pends_so k ss n pending.Commit) (pends_news (drafts.NewBorn E A G Here input said received) p input k n given call news) nodes now
+    tolds_on (steps.Begins {k = k} n s read_at call begins range none step) ss news nodes now =
+        let root = news.root n s read_at call begins none in
+        tolds_on step (begun_so k ss p n read_at) (begun_news (drafts.NewBorn E A G Here input said received) p input k n read_at news)
+        (drafts.begins_so E A G Here input said received k nodes (fresh_root p k (new_root p k n) read_at) refl (place (new_root p k n) refl) root)
+        (each_begun (Weighs said) (Weighs said) k.lives k.works now (fresh_root p k (new_root p k n) read_at) (begins_weighing said (fresh_root p k (new_root p k n) read_at) (no_work (new_root p k n)) refl refl (fresh_weight _ _ _ _ _ _)) (λ y v live any is. is))
+    tolds_on (steps.Counts_call {k = k} n s call counts step) ss news nodes now = tolds_on step (counted_so k ss n) (counted_news (drafts.NewBorn E A G Here input said received) p input k n news) nodes now
+    tolds_on (steps.Goes_back {k = k} x step goes next) ss news nodes now = tolds_on next (back_so k ss x step) (back_news (drafts.NewBorn E A G Here input said received) p input k x step news) nodes now
+    tolds_on (steps.Pends {k = k} n l given call has live code writer step) ss news nodes now = tolds_on step (pends_so k ss n pending.Commit) (pends_news (drafts.NewBorn E A G Here input said received) p input k n given call news) nodes now
     tolds_on (steps.Lets_reads_go {k = k} l comment b live begins step) ss news nodes now = tolds_on step (record { roots = ss.roots; above = ss.above }) (lets_news (drafts.NewBorn E A G Here input said received) p input k l.me news) nodes now
     tolds_on (steps.Counts_ack {k = k} s from kept came counts step) ss news nodes now = tolds_on step (record { roots = ss.roots; above = ss.above }) (acked_news (drafts.NewBorn E A G Here input said received) p input k _ news) nodes now
     tolds_on (steps.Sends {k = k} posts why) ss news nodes now = says_tell k now why
     tolds_on (steps.Runs {k = k} x s given t asked way) ss news nodes now =
         let free : turns.FreeOf E A G Here input said x = turns.asked_free E A G Here input said received k ss nodes asked in
-        let y : Branch = record x { live = after_run x.live (ran p k x.live.me s t) } in
+        let y : Branch = branch_ran k.sessions x t (ran p k x.live.me s t) in
         put k now (answer_says y _ x.live.parent) y.live (with_answer y _).work (drafts.asked_mine E A G Here input said received k asked) (λ b other. answer_silent k now y _ x.live.parent b other)
         (answers_weighing said y _ free.unanswered free.owes)
     tolds_on (steps.Goes_nowhere {k = k} x s given r asked way) ss news nodes now = answers k now x _ (drafts.asked_mine E A G Here input said received k asked) (turns.asked_free E A G Here input said received k ss nodes asked)
     tolds_on (steps.Calls {k = k} x s given i table asked way) ss news nodes now =
-        calls k now k.sessions x i (passed_on s table) given (drafts.asked_mine E A G Here input said received k asked) (turns.asked_free E A G Here input said received k ss nodes asked)
+        calls k now k.sessions x i (errands.Statement (passed_on s table) given) (drafts.asked_mine E A G Here input said received k asked) (turns.asked_free E A G Here input said received k ss nodes asked)
     tolds_on (steps.Opens {k = k} x s given node link table asked way) ss news nodes now =
         let free : turns.FreeOf E A G Here input said x = turns.asked_free E A G Here input said received k ss nodes asked in
-        let says : List Post = post x.live.me (nobody_at node) (kinds.Open (next_edge x.live) x.live.root (x.live.depth + 1)) in
+        let says : List Post = post x.live.me (nobody_at node) (kinds.Open (next_edge x.live) x.live.root (x.live.depth + 1) x.live.read_at) in
         put k now says x.live (waits_for_opened x link (passed_on s table) given).work (drafts.asked_mine E A G Here input said received k asked) (λ b other. no_reply says b ((λ n v is. is), tt))
         (waits_weighing (said ++ says) x.live (waits_for_opened x link (passed_on s table) given).work (λ is. absurd cc) free.unanswered (owes_calls k now x free))
     tolds_on (steps.Goes_on {k = k} x from strength g link opened) ss news nodes now =
-        calls k now k.sessions (with_edge x (new_edge from link strength)) (length x.live.edges + 1) g.statement (g.room - 1) (work_is k x.live.me x opened.live) (opened_free E A G Here input said received k nodes x from strength g link opened)
+        calls k now k.sessions (with_edge x (new_edge from link strength)) (length x.live.edges + 1) (less_room g.errand) (work_is k x.live.me x opened.live) (opened_free E A G Here input said received k nodes x from strength g link opened)
     tolds_on (steps.Hears_reply {k = k} x weight count a i e answered) ss news nodes now =
         answers k now (hears_reply x i weight count e) _ (work_is k x.live.me x answered.live) (heard_free E A G Here input said received k nodes x weight count a i e answered)
-    tolds_on (steps.Opens_branch {k = k} to parent edge root depth came new) ss news nodes now =
-        begun k now (post (next_child p k) parent (kinds.Opened edge (strength_of p k))) ((λ n v is. is), tt) (fresh_live (next_child p k) root (Some parent) depth (strength_of p k))
-        (begins_weighing _ (fresh_live (next_child p k) root (Some parent) depth (strength_of p k)) (no_work (next_child p k)) refl refl (fresh_weight _ _ _ _ _))
+    tolds_on (steps.Backs {k = k} x step from i calling next) ss news nodes now =
+        calls k now k.sessions x i (errands.GoBack step) (drafts.calling_mine E A G Here input said received k calling) (calling_free E A G Here input said received k ss nodes calling)
+    tolds_on (steps.Is_back {k = k} x step from calling none) ss news nodes now =
+        answers k now x _ (drafts.calling_mine E A G Here input said received k calling) (calling_free E A G Here input said received k ss nodes calling)
+    tolds_on (steps.Opens_branch {k = k} to parent edge root depth read_at came new) ss news nodes now =
+        begun k now (post (next_child p k) parent (kinds.Opened edge (strength_of p k))) ((λ n v is. is), tt) (fresh_live (next_child p k) root (Some parent) depth (strength_of p k) read_at)
+        (begins_weighing _ (fresh_live (next_child p k) root (Some parent) depth (strength_of p k) read_at) (no_work (next_child p k)) refl refl (fresh_weight _ _ _ _ _ _))
     tolds_on (steps.Acts {k = k} l b a why) ss news nodes now = acts_tell k now a why
     tolds_on (steps.Drops_told {k = k} l live drops) ss news nodes now = left k now l.me _ (rolled l)
     tolds_on (steps.Drops_asked {k = k} l from live came parent) ss news nodes now = left k now l.me _ ((λ n v is. is), rolled l)
@@ -349,7 +357,12 @@ module _ (E : BranchId → Option ℕ) (A : BranchId → Option BranchId) (G Her
     tolds_on (steps.Does {k = k} s from nexts.Forget kept why) ss news nodes now = quiet k now _ (each_says IsNoReply s.me kinds.Forgotten (map (λ b. b.branch) (beyond s)) (λ n v is. is))
     tolds_on (steps.Does {k = k} s from nexts.SayForgotten kept why) ss news nodes now = quiet k now _ ((λ n v is. is), tt)
     tolds_on (steps.Does {k = k} s from nexts.SayAck kept why) ss news nodes now = quiet k now _ ((λ n v is. is), tt)
-    tolds_on (steps.Rolls_back {k = k} n x call has live) ss news nodes now = left k now x.live.me _ (rolled x.live)
+    tolds_on (steps.Leaves {k = k} n s d x call ends has live) ss news nodes now = left k now x.live.me _ (rolled x.live)
+    tolds_on (steps.Sets_savepoint {k = k} n x name call has code live) ss news nodes now =
+        let parts = branch_parts k x.live.me x live in
+        let was : Weighs said x.live x.work = subst (Weighs said x.live) (sym parts.1) (now.each x.live.me x.live parts.0) in
+        let so : Weighs (said ++ []) x.live x.work = stays_weighing said [] x.live x.work (λ n v is. is) was in
+        put k now [] x.live (marked k.sessions x name).work (work_is k x.live.me x live) (λ b other n v is. is) (record { told = so.told; kept = so.kept; zero_calls = so.zero_calls })
     tolds_on (steps.Gives_up {k = k} n x gives has calls live) ss news nodes now =
         let parts = branch_parts k x.live.me x live in
         let was : Weighs said x.live x.work = subst (Weighs said x.live) (sym parts.1) (now.each x.live.me x.live parts.0) in

@@ -1,5 +1,5 @@
 -- Why a turn seals, decides, and answers Ready or ReadOnly: an act of the prepare phase of a branch that was live.
-use Rattle.std.proofs.Common.{◌≡◌, ◌≢◌, ℕ, ◌+◌, ◌-◌, Bool, List, ◌++◌, length, Option, Some, None, refl, ap}
+use Rattle.std.proofs.Common.{◌≡◌, ◌≢◌, ℕ, ◌+◌, Bool, List, ◌++◌, length, Option, Some, None, refl, ap}
 use Rattle.std.specs.Prelude.{IfSome}
 use Rattle.std.specs.List.{AllByRecursion}
 use Rattle.tran_ids.proofs.ListedLemmas.{put_found}
@@ -7,22 +7,26 @@ use Rattle.commit_forget.specs.declared.next.Next.TheVariants as nexts
 use Rattle.prepare_phase.specs.Records.{sealed_of, decided_of}
 use Rattle.session_tree.specs.Live.{children_of, peer_of, new_edge}
 use Rattle.session_tree.specs.Tree.{step as step_from}
-use Rattle.node_rules.specs.Data.{Answer, Stmt, BranchId, Change, Kind, Live, Act, Post, RedoRecord, Place, Input}
+use Rattle.node_rules.specs.Data.{Answer, BranchId, Change, Kind, Live, Act, Post, RedoRecord, Place, Input}
 use Rattle.node_rules.specs.Data.acts
 use Rattle.node_rules.specs.Data.kinds
 use Rattle.node_rules.specs.Data.phases
 use Rattle.node_rules.specs.Data.records
+use Rattle.node_rules.specs.declared.work.Errand.{Errand}
+use Rattle.node_rules.specs.declared.work.Errand.TheVariants as errands
 use Rattle.node_rules.specs.declared.session.Session.{Session}
 use Rattle.node_rules.specs.Words.{item_at, drop_item}
 use Rattle.node_rules.specs.NodeState.{NodeState, Branch, TurnDraft, live_id, post, to_one, to_each}
-use Rattle.node_rules.specs.Calls.{answer_says, exec_to, with_edge, hears_reply}
-use Rattle.node_rules.specs.Statement.{ran, after_run}
+use Rattle.node_rules.specs.Calls.{answer_says, exec_to, with_edge, hears_reply, branch_ran, less_room}
+use Rattle.node_rules.specs.Names.{passed_on}
+use Rattle.node_rules.specs.Statement.{ran}
 use Rattle.node_rules.specs.Prepare.{path_of, ready, own_changes, site_neighbors, act_turn}
 use Rattle.node_rules.specs.Recovery.{kept_told}
 use Rattle.node_rules.proofs.Steps as steps
 use Rattle.node_rules.proofs.Steps.{Step, Acting, Says}
 use Rattle.run_rules.proofs.ListLemmas.{all_weaker, all_append}
 use Rattle.run_base_laws.proofs.KindSayLemmas.{OfDecisions, AllSay, one_says, each_says, prepares_say, told_says, passes_say, askings_say}
+use Rattle.run_base_laws.proofs.BeginLemmas.{may_begin}
 use Rattle.run_branch_laws.proofs.QuietLemmas.{NoRows, acting_apart}
 use Rattle.run_branch_laws.proofs.FreezeLemmas.{IsPlain}
 
@@ -46,9 +50,9 @@ answer_mute : (x : Branch) (a : Answer) (o : Option BranchId) → AllSay IsMute 
 answer_mute x a None = tt
 answer_mute x a (Some parent) = (((λ e. absurd cc), (λ e. absurd cc)), tt)
 
-exec_mute : (ss : List Session) (x : Branch) (i : ℕ) (s : Stmt) (given : ℕ) (o : Option BranchId) → AllSay IsMute (exec_to ss x i s given o)
-exec_mute ss x i s given None = tt
-exec_mute ss x i s given (Some c) = (((λ e. absurd cc), (λ e. absurd cc)), tt)
+exec_mute : (ss : List Session) (x : Branch) (i : ℕ) (e : Errand) (o : Option BranchId) → AllSay IsMute (exec_to ss x i e o)
+exec_mute ss x i e None = tt
+exec_mute ss x i e (Some c) = (((λ e. absurd cc), (λ e. absurd cc)), tt)
 
 says_mute : {k : NodeState} {input : Input} {says : List Post} → Says k input says → AllSay IsMute says
 says_mute (steps.Tells s from came kept) = (told_says IsMute mute_decisions (kept_told s from), tt)
@@ -147,21 +151,25 @@ module _ (k0 : NodeState) (input : Input) where
   rolled l = each_says IsMute l.me kinds.Rollback (children_of l) ((λ e. absurd cc), (λ e. absurd cc))
 
   module _ (p : Place) where
-    -- the node is as it was, unless a statement with a table came
+    -- the node is as it was, unless a statement that begins a transaction came
     pub why_on : {k : NodeState} {d : TurnDraft} → Step p input k d → (NoRows input → Near k0 k) → WhyOf d
-    why_on (steps.Begins n s call rows range none step) near = why_on step (λ no. absurd (no n s call rows))
-    why_on (steps.Pends {k = k} n l given call has live code step) near = why_on step (λ no. (let is = near no in record { lives = is.lives; clock = is.clock }))
+    why_on (steps.Begins n s read_at call begins range none step) near = why_on step (λ no. absurd (no n s call (may_begin begins)))
+    why_on (steps.Counts_call {k = k} n s call counts step) near = why_on step (λ no. (let is = near no in record { lives = is.lives; clock = is.clock }))
+    why_on (steps.Goes_back {k = k} x step goes next) near = why_on next (λ no. (let is = near no in record { lives = is.lives; clock = is.clock }))
+    why_on (steps.Pends {k = k} n l given call has live code writer step) near = why_on step (λ no. (let is = near no in record { lives = is.lives; clock = is.clock }))
     why_on (steps.Lets_reads_go {k = k} l comment b live begins step) near = why_on step (λ no. (let is = near no in record { lives = is.lives; clock = is.clock }))
     why_on (steps.Counts_ack {k = k} s from kept came counts step) near = why_on step (λ no. (let is = near no in record { lives = is.lives; clock = is.clock }))
     why_on (steps.Sends says why) near = (tt, mutely _ _ says (says_mute why))
-    why_on (steps.Runs {k = k} x s given t asked way) near = (tt, mutely _ _ _ (answer_mute (record x { live = after_run x.live (ran p k x.live.me s t) }) _ x.live.parent))
+    why_on (steps.Runs {k = k} x s given t asked way) near = (tt, mutely _ _ _ (answer_mute (branch_ran k.sessions x t (ran p k x.live.me s t)) _ x.live.parent))
     why_on (steps.Goes_nowhere x s given r asked way) near = (tt, mutely _ _ _ (answer_mute x _ x.live.parent))
-    why_on (steps.Calls {k = k} x s given i table asked way) near = (tt, mutely _ _ _ (exec_mute k.sessions x i _ given (peer_of x.live i)))
+    why_on (steps.Calls {k = k} x s given i table asked way) near = (tt, mutely _ _ _ (exec_mute k.sessions x i (errands.Statement (passed_on s table) given) (peer_of x.live i)))
     why_on (steps.Opens x s given node link table asked way) near = (tt, (tt, tt))
     why_on (steps.Goes_on {k = k} x from strength g link opened) near =
-        (tt, mutely _ _ _ (exec_mute k.sessions (with_edge x (new_edge from link strength)) (length x.live.edges + 1) g.statement (g.room - 1) (peer_of (with_edge x (new_edge from link strength)).live (length x.live.edges + 1))))
+        (tt, mutely _ _ _ (exec_mute k.sessions (with_edge x (new_edge from link strength)) (length x.live.edges + 1) (less_room g.errand) (peer_of (with_edge x (new_edge from link strength)).live (length x.live.edges + 1))))
     why_on (steps.Hears_reply x weight count a i e answered) near = (tt, mutely _ _ _ (answer_mute (hears_reply x i weight count e) _ x.live.parent))
-    why_on (steps.Opens_branch to parent edge root depth came new) near = (tt, (tt, tt))
+    why_on (steps.Backs {k = k} x step from i calls next) near = (tt, mutely _ _ _ (exec_mute k.sessions x i (errands.GoBack step) (peer_of x.live i)))
+    why_on (steps.Is_back x step from calls none) near = (tt, mutely _ _ _ (answer_mute x _ x.live.parent))
+    why_on (steps.Opens_branch to parent edge root depth read_at came new) near = (tt, (tt, tt))
     why_on (steps.Acts {k = k} l b a why) near = acts_why k (near (acting_apart why)) a why
     why_on (steps.Drops_told l live drops) near = (tt, mutely _ _ _ (rolled l))
     why_on (steps.Drops_asked {k = k} l from live came parent) near =
@@ -175,6 +183,6 @@ module _ (k0 : NodeState) (input : Input) where
     why_on (steps.Does s from nexts.SayForgotten kept why) near = (tt, (tt, tt))
     why_on (steps.Does s from nexts.SayAck kept why) near = (tt, (tt, tt))
     why_on (steps.Makes_record n s r d call (steps.Sets_recovery on)) near = (tt, tt)
-    why_on (steps.Rolls_back n x call has live) near = (tt, mutely _ _ _ (rolled x.live))
+    why_on (steps.Leaves n s d x call ends has live) near = (tt, mutely _ _ _ (rolled x.live))
     why_on (steps.Gives_up_commit n b (Some l) gives has calls live) near = (tt, mutely _ _ _ (rolled l))
     why_on _ near = (tt, tt)

@@ -2,7 +2,6 @@
 use Rattle.std.proofs.Common.{◌≡◌, ◌⊎◌, Some, inl, inr, refl}
 use Rattle.std.specs.List.{AllByRecursion}
 use Rattle.node_rules.specs.Data.{Live, Place, Input}
-use Rattle.node_rules.specs.Data.acts
 use Rattle.node_rules.specs.Data.phases
 use Rattle.node_rules.specs.Words.{item_at}
 use Rattle.node_rules.specs.NodeState.{NodeState, TurnDraft, live_id}
@@ -30,10 +29,11 @@ module _ (k0 : NodeState) (input : Input) where
     each : LiveCases p input (λ k. Unit {0}) (λ d. Unit {0}) Works
     each = record {
       lasts = nothing_lasts p input;
-      root = λ k n s call rows free c working. inl refl;
-      child = λ k to parent edge root depth came new c working. inl refl;
+      root = λ k n s read_at call begins free c working. inl refl;
+      child = λ k to parent edge root depth read_at came new c working. inl refl;
       advised = λ l advice so. so;
       runs = λ k x s t so. so;
+      backs = λ l changed so. so;
       opens = λ k x from strength g link opened c so. so;
       replies = λ k x weight count a i e answered so. so;
       acts = λ k l below a why c q all.

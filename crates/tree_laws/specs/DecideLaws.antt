@@ -6,7 +6,7 @@ use Rattle.session_tree.specs.Live.{children_of}
 use Rattle.session_tree.specs.Tree.{weight, step}
 use Rattle.session_tree.specs.declared.act.Walk.TheVariants as walks
 use Rattle.agreement.specs.Events.{Sealed, Decided, exit}
-use Rattle.node_rules.specs.Data.{BranchId, Live}
+use Rattle.node_rules.specs.Data.{BranchId, Live, Place}
 use Rattle.node_rules.specs.Data.stmts
 use Rattle.node_rules.specs.Inputs.{IsCall}
 use Rattle.node_rules.specs.Words.{numbered}
@@ -18,7 +18,7 @@ use Rattle.run_rules.specs.Facts.{Facts, first_facts, node_at, facts_of}
 use Rattle.run_rules.specs.Lawful.{History, IsLawfulRun}
 use Rattle.run_base_laws.specs.RunEvents.{events_of}
 use Rattle.run_rules.specs.Branches.{Trail, PlannedBranch, children_at}
-use Rattle.run_rules.specs.Tree.{has_changes, plan}
+use Rattle.run_rules.specs.Tree.{has_changes, strength_of, plan}
 
 -- a live branch of a node, where it is up
 abbrev pub live_of : Option NodeState → BranchId → Option Live
@@ -39,18 +39,21 @@ pub data InTree (f : Facts) (r : BranchId) : BranchId → Type 0 where
   Is_root : InTree f r r
   Is_child : (p c : BranchId) (l : Live) (i : ℕ) → InTree f r p → live_in f p ≡ Some l → numbered (children_of l) i ≡ Some c → InTree f r c
 
--- What the happenings tell of the live branches of a tree is what their nodes keep: their children, and whether they have changes.
-pub record SeesTree (f : Facts) (tr : Trail) (r : BranchId) : Type 0 where
+-- What the happenings tell of the live branches of a tree is what their nodes keep: their children, whether they have changes, and
+-- the strength with which they began.
+pub record SeesTree (places : List Place) (f : Facts) (tr : Trail) (r : BranchId) : Type 0 where
   pub children : (c : BranchId) (l : Live) → InTree f r c → live_in f c ≡ Some l → children_at tr c ≡ children_of l
   pub changed : (c : BranchId) (l : Live) → InTree f r c → live_in f c ≡ Some l → has_changes tr c ≡ l.changed
+  pub strength : (c : BranchId) (l : Live) → InTree f r c → live_in f c ≡ Some l → strength_of places tr c ≡ l.strength
 
 -- A branch of a plan other than this one, with changes on it or below it, has been sealed.
 abbrev pub IsCoveredBy : History → BranchId → PlannedBranch → Type 0
 IsCoveredBy t b x = x.me ≢ b → x.weight ≢ None → (m : ℕ) × (exit (events_of t) x.me ≡ Some (Sealed m))
 
--- The COMMIT of the root came to it after some happenings, and was not refused. The walk ended at the branch that decides. The plan of
--- the COMMIT has it as the site, where the happenings tell of the tree what nodes keep, and each other branch of the plan with changes on it
--- or below it has been sealed. Every other branch of the tree was live, and has been sealed by now, or had no weight.
+-- The COMMIT of the root came to it after some happenings, was not refused, and its transaction was not READ ONLY. The walk ended at
+-- the branch that decides. The plan of the COMMIT has it as the site, where the happenings tell of the tree what nodes keep, and each
+-- other branch of the plan with changes on it or below it has been sealed. Every other branch of the tree was live, and has been sealed
+-- by now, or had no weight.
 pub record DecidedSo (t : History) (b : BranchId) : Type 0 where
   pub before : List Happening
   pub turn : Turn
@@ -64,8 +67,9 @@ pub record DecidedSo (t : History) (b : BranchId) : Type 0 where
   pub up : node_at (facts_of t.places t.commands (first_facts t.places) before) turn.node ≡ Some kept
   pub has : (session_at kept.sessions session).root ≡ Some root
   pub accepted : (session_at kept.sessions session).code ≡ None
+  pub writes : (l : Live) → live_at kept root ≡ Some l → l.read_at ≡ None
   pub walk : WalksTo (facts_of t.places t.commands (first_facts t.places) before) root b
-  pub planned : (tr : Trail) → SeesTree (facts_of t.places t.commands (first_facts t.places) before) tr root
+  pub planned : (tr : Trail) → SeesTree t.places (facts_of t.places t.commands (first_facts t.places) before) tr root
       → ((plan t.places tr root).site ≡ Some b) × AllByRecursion (IsCoveredBy t b) (plan t.places tr root).tree
   pub covers : (c : BranchId) → InTree (facts_of t.places t.commands (first_facts t.places) before) root c
       → (l : Live) × (live_in (facts_of t.places t.commands (first_facts t.places) before) c ≡ Some l) × ((c ≡ b) ⊎ (((m : ℕ) × (exit (events_of t) c ≡ Some (Sealed m))) ⊎ (weight l ≡ None)))

@@ -1,13 +1,15 @@
 -- What live branches of a session tree know of one another while no statement is under way: each child weighs what its parent holds
 -- of it.
-use Rattle.std.specs.Prelude.{◌≡◌, ℕ, ◌+◌, ◌≤◌, length, Some, None}
+use Rattle.std.specs.Prelude.{◌≡◌, ℕ, ◌+◌, ◌≤◌, List, length, Option, Some, None}
 use Rattle.dtx_values.specs.Limits.{depth_limit}
 use Rattle.session_tree.specs.Tree.{weight}
-use Rattle.node_rules.specs.Data.{Edge}
+use Rattle.node_rules.specs.Data.{BranchId, Edge}
 use Rattle.node_rules.specs.Words.{numbered}
 use Rattle.node_rules.specs.NodeState.{NodeState, Branch, branch_at}
-use Rattle.run_rules.specs.Facts.{place_at, node_at}
+use Rattle.run_rules.specs.Facts.{node_at}
+use Rattle.run_rules.specs.Births.{Born, births_of}
 use Rattle.run_rules.specs.Lawful.{History, IsLawfulRun, facts_at}
+use Rattle.run_base_laws.specs.BirthLaws.{Began}
 use Rattle.run_base_laws.specs.InTurnLaws.{said_in, newest_exec, call_at, NeedsNoRollback}
 
 -- In every lawful run a live branch has called each of its children.
@@ -31,6 +33,15 @@ ChildrenWeigh = (t : History) → IsLawfulRun t → (n : ℕ) (k : NodeState) �
 abbrev pub ParentsAreShallow : Type 0
 ParentsAreShallow = (t : History) → IsLawfulRun t → (n : ℕ) (k : NodeState) → node_at (facts_at t) n ≡ Some k → (x : Branch) → branch_at k x.live.me ≡ Some x → 1 ≤ length x.live.edges → x.live.depth + 1 ≤ depth_limit
 
--- In every lawful run a live branch has the commit point strength of its node's place.
+-- A branch began with this commit point strength, and where its transaction is READ ONLY with this SCN.
+pub record BeganWith (bs : List Born) (b : BranchId) (strength : ℕ) (read_at : Option ℕ) : Type 0 where
+  pub born : Born
+  pub began : Began bs born
+  pub is_me : born.me ≡ b
+  pub is_strength : born.strength ≡ strength
+  pub is_read_at : born.read_at ≡ read_at
+
+-- In every lawful run a live branch has the commit point strength that its node had as it began, and reads at the SCN of its transaction.
 abbrev pub LivesHaveStrength : Type 0
-LivesHaveStrength = (t : History) → IsLawfulRun t → (n : ℕ) (k : NodeState) → node_at (facts_at t) n ≡ Some k → (x : Branch) → branch_at k x.live.me ≡ Some x → x.live.strength ≡ (place_at t.places n).strength
+LivesHaveStrength = (t : History) → IsLawfulRun t → (n : ℕ) (k : NodeState) → node_at (facts_at t) n ≡ Some k → (x : Branch) → branch_at k x.live.me ≡ Some x
+    → BeganWith (births_of t) x.live.me x.live.strength x.live.read_at

@@ -1,5 +1,5 @@
 -- In every lawful run a live branch below a root is told to have begun, with its parent and its children as its node keeps them.
-use Rattle.std.proofs.Common.{◌≡◌, ℕ, ◌≤◌, ◌⊎◌, Bool, true, false, if◌then◌else◌, List, [], ◌∷◌, ◌++◌, Some, None, inl, inr, refl, sym, ap, subst, ◌∙◌, append-nil}
+use Rattle.std.proofs.Common.{◌≡◌, ℕ, ◌≤◌, ◌⊎◌, Bool, true, false, if◌then◌else◌, List, [], ◌∷◌, ◌++◌, Some, None, inl, inr, refl, sym, ap, subst, ◌∙◌, append-nil, unwrap_or}
 use Rattle.std.specs.List.{AllByRecursion}
 use Rattle.node_rules.specs.Data.{BranchId, Live}
 use Rattle.node_rules.specs.Words.{numbered, set_numbered}
@@ -11,7 +11,7 @@ use Rattle.run_base_laws.specs.BirthLaws.{Began}
 use Rattle.run_rules.specs.Branches.{Dropped, Seen, Trail, seen_id, is_live_at}
 use Rattle.run_rules.specs.Data.{Happening}
 use Rattle.run_rules.specs.Data.happenings
-use Rattle.run_rules.specs.Facts.{Facts, flat, node_at, with_boot, facts_after, facts_of}
+use Rattle.run_rules.specs.Facts.{Facts, flat, node_at, with_boot, facts_after, facts_of, place_at}
 use Rattle.run_rules.specs.Lawful.{History, IsLawfulRun}
 use Rattle.run_rules.specs.Trail.{trail_of, stopped_by, trail_after}
 use Rattle.run_rules.proofs.ListLemmas.{all_weaker, all_map}
@@ -33,7 +33,7 @@ module _ (t : History) (whole : IsLawfulRun t) where
         inr (born.0, born_end (so_far t (hs ++ h ∷ [])) (part_lawful t whole (hs ++ h ∷ []) (part_on t whole hs h rest is)) hs (record { rest = h ∷ []; is = refl }) born.0 born.1, born.2)
 
     -- the branches that are told stay so, and those that are live were
-    pub same_reports : (g : Facts) (tr : Trail) → facts_after t.places t.commands (f_at t hs) h ≡ g → trail_after t.places (f_at t hs) (tr_at t hs) h ≡ tr → ((l : Live) → IsTracedOf (tr_at t hs) l → IsTracedOf tr l)
+    pub same_reports : (g : Facts) (tr : Trail) → facts_after t.places t.commands (f_at t hs) h ≡ g → trail_after t.places (f_at t hs) (tr_at t hs) h ≡ tr → ((l : Live) → IsTracedOf t.places (tr_at t hs) l → IsTracedOf t.places tr l)
         → ((n : ℕ) (j : NodeState) → node_at g n ≡ Some j → (l : Live) → live_at j l.me ≡ Some l → node_at (f_at t hs) n ≡ Some j) → AllByRecursion (IsKnown t whole (hs ++ h ∷ [])) tr.seen → Tells t whole (hs ++ h ∷ [])
     same_reports g tr facts trail told still known = record {
       lower = subst (λ f. TracesLower t whole f (tr_at t (hs ++ h ∷ []))) (sym (one_on t hs h ∙ facts))
@@ -41,19 +41,27 @@ module _ (t : History) (whole : IsLawfulRun t) where
       known = subst (λ x. AllByRecursion (IsKnown t whole (hs ++ h ∷ [])) x.seen) (sym (trail_one_on t hs h ∙ trail)) known;
     }
 
-  stopped_same : (n : ℕ) (s : Seen) → ((stopped_by n s).me ≡ s.me) × ((stopped_by n s).parent ≡ s.parent) × ((stopped_by n s).children ≡ s.children)
+  stopped_same : (n : ℕ) (s : Seen) → ((stopped_by n s).me ≡ s.me) × ((stopped_by n s).parent ≡ s.parent) × ((stopped_by n s).children ≡ s.children) × ((stopped_by n s).read_at ≡ s.read_at) × ((stopped_by n s).strength ≡ s.strength)
   stopped_same n s = by (is_live_at n s)
     where
       by : (q : Bool) → ((if q then record s { exit = Some Dropped } else s).me ≡ s.me) × ((if q then record s { exit = Some Dropped } else s).parent ≡ s.parent) × ((if q then record s { exit = Some Dropped } else s).children ≡ s.children)
-      by true = (refl, refl, refl)
-      by false = (refl, refl, refl)
+          × ((if q then record s { exit = Some Dropped } else s).read_at ≡ s.read_at) × ((if q then record s { exit = Some Dropped } else s).strength ≡ s.strength)
+      by true = (refl, refl, refl, refl, refl)
+      by false = (refl, refl, refl, refl, refl)
 
   tells_on : (hs : List Happening) (h : Happening) (rest : List Happening) → hs ++ h ∷ rest ≡ t.trace → Tells t whole hs → Tells t whole (hs ++ h ∷ [])
   unfolding facts_after trail_after start_of
   tells_on hs (happenings.Turn u) rest is now = turn_tells t whole hs u rest is now
   tells_on hs (happenings.Stopped n) rest is now =
       same_reports hs (happenings.Stopped n) rest is now _ _ refl refl
-      (λ l told. (stopped_by n told.0, item_mapped seen_id (stopped_by n) (λ s. (stopped_same n s).0) (tr_at t hs).seen l.me told.0 told.1, (stopped_same n told.0).1 ∙ told.2, (stopped_same n told.0).2 ∙ told.3))
+      (λ l told. (
+        stopped_by n told.0,
+        item_mapped seen_id (stopped_by n) (λ s. (stopped_same n s).0) (tr_at t hs).seen l.me told.0 told.1,
+        (stopped_same n told.0).1 ∙ told.2,
+        (stopped_same n told.0).2 ∙ told.3,
+        (stopped_same n told.0).3 ∙ told.4,
+        ap (λ o. unwrap_or o (place_at t.places l.me.node).strength) (stopped_same n told.0).4 ∙ told.5,
+      ))
       (λ m j up l live. elim (set_or_before (f_at t hs).nodes n m None) [
         | inl before ↦ sym (ap flat before) ∙ up
         | inr gone ↦ (let none : flat (numbered (set_numbered (f_at t hs).nodes n None) m) ≡ None = ap flat gone.1 in absurd (cc (none, up)))

@@ -1,5 +1,5 @@
 -- What a turn tells of live branches below roots: that they began, with their parents and their children.
-use Rattle.std.proofs.Common.{◌≡◌, ◌≢◌, ℕ, zero, suc, ◌+◌, ◌≤◌, ◌&&◌, ◌⊎◌, Bool, true, false, if◌then◌else◌, is_none, List, [], ◌∷◌, ◌++◌, map, length, Option, Some, None, inl, inr, refl, sym, ap, subst, ◌∙◌, arith}
+use Rattle.std.proofs.Common.{◌≡◌, ◌≢◌, ℕ, zero, suc, ◌+◌, ◌≤◌, ◌&&◌, ◌⊎◌, Bool, true, false, if◌then◌else◌, is_none, List, [], ◌∷◌, ◌++◌, map, length, Option, Some, None, inl, inr, refl, sym, ap, subst, ◌∙◌, arith, unwrap_or}
 use Rattle.std.specs.List.{AllByRecursion}
 use Rattle.std.proofs.lemmas.Bool.{or_cases, eqb-true, cases_eq}
 use Rattle.std.proofs.lemmas.List.{length-map}
@@ -19,12 +19,12 @@ use Rattle.run_base_laws.specs.BirthLaws.{Began, IsChildAt, LiveIs, GoesSo}
 use Rattle.run_rules.specs.Branches.{Seen, Trail, seen_id, seen_at, is_among, root_at, newly_seen}
 use Rattle.run_rules.specs.Data.{Turn, Happening}
 use Rattle.run_rules.specs.Data.happenings
-use Rattle.run_rules.specs.Facts.{Facts, node_at, kept_after}
+use Rattle.run_rules.specs.Facts.{Facts, node_at, kept_after, place_at, records_at}
 use Rattle.run_rules.specs.Lawful.{MayHappen, IsOwed, History, IsLawfulRun, facts_at}
 use Rattle.run_base_laws.specs.RunEvents.{events_of}
-use Rattle.run_rules.specs.Runs.{is_of_rows}
+use Rattle.run_rules.specs.Runs.{is_of_rows, begins_transaction}
 use Rattle.run_base_laws.specs.InTurnLaws.{post_of, packet_post, said_in}
-use Rattle.run_rules.specs.Trail.{next_root, root_seen, begun_in_turn, roots_begun, children_begun, child_begun, children_after, trail_after}
+use Rattle.run_rules.specs.Trail.{next_root, root_seen, begun_in_turn, roots_begun, children_begun, child_begun, children_after, trail_after, strength_at}
 use Rattle.run_rules.proofs.AtNodeLemmas.{turn_elsewhere, turn_here}
 use Rattle.run_base_laws.proofs.BirthLemmas.{news_of}
 use Rattle.run_base_laws.proofs.BirthRunLemmas.{StandBorn, run_births, messages_are_of_neighbors, nodes_name_the_born}
@@ -41,12 +41,14 @@ use Rattle.tree_laws.proofs.PrefixLemmas.{so_far, f_at, one_on}
 use Rattle.tree_laws.proofs.TimeLemmas.{may_of, born_end}
 use Rattle.tree_trail_laws.specs.ChildLaws.{IsTracedOf}
 use Rattle.tree_trail_laws.proofs.CallLemmas.{call_free}
-use Rattle.tree_trail_laws.proofs.ChildStepLemmas.{called_by, stamped_calls, still_calls, NotThere, Same, Grows, IsOpened, Grown, NewChild, grows_on}
+use Rattle.tree_trail_laws.proofs.ChildStepLemmas.{called_by, stamped_calls, still_calls, NotThere, Same, Grows, IsOpened, Grown, NewChild, grows_on, StandsAs}
 use Rattle.tree_trail_laws.proofs.MomentLemmas.{tr_at, trail_one_on}
 use Rattle.tree_trail_laws.proofs.PlanLemmas.{find_more, find_last}
 use Rattle.tree_trail_laws.proofs.SeenLemmas.{begun, turned, seen_begun}
 use Rattle.tree_laws.proofs.AtTurn.{at_turn}
 use Rattle.tree_trail_laws.proofs.AtTrail.{at_trail}
+use Rattle.tree_trail_laws.proofs.DurableLemmas.{strength_stored}
+use Rattle.run_base_laws.proofs.StoredLemmas.{records_are_kept}
 
 -- ---- lists
 
@@ -80,7 +82,7 @@ module _ (t : History) (whole : IsLawfulRun t) where
 
   -- the live branches below roots are told
   abbrev pub TracesLower : Facts → Trail → Type 0
-  TracesLower f tr = (n : ℕ) (k : NodeState) → node_at f n ≡ Some k → (l : Live) → live_at k l.me ≡ Some l → l.parent ≢ None → IsTracedOf tr l
+  TracesLower f tr = (n : ℕ) (k : NodeState) → node_at f n ≡ Some k → (l : Live) → live_at k l.me ≡ Some l → l.parent ≢ None → IsTracedOf t.places tr l
 
   -- what each happening keeps
   pub record Tells (hs : List Happening) : Type 0 where
@@ -129,8 +131,9 @@ module _ (t : History) (whole : IsLawfulRun t) where
             let me : l.me ≡ b = item_is live_id ls b l found in
             let at : item_at live_id k.lives l.me ≡ Some l = subst (λ xs. item_at live_id xs l.me ≡ Some l) are (subst (λ c. item_at live_id ls c ≡ Some l) (sym me) found) in
             record {
-              old = λ z there. (let it : Some l ≡ Some z = sym at ∙ there in let here : l ≡ z = cc in (ap children_of here, ap (λ (y : Live). y.parent) here));
+              old = λ z there. (let it : Some l ≡ Some z = sym at ∙ there in let here : l ≡ z = cc in (ap children_of here, ap (λ (y : Live). y.parent) here, ap (λ (y : Live). y.read_at) here, ap (λ (y : Live). y.strength) here));
               new = λ none. absurd (cc (at, none));
+              begun = λ none. absurd (cc (at, none));
             }
 
     heard_lives : (input : Input) → (heard k input).lives ≡ k.lives
@@ -138,6 +141,19 @@ module _ (t : History) (whole : IsLawfulRun t) where
     heard_lives (inputs.Call n s) = refl
     heard_lives (inputs.GiveUp n) = refl
     heard_lives inputs.Reco = refl
+    heard_lives inputs.Checkpoint = refl
+
+    -- as the turn begins the node has the strength that it had, and at a call its clock
+    stands_as : (input : Input) → StandsAs k p input Unborn (heard k input)
+    stands_as (inputs.Message m) = record { strength = refl; clock = λ n s call. absurd cc }
+    stands_as (inputs.Call n s) = record { strength = refl; clock = λ n s call. refl }
+    stands_as (inputs.GiveUp n) = record { strength = refl; clock = λ n s call. refl }
+    stands_as inputs.Reco = record { strength = refl; clock = λ n s call. refl }
+    stands_as inputs.Checkpoint = record { strength = refl; clock = λ n s call. refl }
+
+    -- by its records too
+    pub strength_kept : strength_at f0 u.node ≡ k.stored.durable.strength
+    strength_kept = sym (strength_stored (records_at f0 u.node) k (records_are_kept s0 lawful0 u.node k may.1.up))
 
     fresh : NewChild k p u.input Unborn
     fresh z found from edge strength came new = bool_by (is_among from (children_of z)) (λ q. q ≡ false) (λ there. absurd (clash there)) (λ other. refl)
@@ -156,22 +172,23 @@ module _ (t : History) (whole : IsLawfulRun t) where
             omega (arith, number_is, next, long, place.2)
 
     pub grown : Grown k p u.input Unborn d
-    grown = grows_on k p u.input Unborn fresh serving.step news (same_lives (heard k u.input).lives (heard_lives u.input))
+    grown = grows_on k p u.input Unborn fresh serving.step news (stands_as u.input) (same_lives (heard k u.input).lives (heard_lives u.input))
 
     -- ---- the trail
 
-    turned_so : (b : BranchId) (s : Seen) → seen_at (begun t.places f0 tr0 u) b ≡ Some s → (l : Live) → l.me ≡ b → s.parent ≡ l.parent → children_after s.me s.children u.sent ≡ children_of l → IsTracedOf tr1 l
-    turned_so b s at l me parent kids =
-        (turned t.places f0 tr0 u s, subst (λ c. seen_at tr1 c ≡ Some (turned t.places f0 tr0 u s)) (sym me) (seen_begun t.places f0 tr0 u b s at), parent, kids)
+    turned_so : (b : BranchId) (s : Seen) → seen_at (begun t.places f0 tr0 u) b ≡ Some s → (l : Live) → l.me ≡ b → s.parent ≡ l.parent → children_after s.me s.children u.sent ≡ children_of l
+        → s.read_at ≡ l.read_at → unwrap_or s.strength (place_at t.places l.me.node).strength ≡ l.strength → IsTracedOf t.places tr1 l
+    turned_so b s at l me parent kids reads strong =
+        (turned t.places f0 tr0 u s, subst (λ c. seen_at tr1 c ≡ Some (turned t.places f0 tr0 u s)) (sym me) (seen_begun t.places f0 tr0 u b s at), parent, kids, reads, strong)
 
     old_begun : (b : BranchId) (s : Seen) → seen_at tr0 b ≡ Some s → seen_at (begun t.places f0 tr0 u) b ≡ Some s
     old_begun b s at = find_more (is_item_of seen_id b) tr0.seen _ s at
 
     -- a branch that stays as it was
-    stays_told : (l : Live) → IsTracedOf tr0 l → children_after l.me (children_of l) u.sent ≡ children_of l → IsTracedOf tr1 l
+    stays_told : (l : Live) → IsTracedOf t.places tr0 l → children_after l.me (children_of l) u.sent ≡ children_of l → IsTracedOf t.places tr1 l
     stays_told l told silent =
         let me : told.0.me ≡ l.me = item_is seen_id tr0.seen l.me told.0 told.1 in
-        turned_so l.me told.0 (old_begun l.me told.0 told.1) l refl told.2 (ap (λ b. children_after b told.0.children u.sent) me ∙ (ap (λ cs. children_after l.me cs u.sent) told.3 ∙ silent))
+        turned_so l.me told.0 (old_begun l.me told.0 told.1) l refl told.2 (ap (λ b. children_after b told.0.children u.sent) me ∙ (ap (λ cs. children_after l.me cs u.sent) told.3 ∙ silent)) told.4 told.5
 
     -- ---- another node
 
@@ -203,7 +220,7 @@ module _ (t : History) (whole : IsLawfulRun t) where
         by true is = ap (children_after b cs) (sent_by is)
         by false is = ap (children_after b cs) (unfolding_sent is) ∙ (stamped_calls b d.after.clock cs d.says ∙ grown.1 b cs (own_after is b other (item_at live_id d.after.lives b) refl))
 
-    told_elsewhere : (n : ℕ) (j : NodeState) → u.node ≢ n → node_at f1 n ≡ Some j → (l : Live) → live_at j l.me ≡ Some l → l.parent ≢ None → IsTracedOf tr1 l
+    told_elsewhere : (n : ℕ) (j : NodeState) → u.node ≢ n → node_at f1 n ≡ Some j → (l : Live) → live_at j l.me ≡ Some l → l.parent ≢ None → IsTracedOf t.places tr1 l
     told_elsewhere n j other up l live below =
         let before : node_at f0 n ≡ Some j = sym (turn_elsewhere t.places t.commands f0 stand.0.0.even u n other).0 ∙ up in
         let own : l.me.node ≡ n = all_found (λ l. l.me.node ≡ n) live_id j.lives l.me l (ids_name_their_node s0 lawful0 n j before).lives live in
@@ -221,49 +238,61 @@ module _ (t : History) (whole : IsLawfulRun t) where
             | inr born ↦ (let at : born_at bs0 l.me ≡ Some born.0 = subst (λ c. born_at bs0 c ≡ Some born.0) (born.2 ∙ me) born.1 in let none = opened.unborn in absurd (cc (at, none)))
           ]
 
-      pub opened_begun : (l : Live) (opened : IsOpened k p u.input Unborn d.says l) → seen_at (begun t.places f0 tr0 u) l.me ≡ Some (newly_seen l.me opened.root (Some opened.parent))
+      pub opened_begun : (l : Live) (opened : IsOpened k p u.input Unborn d.says l) → seen_at (begun t.places f0 tr0 u) l.me ≡ Some (newly_seen l.me opened.root (Some opened.parent) (strength_at f0 l.me.node) opened.read_at)
       opened_begun l opened =
-          let m : Msg = record { from = opened.parent; to = opened.to; scn = opened.came.scn; kind = kinds.Open opened.edge opened.root opened.depth } in
+          let m : Msg = record { from = opened.parent; to = opened.to; scn = opened.came.scn; kind = kinds.Open opened.edge opened.root opened.depth opened.read_at } in
           let x : Msg = record { from = l.me; to = opened.parent; scn = d.after.clock; kind = kinds.Opened opened.edge opened.strength } in
-          let s : Seen = newly_seen l.me opened.root (Some opened.parent) in
+          let s : Seen = newly_seen l.me opened.root (Some opened.parent) (strength_at f0 l.me.node) opened.read_at in
           let sent : u.sent ≡ x ∷ [] = unfolding_sent whole_turn ∙ ap (map (stamped d.after.clock)) opened.told in
           let none : seen_at tr0 l.me ≡ None = opened_seen l opened (seen_at tr0 l.me) refl in
-          let begins : begun_in_turn f0 tr0 u ≡ s ∷ [] = ap (λ c. if c then [] else roots_begun f0 tr0 u.node u.input ++ children_begun tr0 u.input u.sent) whole_turn
-          ∙ (ap (λ i. roots_begun f0 tr0 u.node i ++ children_begun tr0 i u.sent) opened.came.is
-          ∙ (ap (λ ms. children_begun tr0 (inputs.Message m) ms) sent ∙ ap (λ (o : Option Seen). if is_none o then s ∷ [] else []) none)) in
+          let begins : begun_in_turn f0 tr0 u ≡ s ∷ [] = ap (λ c. if c then [] else roots_begun f0 tr0 u.node u.input ++ children_begun f0 tr0 u.input u.sent) whole_turn
+          ∙ (ap (λ i. roots_begun f0 tr0 u.node i ++ children_begun f0 tr0 i u.sent) opened.came.is
+          ∙ (ap (λ ms. children_begun f0 tr0 (inputs.Message m) ms) sent ∙ ap (λ (o : Option Seen). if is_none o then s ∷ [] else []) none)) in
           ap (λ xs. item_at seen_id (tr0.seen ++ xs) l.me) begins ∙ find_last (is_item_of seen_id l.me) tr0.seen s none (same_from_equal l.me l.me refl)
 
-      told_opened : (l : Live) → IsOpened k p u.input Unborn d.says l → IsTracedOf tr1 l
-      told_opened l opened =
-          turned_so l.me (newly_seen l.me opened.root (Some opened.parent)) (opened_begun l opened) l refl (sym opened.is_parent)
+      told_opened : (l : Live) → live_at d.after l.me ≡ Some l → IsOpened k p u.input Unborn d.says l → IsTracedOf t.places tr1 l
+      told_opened l live opened =
+          turned_so l.me (newly_seen l.me opened.root (Some opened.parent) (strength_at f0 l.me.node) opened.read_at) (opened_begun l opened) l refl (sym opened.is_parent)
           (ap (children_after l.me []) (unfolding_sent whole_turn) ∙ (stamped_calls l.me d.after.clock [] d.says ∙ (ap (called_by l.me []) opened.told ∙ (still_calls l.me [] (post l.me opened.parent (kinds.Opened opened.edge opened.strength)) (refl, tt) ∙ sym opened.none))))
+          (sym opened.reads) opened_strong
+        where
+          here : l.me.node ≡ u.node
+          here = elim (cases_eq l.me.node u.node) [
+            | inl is ↦ is
+            | inr other ↦ (let none = own_after whole_turn l.me other (live_at d.after l.me) refl in absurd (cc (live, none)))
+          ]
 
-      told_here : (l : Live) → live_at d.after l.me ≡ Some l → l.parent ≢ None → IsTracedOf tr1 l
+          -- it has the strength of its node
+          opened_strong : unwrap_or (strength_at f0 l.me.node) (place_at t.places l.me.node).strength ≡ l.strength
+          opened_strong = ap (λ n. unwrap_or (strength_at f0 n) (place_at t.places n).strength) here ∙ (ap (λ o. unwrap_or o p.strength) strength_kept ∙ sym opened.strong)
+
+      told_here : (l : Live) → live_at d.after l.me ≡ Some l → l.parent ≢ None → IsTracedOf t.places tr1 l
       told_here l live below = by (item_at live_id k.lives l.me) refl
         where
           its : Grows k p u.input Unborn d.says l
           its = grown.0.each l.me l live
 
-          by : (o : Option Live) → item_at live_id k.lives l.me ≡ o → IsTracedOf tr1 l
-          by None none = elim (its.new none) [ inl root ↦ absurd (below root) | inr opened ↦ told_opened l opened ]
+          by : (o : Option Live) → item_at live_id k.lives l.me ≡ o → IsTracedOf t.places tr1 l
+          by None none = elim (its.new none) [ inl root ↦ absurd (below root) | inr opened ↦ told_opened l live opened ]
           by (Some z) found =
               let was = its.old z found in
               let me : z.me ≡ l.me = item_is live_id k.lives l.me z found in
-              let told : IsTracedOf tr0 z = now.lower u.node k may.1.up z (subst (λ c. live_at k c ≡ Some z) (sym me) found) (λ none. below (was.1 ∙ none)) in
+              let told : IsTracedOf t.places tr0 z = now.lower u.node k may.1.up z (subst (λ c. live_at k c ≡ Some z) (sym me) found) (λ none. below (was.1 ∙ none)) in
               let at : seen_at tr0 l.me ≡ Some told.0 = subst (λ c. seen_at tr0 c ≡ Some told.0) me told.1 in
               let mine : told.0.me ≡ l.me = item_is seen_id tr0.seen l.me told.0 at in
               turned_so l.me told.0 (old_begun l.me told.0 at) l refl (told.2 ∙ sym was.1)
               (ap (λ b. children_after b told.0.children u.sent) mine
               ∙ (ap (λ cs. children_after l.me cs u.sent) told.3
-              ∙ (ap (children_after l.me (children_of z)) (unfolding_sent whole_turn) ∙ (stamped_calls l.me d.after.clock (children_of z) d.says ∙ sym was.0))))
+              ∙ (ap (children_after l.me (children_of z)) (unfolding_sent whole_turn) ∙ (stamped_calls l.me d.after.clock (children_of z) d.says ∙ sym was.0)))) (told.4 ∙ sym was.2)
+              (subst (λ (b : BranchId). unwrap_or told.0.strength (place_at t.places b.node).strength ≡ z.strength) me told.5 ∙ sym was.3)
 
-    pub told_at : (n : ℕ) (j : NodeState) → node_at f1 n ≡ Some j → (l : Live) → live_at j l.me ≡ Some l → l.parent ≢ None → IsTracedOf tr1 l
+    pub told_at : (n : ℕ) (j : NodeState) → node_at f1 n ≡ Some j → (l : Live) → live_at j l.me ≡ Some l → l.parent ≢ None → IsTracedOf t.places tr1 l
     told_at n j up l live below = elim (cases_eq u.node n) [
       | inl here ↦ own u.cut refl (subst (λ m. node_at f1 m ≡ Some j) (sym here) up)
       | inr other ↦ told_elsewhere n j other up l live below
     ]
       where
-        own : (cut : Bool) → u.cut ≡ cut → node_at f1 u.node ≡ Some j → IsTracedOf tr1 l
+        own : (cut : Bool) → u.cut ≡ cut → node_at f1 u.node ≡ Some j → IsTracedOf t.places tr1 l
         own true is there =
             let none : node_at f1 u.node ≡ None = here_after ∙ ap (λ c. kept_after c (Some (turn_of p k u.input))) is in absurd (cc (none, there))
         own false is there =
@@ -278,9 +307,9 @@ module _ (t : History) (whole : IsLawfulRun t) where
     known_more s (inr born) = inr (born.0, born_end s1 lawful1 hs (record { rest = happenings.Turn u ∷ []; is = refl }) born.0 born.1, born.2)
 
     roots_known : (n : ℕ) (input : Input) → ((session : ℕ) (s : Option Stmt) → input ≡ inputs.Call session s → session ≤ 64) → AllByRecursion (IsKnown hs1) (roots_begun f0 tr0 n input)
-    roots_known n (inputs.Call session (Some s)) low = by (is_of_rows s && is_none (root_at tr0 n session))
+    roots_known n (inputs.Call session (Some s)) low = by (begins_transaction s && is_none (root_at tr0 n session))
       where
-        by : (q : Bool) → AllByRecursion (IsKnown hs1) (if q then root_seen (next_root f0 tr0 n session) ∷ [] else [])
+        by : (q : Bool) → AllByRecursion (IsKnown hs1) (if q then root_seen f0 n s (next_root f0 tr0 n session) ∷ [] else [])
         by true = (inl (low session (Some s) refl), tt)
         by false = tt
     roots_known n _ low = tt
@@ -296,16 +325,16 @@ module _ (t : History) (whole : IsLawfulRun t) where
         let child : IsChildAt (Began (births_of s1)) m.from m.to edge = subst (GoesSo (Began (births_of s1)) m.from m.to) kind first in
         (child.0, child.1, child.2)
 
-    child_known : (came kind : Kind) (m : Msg) → ((edge strength : ℕ) → kind ≡ kinds.Opened edge strength → (x : Born) × Began (births_of s1) x × (x.me ≡ m.from)) → AllByRecursion (IsKnown hs1) (child_begun tr0 came kind m)
-    child_known (kinds.Open edge root depth) (kinds.Opened number strength) m born = by (is_none (seen_at tr0 m.from))
+    child_known : (came kind : Kind) (m : Msg) → ((edge strength : ℕ) → kind ≡ kinds.Opened edge strength → (x : Born) × Began (births_of s1) x × (x.me ≡ m.from)) → AllByRecursion (IsKnown hs1) (child_begun f0 tr0 came kind m)
+    child_known (kinds.Open edge root depth read_at) (kinds.Opened number strength) m born = by (is_none (seen_at tr0 m.from))
       where
-        by : (q : Bool) → AllByRecursion (IsKnown hs1) (if q then newly_seen m.from root (Some m.to) ∷ [] else [])
+        by : (q : Bool) → AllByRecursion (IsKnown hs1) (if q then newly_seen m.from root (Some m.to) (strength_at f0 m.from.node) read_at ∷ [] else [])
         by true = (inr (born number strength refl), tt)
         by false = tt
-    child_known (kinds.Open edge root depth) _ m born = tt
+    child_known (kinds.Open edge root depth read_at) _ m born = tt
     child_known _ kind m born = tt
 
-    children_known : (input : Input) (ms : List Msg) → u.sent ≡ ms → AllByRecursion (IsKnown hs1) (children_begun tr0 input ms)
+    children_known : (input : Input) (ms : List Msg) → u.sent ≡ ms → AllByRecursion (IsKnown hs1) (children_begun f0 tr0 input ms)
     children_known (inputs.Message came) (m ∷ ms) sent = child_known came.kind m.kind m (λ edge strength kind. opened_born m ms sent edge strength kind)
     children_known (inputs.Message came) [] sent = tt
     children_known _ ms sent = tt
@@ -313,10 +342,10 @@ module _ (t : History) (whole : IsLawfulRun t) where
     begun_known : AllByRecursion (IsKnown hs1) (begun_in_turn f0 tr0 u)
     begun_known = by u.cut
       where
-        by : (cut : Bool) → AllByRecursion (IsKnown hs1) (if cut then [] else roots_begun f0 tr0 u.node u.input ++ children_begun tr0 u.input u.sent)
+        by : (cut : Bool) → AllByRecursion (IsKnown hs1) (if cut then [] else roots_begun f0 tr0 u.node u.input ++ children_begun f0 tr0 u.input u.sent)
         by true = tt
         by false =
-            all_append (IsKnown hs1) (roots_begun f0 tr0 u.node u.input) (children_begun tr0 u.input u.sent)
+            all_append (IsKnown hs1) (roots_begun f0 tr0 u.node u.input) (children_begun f0 tr0 u.input u.sent)
             (roots_known u.node u.input (λ session s call. (call_free f0 k u.node u.input u.took session s call may.1.comes).0.1)) (children_known u.input u.sent refl)
 
     all_known : AllByRecursion (IsKnown hs1) tr1.seen

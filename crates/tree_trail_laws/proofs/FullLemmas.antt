@@ -19,7 +19,7 @@ use Rattle.tree_trail_laws.proofs.MomentLemmas.{tr_at, at_moment, by_moment}
 -- What is told of a live branch, with its changes; no COMMIT was accepted of a root that is working.
 pub record IsSeenSo (tr : Trail) (k : NodeState) (l : Live) (s : Seen) : Type 0 where
   pub told : IsTracedLive l s
-  pub own : s.own ≡ own_changes k l.me
+  pub own : own_of (Some s) ≡ own_changes k l.me
   pub unplanned : l.parent ≡ None → l.phase ≡ phases.Working → plan_at tr l.me ≡ None
 
 abbrev pub SeesLives : Facts → Trail → Type 0
@@ -40,7 +40,7 @@ module _ (t : History) (whole : IsLawfulRun t) (sees : left.SeesAll t) where
     lives : SeesLives (f_at t hs) (tr_at t hs)
     lives n k up l live = by l.parent refl
       where
-        its_own : (s : Seen) → seen_at (tr_at t hs) l.me ≡ Some s → s.own ≡ own_changes k l.me
+        its_own : (s : Seen) → seen_at (tr_at t hs) l.me ≡ Some s → own_of (Some s) ≡ own_changes k l.me
         its_own s at = sym (ap own_of at) ∙ saw.owns n k up l live
 
         by : (o : Option BranchId) → l.parent ≡ o → (s : Seen) × (seen_at (tr_at t hs) l.me ≡ Some s) × IsSeenSo (tr_at t hs) k l s

@@ -1,12 +1,12 @@
 -- What a message makes of the live branch that it comes to, as its node keeps it.
-use Rattle.std.proofs.Common.{◌≡◌, ◌≢◌, ℕ, ◌==◌, ◌||◌, ◌&&◌, ◌⊎◌, not, Bool, true, false, if◌then◌else◌, List, [], ◌∷◌, ◌++◌, map, Option, Some, None, inl, inr, refl, sym, ap, subst, ◌∙◌}
+use Rattle.std.proofs.Common.{◌≡◌, ◌≢◌, ℕ, ◌==◌, ◌||◌, ◌&&◌, ◌⊎◌, not, Bool, true, false, if◌then◌else◌, List, [], ◌∷◌, ◌++◌, map, Option, Some, None, inl, inr, refl, sym, ap, subst, ◌∙◌, ◌+◌}
 use Rattle.std.specs.List.{list_any}
 use Rattle.std.proofs.lemmas.Bool.{and_parts, or_cases, or_left, or_right}
 use Rattle.std.proofs.lemmas.List.Folds.{list_any-append}
 use Rattle.tran_ids.proofs.BranchLemmas.{equal_from_same, same_from_equal}
 use Rattle.tran_ids.proofs.ListedLemmas.{put_found, drop_gone}
 use Rattle.session_tree.specs.Live.{is_branch, next_edge}
-use Rattle.node_rules.specs.Data.{Answer, Advice, BranchId, Edge, Live, Phase, Vote, Act, Stmt, Admit, Place}
+use Rattle.node_rules.specs.Data.{Answer, Advice, BranchId, Edge, Live, Phase, Vote, Act, Stmt, Admit, Place, Task}
 use Rattle.node_rules.specs.Data.acts
 use Rattle.node_rules.specs.Data.admits
 use Rattle.node_rules.specs.Data.kinds
@@ -18,7 +18,7 @@ use Rattle.node_rules.specs.declared.work.Waits.TheVariants as waiting
 use Rattle.node_rules.specs.Words.{same, item_at, put_item}
 use Rattle.node_rules.specs.NodeState.{NodeState, Branch, TurnDraft, live_id, live_at, branch_at, nothing, post}
 use Rattle.node_rules.specs.Names.{Way, Runs_here, Over, Through, Nowhere_to, way_of}
-use Rattle.node_rules.specs.Calls.{goes, exec_by, on_exec, on_opened, opened_going, opened_waits, on_reply, reply_by, reply_of, admit, takes_call}
+use Rattle.node_rules.specs.Calls.{goes, exec_by, on_exec, on_opened, opened_going, opened_waits, on_reply, reply_by, reply_of, admit, takes_call, back_heard, backs_to, goes_back, hears_reply, errand_heard, task_at, going_heard}
 use Rattle.node_rules.specs.Prepare.{is_awaited, answers_first, has_voted, with_prepare_sent, collecting, with_comment, voted, ready, act_turn, answer_act, first_act, collects, prepare_in, answer_in, on_prepare, on_answer, on_commit_point, commit_point_in, commit_point_act, drops, without_read_keys}
 use Rattle.node_rules.specs.Recovery.{on_ask, on_ask_told}
 use Rattle.reco.specs.declared.told.Told.TheVariants as tolds
@@ -27,6 +27,11 @@ use Rattle.run_rules.specs.Branches.{is_among}
 use Rattle.run_base_laws.proofs.RestStepLemmas.{going_of}
 use Rattle.session_tree.specs.Tree.{step}
 use Rattle.tree_trail_laws.specs.LowerLaws.{AreVoted}
+use Rattle.node_rules.specs.declared.work.Errand.{Errand}
+use Rattle.node_rules.specs.Data.answers
+use Rattle.node_rules.specs.Marks.{node_back, branch_back, next_back}
+use Rattle.node_rules.specs.Data.tasks
+use Rattle.node_rules.specs.declared.work.Errand.TheVariants as errands
 
 -- A live branch that is as far in its transaction as it was.
 pub record Alike (z l : Live) : Type 0 where
@@ -127,13 +132,41 @@ module _ (p : Place) (k : NodeState) (x : Branch) (found : branch_at k x.live.me
   goes_alike y s given (Over i table) me phase edges l is = like k.lives y.live l me phase edges is
   goes_alike y s given (Through node link table) me phase edges l is = like k.lives y.live l me phase edges is
 
-  exec_alike : (from : BranchId) (call given : ℕ) (advice : Option Advice) (s : Stmt) (a : Admit) → After (exec_by p k x from call given advice s a) (Alike x.live)
-  exec_alike from call given advice s admits.Ignore l is = kept_alike l is
-  exec_alike from call given advice s admits.Again l is = kept_alike l is
-  exec_alike from call given advice s admits.Run l is = goes_alike (takes_call x call advice) s given (way_of p k.stored.durable (takes_call x call advice).live given s) refl refl refl l is
+  -- and where its children are to go back
+  backs_alike : (j : NodeState) (y : Branch) (step : ℕ) (next : Option ℕ) → y.live.me ≡ x.live.me → y.live.phase ≡ x.live.phase → y.live.edges ≡ x.live.edges → After (backs_to j y step next) (Alike x.live)
+  backs_alike j y step None me phase edges l is = like j.lives y.live l me phase edges is
+  backs_alike j y step (Some i) me phase edges l is = like j.lives y.live l me phase edges is
 
-  pub execs : (from : BranchId) (call given : ℕ) (advice : Option Advice) (s : Stmt) → After (on_exec p k x from call given advice s) (Alike x.live)
-  execs from call given advice s l is = exec_alike from call given advice s (admit x.work.came call) l is
+  pub goes_back_alike : (y : Branch) (step : ℕ) → y.live.me ≡ x.live.me → y.live.phase ≡ x.live.phase → y.live.edges ≡ x.live.edges → After (goes_back k y step) (Alike x.live)
+  goes_back_alike y step me phase edges l is = backs_alike (node_back k y step) (branch_back k y step) step (next_back (branch_back k y step).work step 1) me phase edges l is
+
+  task_alike : (call : ℕ) (task : Task) → After (task_at p k (takes_call x call task) task) (Alike x.live)
+  task_alike call (tasks.Run given advice s) l is =
+      goes_alike (takes_call x call (tasks.Run given advice s)) s given (way_of p k.stored.durable (takes_call x call (tasks.Run given advice s)).live given s) refl refl refl l is
+  task_alike call (tasks.GoBack keep) l is = goes_back_alike (takes_call x call (tasks.GoBack keep)) keep refl refl refl l is
+
+  exec_alike : (from : BranchId) (call : ℕ) (task : Task) (a : Admit) → After (exec_by p k x from call task a) (Alike x.live)
+  exec_alike from call task admits.Ignore l is = kept_alike l is
+  exec_alike from call task admits.Again l is = kept_alike l is
+  exec_alike from call task admits.Run l is = task_alike call task l is
+
+  pub execs : (from : BranchId) (call : ℕ) (task : Task) → After (on_exec p k x from call task) (Alike x.live)
+  execs from call task l is = exec_alike from call task (admit x.work.came call) l is
+
+  -- a branch that hears a Reply is put as it is then
+  module _ (y : Branch) (me : y.live.me ≡ x.live.me) where
+    backs_put : (step : ℕ) (next : Option ℕ) → After (backs_to k y step next) (λ l. l ≡ y.live)
+    backs_put step None l is = put_is k.lives y.live l x.live.me me is
+    backs_put step (Some i) l is = put_is k.lives y.live l x.live.me me is
+
+    back_put : (step i : ℕ) (link : List ℕ) (a : Answer) → After (back_heard k y step i link a) (λ l. l ≡ y.live)
+    back_put step i link (answers.Refused r) l is = put_is k.lives y.live l x.live.me me is
+    back_put step i link (answers.Found rows) l is = backs_put step (next_back y.work step (i + 1)) l is
+    back_put step i link (answers.Did d n) l is = backs_put step (next_back y.work step (i + 1)) l is
+
+    errand_put : (i : ℕ) (link : List ℕ) (a : Answer) (e : Errand) → After (errand_heard k y i link a e) (λ l. l ≡ y.live)
+    errand_put i link a (errands.Statement s given) l is = put_is k.lives y.live l x.live.me me is
+    errand_put i link a (errands.GoBack step) l is = back_put step i link a l is
 
   module _ (rests : x.live.phase ≢ phases.Working → x.work.going ≡ None) where
     -- only one that is working waits
@@ -160,7 +193,9 @@ module _ (p : Place) (k : NodeState) (x : Branch) (found : branch_at k x.live.me
     reply_alike from call weight count a None waits l is = kept_alike l is
     reply_alike from call weight count a (Some ie) waits l is =
         let g = going_of x from call ie.0 ie.1 waits in
-        subst (Alike x.live) (sym (put_is k.lives _ l x.live.me refl is)) (record { phase = refl; votes = λ busy vs all. absurd (waits_working g.0 g.1 busy) })
+        let y : Branch = hears_reply x ie.0 weight count ie.1 in
+        let at : live_at (errand_heard k y ie.0 ie.1.link a g.0.errand).after x.live.me ≡ Some l = subst (λ o. live_at (going_heard k y ie.0 ie.1.link a o).after x.live.me ≡ Some l) g.1 is in
+        subst (Alike x.live) (sym (errand_put y refl ie.0 ie.1.link a g.0.errand l at)) (record { phase = refl; votes = λ busy vs all. absurd (waits_working g.0 g.1 busy) })
 
     pub hears_replies : (from : BranchId) (call : ℕ) (weight : Option ℕ) (count : ℕ) (a : Answer) → After (on_reply k x from call weight count a) (Alike x.live)
     hears_replies from call weight count a l is = reply_alike from call weight count a (reply_of x from call) refl l is

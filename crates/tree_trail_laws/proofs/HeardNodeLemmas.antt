@@ -11,9 +11,11 @@ heard_live k (inputs.Message m) b = refl
 heard_live k (inputs.Call n s) b = refl
 heard_live k (inputs.GiveUp n) b = refl
 heard_live k inputs.Reco b = refl
+heard_live k inputs.Checkpoint b = refl
 
 pub heard_fits : (k : NodeState) → SessionsFit k → (input : Input) → SessionsFit (heard k input)
 heard_fits k fits (inputs.Message m) = record { roots = fits.roots; above = fits.above }
 heard_fits k fits (inputs.Call n s) = fits
 heard_fits k fits (inputs.GiveUp n) = fits
 heard_fits k fits inputs.Reco = fits
+heard_fits k fits inputs.Checkpoint = fits

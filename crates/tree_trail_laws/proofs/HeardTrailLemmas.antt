@@ -94,10 +94,10 @@ module _ (p : Place) (k : NodeState) (x : Branch) (found : branch_at k x.live.me
   plain from scn kind no_vote no_prepare no_drop alike =
       alike_heard s (msg from scn kind) z l told (not_first from scn kind no_vote) (inl (not_begun from scn kind no_prepare)) (and_right (same z.me s.me) (kind_drops s from kind) no_drop) alike
 
-  opens : (from : BranchId) (edge : ℕ) (root : BranchId) (depth : ℕ) (o : Option Opening) → live_at (open_by p k from edge root depth o).after z.me ≡ Some l → Alike z l
-  opens from edge root depth (Some o) is = kept_alike p k x found l is
-  opens from edge root depth None is =
-      let at : live_at (open_by p k from edge root depth None).after z.me ≡ Some z = find_more (is_item_of live_id z.me) k.lives _ z (live_so k z.me x found) in
+  opens : (from : BranchId) (edge : ℕ) (root : BranchId) (depth : ℕ) (read_at : Option ℕ) (o : Option Opening) → live_at (open_by p k from edge root depth read_at o).after z.me ≡ Some l → Alike z l
+  opens from edge root depth read_at (Some o) is = kept_alike p k x found l is
+  opens from edge root depth read_at None is =
+      let at : live_at (open_by p k from edge root depth read_at None).after z.me ≡ Some z = find_more (is_item_of live_id z.me) k.lives _ z (live_so k z.me x found) in
       let both : Some z ≡ Some l = sym at ∙ is in
       same_alike z l (let it : l ≡ z = cc in it)
 
@@ -197,9 +197,9 @@ module _ (p : Place) (k : NodeState) (x : Branch) (found : branch_at k x.live.me
   ]
 
   by_kind : (from : BranchId) (scn : ℕ) (kind : Kind) → After from kind → Heard s (msg from scn kind) l
-  by_kind from scn (kinds.Open edge root depth) is = plain from scn (kinds.Open edge root depth) refl refl refl (opens from edge root depth (opening_of k.opens from edge) is)
+  by_kind from scn (kinds.Open edge root depth read_at) is = plain from scn (kinds.Open edge root depth read_at) refl refl refl (opens from edge root depth read_at (opening_of k.opens from edge) is)
   by_kind from scn (kinds.Opened edge strength) is = plain from scn (kinds.Opened edge strength) refl refl refl (openeds p k x found rests from edge strength l is)
-  by_kind from scn (kinds.Exec call given advice st) is = plain from scn (kinds.Exec call given advice st) refl refl refl (execs p k x found from call given advice st l is)
+  by_kind from scn (kinds.Exec call task) is = plain from scn (kinds.Exec call task) refl refl refl (execs p k x found from call task l is)
   by_kind from scn (kinds.Reply call weight count a) is = plain from scn (kinds.Reply call weight count a) refl refl refl (hears_replies p k x found rests from call weight count a l is)
   by_kind from scn (kinds.Prepare b comment) is = prepared_by from scn b comment is
   by_kind from scn kinds.Prepared is = answered from scn kinds.Prepared votes.Prepared refl refl refl refl (λ other. refl) is

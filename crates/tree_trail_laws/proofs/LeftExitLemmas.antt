@@ -4,7 +4,7 @@ use Rattle.std.specs.List.{list_any}
 use Rattle.std.proofs.lemmas.Bool.{and_from, or_left, or_right, eq-eqb}
 use Rattle.tran_ids.proofs.BranchLemmas.{same_from_equal}
 use Rattle.agreement.specs.Events.{Exit, Quiet, Dropped}
-use Rattle.node_rules.specs.Data.{BranchId, Kind, Live, Msg, Input}
+use Rattle.node_rules.specs.Data.{BranchId, Kind, Live, Msg, Input, Answer}
 use Rattle.node_rules.specs.Data.inputs
 use Rattle.node_rules.specs.Data.kinds
 use Rattle.node_rules.specs.Data.phases
@@ -52,18 +52,18 @@ stopped_there n s here = elim (exit_or s.exit) [
 
 -- ---- a turn that is whole, in which a live branch leaves without a record
 
-module _ (n : ℕ) (input : Input) (sent : List Msg) (z : Live) (s : Seen) (me : s.me ≡ z.me) (told : IsTracedLive z s) where
+module _ (n : ℕ) (answer : Option Answer) (input : Input) (sent : List Msg) (z : Live) (s : Seen) (me : s.me ≡ z.me) (told : IsTracedLive z s) where
   abbrev Leaves : Type 0
-  Leaves = (list_any (is_quiet s.me) sent || input_drops n s input) ≡ true
+  Leaves = (list_any (is_quiet s.me) sent || input_drops n answer s input) ≡ true
 
-  drops_so : input_drops n s input ≡ true → Leaves
-  drops_so is = or_right (list_any (is_quiet s.me) sent) (input_drops n s input) is
+  drops_so : input_drops n answer s input ≡ true → Leaves
+  drops_so is = or_right (list_any (is_quiet s.me) sent) (input_drops n answer s input) is
 
   its : same z.me s.me ≡ true
   its = same_from_equal z.me s.me (sym me)
 
   pub kind_so : (from : BranchId) (scn : ℕ) (kind : Kind) → input ≡ inputs.Message (record { from = from; to = z.me; scn = scn; kind = kind }) → kind_drops s from kind ≡ true → Leaves
-  kind_so from scn kind is drops = drops_so (ap (input_drops n s) is ∙ or_left (same z.me s.me && kind_drops s from kind) _ (and_from (same z.me s.me) (kind_drops s from kind) its drops))
+  kind_so from scn kind is drops = drops_so (ap (input_drops n answer s) is ∙ or_left (same z.me s.me && kind_drops s from kind) _ (and_from (same z.me s.me) (kind_drops s from kind) its drops))
 
   pub abort_first : (from : BranchId) (sb : Bool) (answers : Answers input z from votes.Abort sb) → is_first_vote s (record { from = from; to = z.me; scn = answers.came.scn; kind = kinds.Abort }) ≡ true
   abort_first from sb answers =
@@ -81,7 +81,7 @@ module _ (n : ℕ) (input : Input) (sent : List Msg) (z : Live) (s : Seen) (me :
 
   pub abort_so : (from : BranchId) (sb : Bool) → Answers input z from votes.Abort sb → Leaves
   abort_so from sb answers =
-      drops_so (ap (input_drops n s) (abort_came from sb answers)
+      drops_so (ap (input_drops n answer s) (abort_came from sb answers)
       ∙ or_right (same z.me s.me && false) _ (and_from (is_first_vote s (record { from = from; to = z.me; scn = answers.came.scn; kind = kinds.Abort })) true (abort_first from sb answers) refl))
 
 -- who is not among the live branches is not found there

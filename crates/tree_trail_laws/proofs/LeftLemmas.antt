@@ -141,7 +141,7 @@ module _ (t : History) (whole : IsLawfulRun t) (sees : SeesAll t) where
       at = seen_turned t.places f0 tr0 u b it.seen it.at;
       parent = it.parent;
       left = λ below. elim (it.left below) [
-        | inl some ↦ inl (some.0, ap (exit_after pl u it.seen (new it.seen)) some.1)
+        | inl some ↦ inl (some.0, ap (exit_after pl u (brings t.places f0 tr0 u).answer it.seen (new it.seen)) some.1)
         | inr stops ↦ (let none = may.1.settled.upright in absurd (cc (none, stops)))
       ];
     }
@@ -168,13 +168,13 @@ module _ (t : History) (whole : IsLawfulRun t) (sees : SeesAll t) where
     -- ---- one that was live as the turn began
 
     out_recorded : (s : Seen) → s.exit ≡ None → (x : Exit) → recorded_exit s.me u.wrote ≡ Some x → IsOut s
-    out_recorded s alive x recorded = (x, ap (exit_after pl u s (new s)) alive ∙ ap (exit_by pl u s (new s)) recorded)
+    out_recorded s alive x recorded = (x, ap (exit_after pl u (brings t.places f0 tr0 u).answer s (new s)) alive ∙ ap (exit_by pl u (brings t.places f0 tr0 u).answer s (new s)) recorded)
 
-    out_whole : (s : Seen) → s.exit ≡ None → u.cut ≡ false → (list_any (is_quiet s.me) u.sent || input_drops u.node s u.input) ≡ true → IsOut s
+    out_whole : (s : Seen) → s.exit ≡ None → u.cut ≡ false → (list_any (is_quiet s.me) u.sent || input_drops u.node (brings t.places f0 tr0 u).answer s u.input) ≡ true → IsOut s
     out_whole s alive cut leaves = elim (exit_or (recorded_exit s.me u.wrote)) [
       | inr some ↦ out_recorded s alive some.0 some.1
-      | inl none ↦ (let w = whole_left (list_any (is_quiet s.me) u.sent) (input_drops u.node s u.input) (ends_siteless pl (new s)) leaves in
-          (w.0, ap (exit_after pl u s (new s)) alive ∙ (ap (exit_by pl u s (new s)) none ∙ (ap (λ c. if c then None else whole_exit pl u s (new s)) cut ∙ w.1))))
+      | inl none ↦ (let w = whole_left (list_any (is_quiet s.me) u.sent) (input_drops u.node (brings t.places f0 tr0 u).answer s u.input) (ends_siteless pl (new s)) leaves in
+          (w.0, ap (exit_after pl u (brings t.places f0 tr0 u).answer s (new s)) alive ∙ (ap (exit_by pl u (brings t.places f0 tr0 u).answer s (new s)) none ∙ (ap (λ c. if c then None else whole_exit pl u (brings t.places f0 tr0 u).answer s (new s)) cut ∙ w.1))))
     ]
 
     module _ (b : BranchId) (z : Live) (found : live_at k b ≡ Some z) where
@@ -196,14 +196,14 @@ module _ (t : History) (whole : IsLawfulRun t) (sees : SeesAll t) where
       out_by : u.cut ≡ false → Why u.input b z d.wrote d.says → IsOut s
       out_by cut (By_record e is) = out_recorded s it.told.live e (subst₂ (λ c w. recorded_exit c w ≡ Some e) (sym it.me) (sym (wrote_is cut)) is)
       out_by cut (By_quiet q said) =
-          out_whole s it.told.live cut (or_left (list_any (is_quiet s.me) u.sent) (input_drops u.node s u.input)
+          out_whole s it.told.live cut (or_left (list_any (is_quiet s.me) u.sent) (input_drops u.node (brings t.places f0 tr0 u).answer s u.input)
           (ap (list_any (is_quiet s.me)) (sent_is cut ∙ ap (map (stamped d.after.clock)) said) ∙ ap (λ q. (q && true) || false) (same_from_equal b s.me (sym it.me))))
-      out_by cut (By_abort from sb answers) = out_whole s it.told.live cut (abort_so u.node u.input u.sent z s s_me it.told from sb answers)
-      out_by cut (By_rollback from came) = (let at = at_z came in out_whole s it.told.live cut (kind_so u.node u.input u.sent z s s_me it.told from at.scn kinds.Rollback at.is refl))
+      out_by cut (By_abort from sb answers) = out_whole s it.told.live cut (abort_so u.node (brings t.places f0 tr0 u).answer u.input u.sent z s s_me it.told from sb answers)
+      out_by cut (By_rollback from came) = (let at = at_z came in out_whole s it.told.live cut (kind_so u.node (brings t.places f0 tr0 u).answer u.input u.sent z s s_me it.told from at.scn kinds.Rollback at.is refl))
       out_by cut (By_parent from came above) =
-          (let at = at_z came in out_whole s it.told.live cut (kind_so u.node u.input u.sent z s s_me it.told from at.scn kinds.RolledBack at.is (ap (is_branch from) it.told.parent ∙ above)))
+          (let at = at_z came in out_whole s it.told.live cut (kind_so u.node (brings t.places f0 tr0 u).answer u.input u.sent z s s_me it.told from at.scn kinds.RolledBack at.is (ap (is_branch from) it.told.parent ∙ above)))
       out_by cut (By_ask from came above) =
-          (let at = at_z came in out_whole s it.told.live cut (kind_so u.node u.input u.sent z s s_me it.told from at.scn kinds.Ask at.is (ap (is_branch from) it.told.parent ∙ above)))
+          (let at = at_z came in out_whole s it.told.live cut (kind_so u.node (brings t.places f0 tr0 u).answer u.input u.sent z s s_me it.told from at.scn kinds.Ask at.is (ap (is_branch from) it.told.parent ∙ above)))
 
       -- it left by the record, or is not among those that are live
       out : z.parent ≢ None → ((x : Exit) × (recorded_exit b u.wrote ≡ Some x)) ⊎ (is_among b (lives_at (node_at f1 u.node)) ≡ false) → IsOut s ⊎ (f1.node_to_stop ≡ Some b.node)

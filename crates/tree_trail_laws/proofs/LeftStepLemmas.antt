@@ -34,6 +34,7 @@ module _ (input : Input) (b : BranchId) (z : Live) where
     below_root k fit live wrote says (top.By_parent from came above) = By_parent from came above
     below_root k fit live wrote says (top.By_ask from came above) = By_ask from came above
     below_root k fit live wrote says (top.By_call n call at root) = absurd (below root)
+    below_root k fit live wrote says (top.By_reading n comment scn call reads at root) = absurd (below root)
     below_root k fit live wrote says (top.By_give_up n gives has calls) = absurd (below (root_alone k fit n b has z live))
 
     pub why_on : {k : NodeState} {d : TurnDraft} → Step p input k d → SessionsFit k → live_at k b ≡ Some z → live_at d.after b ≡ None → Why d.wrote d.says

@@ -5,6 +5,8 @@ pub mod PlanLemmas
 pub mod SeenLemmas
 pub mod CallLemmas
 pub mod StartLemmas
+pub mod DurableLemmas
+pub mod FirstLemmas
 pub mod ChildStepLemmas
 pub mod ChildTurnLemmas
 pub mod ChildRunLemmas
@@ -18,6 +20,7 @@ pub mod FullLemmas
 pub mod SealedLemmas
 pub mod RootLemmas
 pub mod SiteLemmas
+pub mod RunListLemmas
 pub mod OwnRecordLemmas
 pub mod OwnLemmas
 pub mod EnoughLemmas
@@ -53,6 +56,11 @@ pub mod OwnKnowLemmas
 pub mod OwnAskLemmas
 pub mod OwnElseLemmas
 pub mod OwnTurnLemmas
+pub mod RootCallLemmas
+pub mod RanWorkLemmas
+pub mod RanCallLemmas
+pub mod SpecialTurnLemmas
+pub mod SpecialWorkLemmas
 pub mod OwnAfterLemmas
 pub mod OwnFollowLemmas
 pub mod SeenRunLemmas

@@ -24,7 +24,7 @@ use Rattle.run_base_laws.specs.InTurnLaws.{post_of, packet_post, said_in}
 use Rattle.run_rules.specs.Lawful.{MayHappen, Comes, History, IsLawfulRun, facts_at}
 use Rattle.run_branch_laws.specs.PhaseLaws.{PhaseFits}
 use Rattle.run_base_laws.specs.RunEvents.{with_record, events_of}
-use Rattle.run_rules.specs.Trail.{voted_after, begins_collect, input_drops, recorded_exit, is_quiet}
+use Rattle.run_rules.specs.Trail.{voted_after, begins_collect, input_drops, recorded_exit, is_quiet, strength_at}
 use Rattle.run_rules.proofs.AtNodeLemmas.{turn_elsewhere}
 use Rattle.run_base_laws.proofs.EventsStandLemmas.{run_stands, nodes_are_as_events, ids_name_their_node}
 use Rattle.run_branch_laws.proofs.FreezeRunLemmas.{asked_stand_still}
@@ -66,6 +66,7 @@ to_it b (inputs.Message m) =
 to_it b (inputs.Call n s) = inr (λ m is. absurd cc)
 to_it b (inputs.GiveUp n) = inr (λ m is. absurd cc)
 to_it b inputs.Reco = inr (λ m is. absurd cc)
+to_it b inputs.Checkpoint = inr (λ m is. absurd cc)
 
 module _ (t : History) (whole : IsLawfulRun t) where
   -- the live branches below roots are told
@@ -114,7 +115,7 @@ module _ (t : History) (whole : IsLawfulRun t) where
           by true quiet = (let gone : exit (events_of s1) l.me ≡ Some Quiet = quiet_gone (events_of s1) l.me u.sent said_true quiet in let none = no_exit in absurd (cc (gone, none)))
           by false loud = refl
 
-      told : IsTracedOf tr1 l
+      told : IsTracedOf t.places tr1 l
       told = kids.told_at t whole hs u rest is tells n j up l live below
 
       -- what is told of it after the turn
@@ -123,7 +124,7 @@ module _ (t : History) (whole : IsLawfulRun t) where
       told_so s at alive working collects =
           let both : Some told.0 ≡ Some s = sym told.1 ∙ at in
           let one : s ≡ told.0 = cc in
-          (s, at, record { live = alive; parent = ap (λ (y : Seen). y.parent) one ∙ told.2; children = ap (λ (y : Seen). y.children) one ∙ told.3; working = working; collects = collects })
+          (s, at, record { live = alive; parent = ap (λ (y : Seen). y.parent) one ∙ told.2; children = ap (λ (y : Seen). y.children) one ∙ told.3; read_at = ap (λ (y : Seen). y.read_at) one ∙ told.4; working = working; collects = collects })
 
       -- ---- one that was live before
 
@@ -134,7 +135,7 @@ module _ (t : History) (whole : IsLawfulRun t) where
         s_below : s.parent ≢ None
         s_below none = z_below (sym was.parent ∙ none)
 
-        lives_on : input_drops u.node s u.input ≡ false → t1.exit ≡ None
+        lives_on : input_drops u.node (brings t.places f0 tr0 u).answer s u.input ≡ false → t1.exit ≡ None
         lives_on drops =
             turned_live t.places f0 tr0 u s s_below was.live (subst (λ b. recorded_exit b u.wrote ≡ None) (sym me) unwritten) (subst (λ b. list_any (is_quiet b) u.sent ≡ false) (sym me) unquiet) drops
 
@@ -143,7 +144,7 @@ module _ (t : History) (whole : IsLawfulRun t) where
         untouched other same_one =
             let begins : t1.collects ≡ s.collects = ap (λ q. s.collects || q) (untold_begins t.places f0 tr0 u s s_below u.node (brings t.places f0 tr0 u).answer u.input other) ∙ or_not s.collects in
             let votes : t1.voted ≡ s.voted = untold_voted t.places f0 tr0 u s s_below u.input other in
-            told_so t1 (seen_turned t.places f0 tr0 u l.me s at) (lives_on (untold_drops t.places f0 tr0 u s s_below u.node u.input other))
+            told_so t1 (seen_turned t.places f0 tr0 u l.me s at) (lives_on (untold_drops t.places f0 tr0 u s s_below u.node (brings t.places f0 tr0 u).answer u.input other))
             (λ working. (let had = was.working (sym (ap (λ (y : Live). y.phase) same_one) ∙ working) in (begins ∙ had.0, votes ∙ had.1)))
             (λ busy. (let had = was.collects (λ working. busy (ap (λ (y : Live). y.phase) same_one ∙ working)) in (begins ∙ had.0, subst (λ vs. AreVoted vs l.edges) (sym votes) (subst (λ (y : Live). AreVoted s.voted y.edges) (sym same_one) had.1))))
           where
@@ -154,7 +155,7 @@ module _ (t : History) (whole : IsLawfulRun t) where
         -- a message comes to it
         touched : (m : Msg) → u.input ≡ inputs.Message m → Heard s m l → (s : Seen) × (seen_at tr1 l.me ≡ Some s) × IsTracedLive l s
         touched m came heard_it =
-            let drops : input_drops u.node s u.input ≡ false = ap (input_drops u.node s) came ∙ heard_it.drops in
+            let drops : input_drops u.node (brings t.places f0 tr0 u).answer s u.input ≡ false = ap (input_drops u.node (brings t.places f0 tr0 u).answer s) came ∙ heard_it.drops in
             let begins : t1.collects ≡ (s.collects || begins_collect u.node (brings t.places f0 tr0 u).answer s (inputs.Message m)) = ap (λ i. s.collects || begins_collect u.node (brings t.places f0 tr0 u).answer s i) came in
             let votes : t1.voted ≡ voted_after s (inputs.Message m) = ap (voted_after s) came in
             told_so t1 (seen_turned t.places f0 tr0 u l.me s at) (lives_on drops)
@@ -200,12 +201,12 @@ module _ (t : History) (whole : IsLawfulRun t) where
           where
             begins : IsOpened k p u.input (λ b. born_at (births_of s0) b ≡ None) d.says l → (s : Seen) × (seen_at tr1 l.me ≡ Some s) × IsTracedLive l s
             begins opened =
-                let m : Msg = record { from = opened.parent; to = opened.to; scn = opened.came.scn; kind = kinds.Open opened.edge opened.root opened.depth } in
-                let s : Seen = newly_seen l.me opened.root (Some opened.parent) in
+                let m : Msg = record { from = opened.parent; to = opened.to; scn = opened.came.scn; kind = kinds.Open opened.edge opened.root opened.depth opened.read_at } in
+                let s : Seen = newly_seen l.me opened.root (Some opened.parent) (strength_at f0 l.me.node) opened.read_at in
                 let at : seen_at (begun t.places f0 tr0 u) l.me ≡ Some s = kids.opened_begun t whole hs u rest is tells cut l opened in
                 let some : s.parent ≢ None = (λ none. absurd cc) in
                 told_so u.node d.after up l live below (turned t.places f0 tr0 u s) (seen_begun t.places f0 tr0 u l.me s at)
-                (turned_live t.places f0 tr0 u s some refl (unwritten u.node d.after up l live below) (unquiet u.node d.after up l live below) (ap (input_drops u.node s) opened.came.is ∙ plain_drops (same m.to s.me) ((true && false) && (is_among opened.parent [] && not (is_among opened.parent [])))))
+                (turned_live t.places f0 tr0 u s some refl (unwritten u.node d.after up l live below) (unquiet u.node d.after up l live below) (ap (input_drops u.node (brings t.places f0 tr0 u).answer s) opened.came.is ∙ plain_drops (same m.to s.me) ((true && false) && (is_among opened.parent [] && not (is_among opened.parent [])))))
                 (λ working. (ap (λ i. false || begins_collect u.node (brings t.places f0 tr0 u).answer s i) opened.came.is ∙ plain_begins (same m.to s.me), ap (voted_after s) opened.came.is ∙ plain_votes (same m.to s.me)))
                 (λ busy. absurd (busy opened.working))
               where

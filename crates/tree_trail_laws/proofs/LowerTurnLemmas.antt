@@ -1,6 +1,6 @@
 -- What a turn tells of a live branch below a root: that it lives on where no record, no ReadOnly and no message ends it, and that it is as it was where
 -- nothing comes to it.
-use Rattle.std.proofs.Common.{◌≡◌, ◌≢◌, ℕ, ◌==◌, ◌||◌, ◌&&◌, not, Bool, true, false, if◌then◌else◌, is_none, List, [], ◌∷◌, ◌++◌, map, Option, Some, None, inl, inr, refl, ap, subst, ◌∙◌}
+use Rattle.std.proofs.Common.{◌≡◌, ◌≢◌, ℕ, ◌==◌, ◌||◌, ◌&&◌, not, Bool, true, false, if◌then◌else◌, is_none, List, [], ◌∷◌, ◌++◌, map, Option, Some, None, inl, inr, refl, ap, subst, ◌∙◌, is_some}
 use Rattle.std.specs.List.{AllByRecursion, list_any}
 use Rattle.std.proofs.lemmas.Bool.{and_parts, and_left, and_right, or_cases}
 use Rattle.tran_ids.proofs.BranchLemmas.{equal_from_same}
@@ -21,21 +21,21 @@ use Rattle.run_base_laws.specs.RunEvents.{wrote_event, with_event}
 use Rattle.run_rules.specs.Trail.{is_vote, is_abort, is_first_vote, voted_after, begins_collect, recorded_exit, is_quiet, is_read_only, kind_drops, input_drops, has_no_site, ends_siteless, whole_exit, exit_by, exit_after, with_turn}
 use Rattle.tree_trail_laws.proofs.SeenLemmas.{planned, brings, turned}
 
-some_there : {A : Type 0} (o : Option A) → o ≢ None → is_none o ≡ false
+pub some_there : {A : Type 0} (o : Option A) → o ≢ None → is_none o ≡ false
 some_there None some = absurd (some refl)
 some_there (Some a) some = refl
 
 -- ---- a branch that lives on
 
 module _ (places : List Place) (f : Facts) (tr : Trail) (u : Turn) (s : Seen) (below : s.parent ≢ None) where
-  pub turned_live : s.exit ≡ None → recorded_exit s.me u.wrote ≡ None → list_any (is_quiet s.me) u.sent ≡ false → input_drops u.node s u.input ≡ false → (turned places f tr u s).exit ≡ None
+  pub turned_live : s.exit ≡ None → recorded_exit s.me u.wrote ≡ None → list_any (is_quiet s.me) u.sent ≡ false → input_drops u.node (brings places f tr u).answer s u.input ≡ false → (turned places f tr u s).exit ≡ None
   turned_live live recorded quiet drops =
       let pl : Trail = planned places f tr u in
       let new : Seen = with_turn f.book u (outcome_at places f u) (brings places f tr u) s in
       let siteless : ends_siteless pl new ≡ false = and_left (is_none s.parent) (new.collects && (all_voted new && has_no_site (plan_at pl s.me))) (some_there s.parent below) in
-      let whole : whole_exit pl u s new ≡ None = ap (λ q. if q then Some Quiet else (if input_drops u.node s u.input || ends_siteless pl new then Some Dropped else None)) quiet
+      let whole : whole_exit pl u (brings places f tr u).answer s new ≡ None = ap (λ q. if q then Some Quiet else (if input_drops u.node (brings places f tr u).answer s u.input || ends_siteless pl new then Some Dropped else None)) quiet
       ∙ (ap (λ q. if q || ends_siteless pl new then Some Dropped else None) drops ∙ ap (λ q. if q then Some Dropped else None) siteless) in
-      ap (exit_after pl u s new) live ∙ (ap (exit_by pl u s new) recorded ∙ by u.cut (whole_exit pl u s new) whole)
+      ap (exit_after pl u (brings places f tr u).answer s new) live ∙ (ap (exit_by pl u (brings places f tr u).answer s new) recorded ∙ by u.cut (whole_exit pl u (brings places f tr u).answer s new) whole)
     where
       by : (cut : Bool) (w : Option Exit) → w ≡ None → (if cut then None else w) ≡ None
       by true w is = refl
@@ -55,19 +55,21 @@ module _ (places : List Place) (f : Facts) (tr : Trail) (u : Turn) (s : Seen) (b
 
   pub untold_begins : (n : ℕ) (a : Option Answer) (input : Input) → ((m : Msg) → input ≡ inputs.Message m → same m.to s.me ≡ false) → begins_collect n a s input ≡ false
   untold_begins n a (inputs.Message m) other = and_left (same m.to s.me) _ (other m refl)
-  untold_begins n a (inputs.Call session (Some (stmts.Commit comment))) other = and_left (is_root_of n session s) _ (root_not n session)
-  untold_begins n a (inputs.Call session (Some _)) other = refl
-  untold_begins n a (inputs.Call session None) other = refl
-  untold_begins n a _ other = refl
+  untold_begins n a (inputs.Call session (Some (stmts.Commit comment))) other = and_right (is_none s.read_at) _ (and_left (is_root_of n session s) _ (root_not n session))
+  untold_begins n a (inputs.Call session (Some _)) other = and_right (is_none s.read_at) false refl
+  untold_begins n a (inputs.Call session None) other = and_right (is_none s.read_at) false refl
+  untold_begins n a _ other = and_right (is_none s.read_at) false refl
 
-  pub untold_drops : (n : ℕ) (input : Input) → ((m : Msg) → input ≡ inputs.Message m → same m.to s.me ≡ false) → input_drops n s input ≡ false
-  untold_drops n (inputs.Message m) other =
+  pub untold_drops : (n : ℕ) (a : Option Answer) (input : Input) → ((m : Msg) → input ≡ inputs.Message m → same m.to s.me ≡ false) → input_drops n a s input ≡ false
+  untold_drops n a (inputs.Message m) other =
       ap (λ q. q || (is_first_vote s m && is_abort m.kind)) (and_left (same m.to s.me) (kind_drops s m.from m.kind) (other m refl)) ∙ and_left (is_first_vote s m) (is_abort m.kind) (first_not m (other m refl))
-  untold_drops n (inputs.Call session (Some stmts.Rollback)) other = root_not n session
-  untold_drops n (inputs.Call session (Some _)) other = refl
-  untold_drops n (inputs.Call session None) other = refl
-  untold_drops n (inputs.GiveUp session) other = and_left (is_root_of n session s) s.collects (root_not n session)
-  untold_drops n inputs.Reco other = refl
+  untold_drops n a (inputs.Call session (Some stmts.Rollback)) other = root_not n session
+  untold_drops n a (inputs.Call session (Some (stmts.Commit comment))) other = and_right (is_some s.read_at) _ (and_left (is_root_of n session s) _ (root_not n session))
+  untold_drops n a (inputs.Call session (Some _)) other = refl
+  untold_drops n a (inputs.Call session None) other = refl
+  untold_drops n a (inputs.GiveUp session) other = and_left (is_root_of n session s) s.collects (root_not n session)
+  untold_drops n a inputs.Reco other = refl
+  untold_drops n a inputs.Checkpoint other = refl
 
 -- ---- by the events of the run
 

@@ -1,6 +1,7 @@
 -- In every lawful run a root that ends without a site has a plan without one, for none of its session tree had changes.
-use Rattle.std.proofs.Common.{◌≡◌, true, List, ◌∷◌, ◌++◌, Option, Some, None, refl, sym, ap, subst, ◌∙◌}
-use Rattle.node_rules.specs.Data.{BranchId, Live}
+use Rattle.std.proofs.Common.{◌≡◌, ℕ, true, List, ◌∷◌, ◌++◌, Option, Some, None, refl, sym, ap, subst, ◌∙◌}
+use Rattle.node_rules.specs.Data.stmts
+use Rattle.node_rules.specs.Data.{BranchId, Live, Input}
 use Rattle.node_rules.specs.NodeState.{NodeState, live_at}
 use Rattle.run_rules.specs.Branches.{CommitPlan, no_trail, plan_at}
 use Rattle.run_rules.specs.Data.{Turn, Happening}
@@ -15,9 +16,16 @@ use Rattle.tree_trail_laws.specs.SeenLaws.{TracesTops, TracesOwns, SeesRoots, Se
 use Rattle.tree_trail_laws.proofs.MomentLemmas.{tr_at, trail_join, trail_keeps, at_moment, by_moment}
 use Rattle.tree_trail_laws.proofs.PlanLemmas.{plan_stays}
 use Rattle.tree_trail_laws.proofs.SeenRunLemmas.{all_is_seen}
+use Rattle.tree_trail_laws.proofs.TopFollowLemmas.{tops_at}
+use Rattle.tree_trail_laws.proofs.TopTurnLemmas.{Tops, strong_tops}
 use Rattle.tree_trail_laws.proofs.TopFinishLemmas.{Earlier, same_plans, ends_siteless_planned}
 use Rattle.tree_laws.proofs.TopStepLemmas.{Finishes}
 use Rattle.tree_trail_laws.specs.NoSite.{HadNoSite}
+use Rattle.node_rules.specs.Inputs.{IsCall}
+
+-- a root whose client commits is not READ ONLY
+abbrev pub Writes : Input → Live → Type 0
+Writes input z = (n : ℕ) (given : Option (List ℕ)) → IsCall input n (stmts.Commit given) → z.read_at ≡ None
 
 module _ (t : History) (whole : IsLawfulRun t) where
   owns : AtEach (λ places f tr h. TracesOwns f tr) t
@@ -33,8 +41,12 @@ module _ (t : History) (whole : IsLawfulRun t) where
     saw_earlier : (h1 : List Happening) (h : Happening) (r1 : List Happening) → h1 ++ h ∷ r1 ≡ hs → Sees (f_at t h1) (tr_at t h1)
     saw_earlier h1 h r1 at = at_moment (so_far t hs) (λ places f tr x. Sees f tr) (all_is_seen (so_far t hs) lawful) h1 h r1 at
 
+    -- the live roots before the turn are told with their strengths, and so are those before each earlier happening
+    follows : Earlier (so_far t hs) × Tops t whole hs
+    follows = tops_at t whole owns hs (part_of t whole hs (happenings.Turn u) rest is)
+
     earlier : Earlier (so_far t hs)
-    earlier = by_moment (so_far t hs) (λ places f tr h. TracesTops f tr × SeesRoots f tr) (λ h1 h r1 at. ((saw_earlier h1 h r1 at).tops, (saw_earlier h1 h r1 at).roots))
+    earlier = follows.0
 
     -- a plan stays to the end
     stays : (b : BranchId) (p : CommitPlan) → plan_at (trail_after t.places (f_at t hs) (tr_at t hs) (happenings.Turn u)) b ≡ Some p → plan_at (tr_at t t.trace) b ≡ Some p
@@ -52,11 +64,11 @@ module _ (t : History) (whole : IsLawfulRun t) where
     abbrev kept : NodeState
     kept = (may_of t whole hs (happenings.Turn u) rest is).0
 
-    plan_none : (z : Live) → live_at kept z.me ≡ Some z → z.parent ≡ None → Finishes u.input z.me z kept.sessions → has_no_site (plan_at (trail_after t.places (f_at t hs) (tr_at t hs) (happenings.Turn u)) z.me) ≡ true
-    plan_none z live top ends =
-        ap has_no_site (sym (same_plans t whole owns hs u rest is saw.tops saw.roots earlier z.me)) ∙ ends_siteless_planned t whole owns hs u rest is saw.tops saw.roots earlier z live top ends
+    plan_none : (z : Live) → live_at kept z.me ≡ Some z → z.parent ≡ None → Writes u.input z → Finishes u.input z.me z kept.sessions → has_no_site (plan_at (trail_after t.places (f_at t hs) (tr_at t hs) (happenings.Turn u)) z.me) ≡ true
+    plan_none z live top writes ends =
+        ap has_no_site (sym (same_plans t whole owns hs u rest is saw.tops saw.roots (strong_tops t whole hs (part_of t whole hs (happenings.Turn u) rest is) follows.1) earlier z.me)) ∙ ends_siteless_planned t whole owns hs u rest is saw.tops saw.roots (strong_tops t whole hs (part_of t whole hs (happenings.Turn u) rest is) follows.1) earlier z live top writes ends
 
-    module _ (k : NodeState) (up : node_at (f_at t hs) u.node ≡ Some k) (g : BranchId) (z : Live) (me : z.me ≡ g) (live : live_at k g ≡ Some z) (top : z.parent ≡ None) (ends : Finishes u.input g z k.sessions) where
+    module _ (k : NodeState) (up : node_at (f_at t hs) u.node ≡ Some k) (g : BranchId) (z : Live) (me : z.me ≡ g) (live : live_at k g ≡ Some z) (top : z.parent ≡ None) (ends : Finishes u.input g z k.sessions) (writes : Writes u.input z) where
       same : kept ≡ k
       same = (let both : Some kept ≡ Some k = sym (may_of t whole hs (happenings.Turn u) rest is).1.up ∙ up in cc)
 
@@ -68,7 +80,7 @@ module _ (t : History) (whole : IsLawfulRun t) where
 
       -- the plan that stands after the turn has no site
       pub plan_there : has_no_site (plan_at (trail_after t.places (f_at t hs) (tr_at t hs) (happenings.Turn u)) g) ≡ true
-      plan_there = subst (λ b. has_no_site (plan_at (trail_after t.places (f_at t hs) (tr_at t hs) (happenings.Turn u)) b) ≡ true) me (plan_none z live_there top ends_there)
+      plan_there = subst (λ b. has_no_site (plan_at (trail_after t.places (f_at t hs) (tr_at t hs) (happenings.Turn u)) b) ≡ true) me (plan_none z live_there top writes ends_there)
 
       -- and so it is to the end
       pub had_no_site : HadNoSite t g

@@ -15,7 +15,7 @@ use Rattle.node_rules.specs.Words.{same_text}
 use Rattle.node_rules.specs.Inputs.{IsCall}
 use Rattle.node_rules.specs.NodeState.{NodeState, Stored, Branch}
 use Rattle.node_rules.specs.Names.{ref_named, ref_of, target_of, Runs_here, Through, Nowhere_to, way_edge, way_target, way_named, way_of}
-use Rattle.node_rules.specs.Calls.{admit, runs_here, answer_says, answer_ends}
+use Rattle.node_rules.specs.Calls.{admit, runs_here, answer_says, answer_ends, branch_ran}
 use Rattle.node_rules.specs.Records.{applied, nothing_stored, stored_by}
 use Rattle.node_rules.specs.Statement.{ran, after_run, answer_of_run}
 use Rattle.node_rules.specs.Turn.{output_of}
@@ -29,7 +29,10 @@ use Rattle.run_rules.specs.Trail.{is_exec}
 use Rattle.run_key_laws.proofs.RanLemmas.{runs_at_table}
 use Rattle.run_base_laws.proofs.StoredLemmas.{StoresOf}
 use Rattle.tree_trail_laws.proofs.OwnCallLemmas.{last_of, found_calls}
-use Rattle.tree_trail_laws.proofs.OwnStepLemmas.{BringsNone, Repeats, of_rows}
+use Rattle.tree_trail_laws.proofs.OwnStepLemmas.{BringsNone, Repeats, of_rows, is_run}
+use Rattle.node_rules.proofs.WayLemmas.{way_by_name}
+use Rattle.tree_trail_laws.proofs.DurableLemmas.{durable_stored}
+use Rattle.node_rules.specs.Data.tasks
 
 -- a statement that came to a branch
 abbrev pub asking : Seen → Stmt → Asking
@@ -38,8 +41,8 @@ asking b s = record { branch = b; statement = s }
 -- ---- no run
 
 module _ (tr : Trail) (n : ℕ) where
-  kind_asks : (to : BranchId) (kind : Kind) → not (is_exec kind) ≡ true → asks_by tr to kind ≡ None
-  kind_asks to (kinds.Exec call given advice s) none = absurd cc
+  kind_asks : (to : BranchId) (kind : Kind) → not (is_run kind) ≡ true → asks_by tr to kind ≡ None
+  kind_asks to (kinds.Exec call (tasks.Run given advice s)) none = absurd cc
   kind_asks to _ none = refl
 
   root_asks : (s : Stmt) (o : Option Seen) → not (is_of_rows s) ≡ true → asks_root s o ≡ None
@@ -57,6 +60,7 @@ module _ (tr : Trail) (n : ℕ) where
   none_asked (inputs.Message m) none = kind_asks m.to m.kind none
   none_asked (inputs.GiveUp m) none = refl
   none_asked inputs.Reco none = refl
+  none_asked inputs.Checkpoint none = refl
 
   branch_asks : (call : ℕ) (s : Stmt) (o : Option Seen) (b : Seen) → o ≡ Some b → nat_lt b.taken call ≡ false → asks_branch call s o ≡ None
   branch_asks call s o b is low = ap (asks_branch call s) is ∙ ap (λ q. if is_live b && q then Some (asking b s) else None) low ∙ by (is_live b)
@@ -83,15 +87,15 @@ module _ (tr : Trail) (n : ℕ) (input : Input) where
 
   -- a statement that came to a branch is asked of it
   pub asked_so : (k : NodeState) {x : Branch} {s : Stmt} {given : ℕ} → Asked k input x s given → RootsAre k
-      → ((b : Seen) × (seen_at tr x.live.me ≡ Some b) × (b.me ≡ x.live.me) × (b.exit ≡ None) × (b.taken ≡ last_of k x.live.me))
+      → ((b : Seen) × (seen_at tr x.live.me ≡ Some b) × (b.me ≡ x.live.me) × (b.exit ≡ None) × (((m : ℕ) (u : Stmt) → IsCall input m u → ⊥) → b.taken ≡ last_of k x.live.me))
       → (b : Seen) × (asks tr n input ≡ Some (asking b s)) × (b.me ≡ x.live.me)
   unfolding admit
-  asked_so k (steps.By_call m x s call rows has code found) roots known =
+  asked_so k (steps.By_call m x s call rows has code found may) roots known =
       let root = roots m s x.live.me call rows has in
       (root.0, ap (asks tr n) call ∙ (ap (asks_root s) root.1 ∙ ap (λ q. if q then Some (asking root.0 s) else None) (of_rows s rows)), root.2)
   asked_so k (steps.By_exec x from call given advice s came found runs) roots known =
       let b : Seen = known.0 in
-      let below : nat_lt b.taken call ≡ true = ap (λ a. nat_lt a call) (known.4 ∙ sym (found_calls k x found)) ∙ admitted runs in (
+      let below : nat_lt b.taken call ≡ true = ap (λ a. nat_lt a call) (known.4 (λ m u other. (let one = came.is in absurd (cc (one, other)))) ∙ sym (found_calls k x found)) ∙ admitted runs in (
         b,
         ap (asks tr n) came.is ∙ (ap (asks_branch call s) known.1 ∙ (ap (λ o. if is_none o && nat_lt b.taken call then Some (asking b s) else None) known.3
             ∙ ap (λ q. if q then Some (asking b s) else None) below)),
@@ -123,17 +127,11 @@ target_no p l given link table (Some node) t is = edge_no p l given node link ta
 
 -- a statement that runs at a node names its table barely
 bare_so : (p : Place) (d : Durable) (l : Live) (given : ℕ) (s : Stmt) (t : Table) → way_of p d l given s ≡ Runs_here t → bare_name (ref_of s) ≡ Some (ref_of s).name
-unfolding way_of
-bare_so p d l given s t is = by (ref_of s).link is
+bare_so p d l given s t is = by (ref_of s).link (way_by_name p d l given s (Runs_here t) tt is)
   where
     by : (link : Option (List ℕ)) → way_named p d l given (ref_named d (ref_of s) link) ≡ Runs_here t → (if is_none link then Some (ref_of s).name else None) ≡ Some (ref_of s).name
     by None is = refl
     by (Some link) is = absurd (target_no p l given link (ref_of s).name (target_of p d link) t is)
-
-durable_stored : (s : Stored) (rs : List RedoRecord) → (stored_by s rs).durable ≡ fold durable_after s.durable rs
-unfolding stored_by applied
-durable_stored s [] = refl
-durable_stored s (r ∷ rs) = durable_stored (applied s r) rs
 
 -- the table is that of the records
 pub table_so : (f : Facts) (n : ℕ) (k : NodeState) (p : Place) (l : Live) (given : ℕ) (s : Stmt) (t : Table) → StoresOf (records_at f n) k → way_of p k.stored.durable l given s ≡ Runs_here t
@@ -167,7 +165,7 @@ run_answered p k x s t = by x.live.parent
   where
     by : (o : Option BranchId)
         → answered_by (Some (output_of (record (runs_here p k x s t) {
-          says = answer_says (record x { live = after_run x.live (ran p k x.live.me s t) }) (answer_of_run (ran p k x.live.me s t)) o;
+          says = answer_says (branch_ran k.sessions x t (ran p k x.live.me s t)) (answer_of_run (ran p k x.live.me s t)) o;
           ended = answer_ends (after_run x.live (ran p k x.live.me s t)) (answer_of_run (ran p k x.live.me s t)) o;
         })))
         ≡ Some (answer_of_run (ran p k x.live.me s t))

@@ -5,7 +5,7 @@ use Rattle.std.proofs.lemmas.Bool.Decides.{nat_tests}
 use Rattle.tran_ids.proofs.BranchLemmas.{equal_from_same}
 use Rattle.tran_ids.proofs.ListedLemmas.{put_found, put_leaves, drop_gone, drop_leaves}
 use Rattle.commit_forget.specs.declared.next.Next.TheVariants as nexts
-use Rattle.node_rules.specs.Data.{Stmt, Admit, Advice, BranchId, Live, Act, Place, Input}
+use Rattle.node_rules.specs.Data.{Stmt, Admit, Advice, BranchId, Live, Act, Place, Input, Task}
 use Rattle.node_rules.specs.declared.work.Work.{Work}
 use Rattle.node_rules.specs.Data.acts
 use Rattle.node_rules.specs.Data.admits
@@ -15,10 +15,12 @@ use Rattle.node_rules.specs.Inputs.{Came}
 use Rattle.node_rules.specs.Names.{Way, Runs_here, Over, Through, Nowhere_to, way_of}
 use Rattle.node_rules.specs.NodeState.{NodeState, Branch, TurnDraft, live_id, work_id, work_or, live_at, work_at, with_work, branch_at}
 use Rattle.node_rules.specs.Prepare.{act_turn}
-use Rattle.node_rules.specs.Calls.{admit, takes_call, goes, exec_by, on_exec}
+use Rattle.node_rules.specs.Calls.{admit, takes_call, goes, exec_by, on_exec, backs_to, task_at}
 use Rattle.node_rules.proofs.LiveLemmas.{work_is}
 use Rattle.node_rules.proofs.Steps as steps
-use Rattle.node_rules.proofs.Steps.{Asked, Step}
+use Rattle.node_rules.proofs.Steps.{Asked, Step, Calls_back, Goes_to}
+use Rattle.node_rules.specs.Data.tasks
+use Rattle.node_rules.specs.Marks.{next_back, branch_back, node_back}
 
 -- the greatest call number that a branch took
 abbrev pub last_in : List Work → BranchId → ℕ
@@ -60,16 +62,31 @@ found_calls k x found = by (live_at k x.live.me) refl found
 
 -- ---- a turn in which no Exec comes to the branch
 
-module _ (p : Place) (input : Input) (b : BranchId) (not_to : (from : BranchId) (call given : ℕ) (advice : Option Advice) (s : Stmt) → Came input from b (kinds.Exec call given advice s) → ⊥) where
+module _ (p : Place) (input : Input) (b : BranchId) (not_to : (from : BranchId) (call : ℕ) (task : Task) → Came input from b (kinds.Exec call task) → ⊥) where
   -- the number that its branch took stays where the branch was asked by a call
   asked_calls : (k : NodeState) {x : Branch} {s : Stmt} {given : ℕ} → Asked k input x s given → x.work.branch ≡ b → x.work.came.last_call ≡ last_of k b
-  asked_calls k (steps.By_call n x s call rows has code found) me = found_calls k x found ∙ ap (last_of k) (sym (work_is k x.live.me x found) ∙ me)
+  asked_calls k (steps.By_call n x s call rows has code found may) me = found_calls k x found ∙ ap (last_of k) (sym (work_is k x.live.me x found) ∙ me)
   asked_calls k (steps.By_exec x from call given advice s came found runs) me =
       let mine : x.live.me ≡ b = sym (work_is k x.live.me x found) ∙ me in
-      absurd (not_to from call given advice s (subst (λ c. Came input from c (kinds.Exec call given advice s)) mine came))
+      absurd (not_to from call (tasks.Run given advice s) (subst (λ c. Came input from c (kinds.Exec call (tasks.Run given advice s))) mine came))
 
   found_same : (k : NodeState) (x : Branch) → branch_at k x.live.me ≡ Some x → x.work.branch ≡ b → x.work.came.last_call ≡ last_of k b
   found_same k x found me = found_calls k x found ∙ ap (last_of k) (sym (work_is k x.live.me x found) ∙ me)
+
+  goes_calls : (k : NodeState) {x : Branch} {step : ℕ} → Goes_to k input x step → x.work.branch ≡ b → x.work.came.last_call ≡ last_of k b
+  goes_calls k (steps.By_rollback_to n x name step call has code found set) me = found_same k x found me
+  goes_calls k (steps.By_back x from call keep came found runs) me =
+      let mine : x.live.me ≡ b = sym (work_is k x.live.me x found) ∙ me in
+      absurd (not_to from call (tasks.GoBack keep) (subst (λ c. Came input from c (kinds.Exec call (tasks.GoBack keep))) mine came))
+
+  calling_calls : (k : NodeState) {x : Branch} {step from : ℕ} → Calls_back k input x step from → x.work.branch ≡ b → x.work.came.last_call ≡ last_of k b
+  calling_calls k (steps.Has_gone j x step goes is) me = goes_calls j goes me ∙ ap (λ (i : NodeState). last_of i b) (sym is)
+  calling_calls k (steps.Has_heard x weight count a i e g step answered going errand done) me = found_same k x answered.live me
+
+  -- a branch goes back, whichever child it calls first
+  back_calls : (k : NodeState) (x : Branch) (step : ℕ) → Goes_to k input x step → (next : Option ℕ) → last_of (backs_to (node_back k x step) (branch_back k x step) step next).after b ≡ last_of k b
+  back_calls k x step goes None = put_calls k.works _ b (goes_calls k goes)
+  back_calls k x step goes (Some i) = put_calls k.works _ b (goes_calls k goes)
 
   act_calls : (k : NodeState) (l : Live) (q : Bool) (a : Act) (y : Live) → live_at (act_turn k l q a).after b ≡ Some y → last_of (act_turn k l q a).after b ≡ last_of k b
   act_calls k l q acts.Rest y live = refl
@@ -78,8 +95,10 @@ module _ (p : Place) (input : Input) (b : BranchId) (not_to : (from : BranchId) 
   act_calls k l q _ y live = left_calls k.lives k.works l.me b y live
 
   pub calls_on : {k : NodeState} {d : TurnDraft} → Step p input k d → (y : Live) → live_at d.after b ≡ Some y → last_of d.after b ≡ last_of k b
-  calls_on (steps.Begins n s call rows range none step) y live = calls_on step y live
-  calls_on (steps.Pends n l given call has found code step) y live = calls_on step y live
+  calls_on (steps.Begins n s read_at call begins range none step) y live = calls_on step y live
+  calls_on (steps.Counts_call n s call counts step) y live = calls_on step y live
+  calls_on (steps.Goes_back {k = k} x step goes next) y live = back_calls k x step goes (next_back (branch_back k x step).work step 1)
+  calls_on (steps.Pends n l given call has found code writer step) y live = calls_on step y live
   calls_on (steps.Lets_reads_go l comment q found begins step) y live = calls_on step y live
   calls_on (steps.Counts_ack s from kept came counts step) y live = calls_on step y live
   calls_on (steps.Runs {k = k} x s given t asked way) y live = put_calls k.works _ b (asked_calls k asked)
@@ -88,11 +107,14 @@ module _ (p : Place) (input : Input) (b : BranchId) (not_to : (from : BranchId) 
   calls_on (steps.Opens {k = k} x s given node link table asked way) y live = put_calls k.works _ b (asked_calls k asked)
   calls_on (steps.Goes_on {k = k} x from strength g link opened) y live = put_calls k.works _ b (found_same k x opened.live)
   calls_on (steps.Hears_reply {k = k} x weight count a i e answered) y live = put_calls k.works _ b (found_same k x answered.live)
+  calls_on (steps.Backs {k = k} x step from i calls next) y live = put_calls k.works _ b (calling_calls k calls)
+  calls_on (steps.Is_back {k = k} x step from calls none) y live = put_calls k.works _ b (calling_calls k calls)
   calls_on (steps.Acts {k = k} l q a why) y live = act_calls k l q a y live
   calls_on (steps.Drops_told {k = k} l found drops) y live = left_calls k.lives k.works l.me b y live
   calls_on (steps.Drops_asked {k = k} l from found came parent) y live = left_calls k.lives k.works l.me b y live
   calls_on (steps.Does s from nexts.Rest kept why) y live = refl
-  calls_on (steps.Rolls_back {k = k} n x call has found) y live = left_calls k.lives k.works x.live.me b y live
+  calls_on (steps.Leaves {k = k} n s d x call ends has found) y live = left_calls k.lives k.works x.live.me b y live
+  calls_on (steps.Sets_savepoint {k = k} n x name call has code found) y live = put_calls k.works _ b (found_same k x found)
   calls_on (steps.Gives_up {k = k} n x gives has calls found) y live = put_calls k.works _ b (found_same k x found)
   calls_on (steps.Gives_up_commit {k = k} n c (Some l) gives has calls found) y live = left_calls k.lives k.works l.me b y live
   calls_on _ y live = refl
@@ -105,21 +127,32 @@ not_above a c is = grind (arith, nat_tests, is)
 above : (a c : ℕ) → nat_lt a c ≡ true → max a c ≡ c
 above a c is = grind (arith, nat_tests, is)
 
-module _ (p : Place) (k : NodeState) (x : Branch) (found : branch_at k x.live.me ≡ Some x) (from : BranchId) (call given : ℕ) (advice : Option Advice) (s : Stmt) where
+module _ (p : Place) (k : NodeState) (x : Branch) (found : branch_at k x.live.me ≡ Some x) (from : BranchId) (call : ℕ) (task : Task) where
   took : (w : Work) → w.branch ≡ x.live.me → last_in (put_item work_id k.works w) x.live.me ≡ w.came.last_call
   took w me = ap (λ o. (work_or x.live.me o).came.last_call) (subst (λ c. item_at work_id (put_item work_id k.works w) c ≡ Some w) me (put_found work_id k.works w))
 
-  goes_took : (way : Way) → last_of (goes p k (takes_call x call advice) s given way).after x.live.me ≡ call
-  goes_took (Runs_here t) = took _ (work_is k x.live.me x found)
-  goes_took (Nowhere_to r) = took _ (work_is k x.live.me x found)
-  goes_took (Over i table) = took _ (work_is k x.live.me x found)
-  goes_took (Through node link table) = took _ (work_is k x.live.me x found)
+  goes_took : (s : Stmt) (given : ℕ) (way : Way) → last_of (goes p k (takes_call x call task) s given way).after x.live.me ≡ call
+  goes_took s given (Runs_here t) = took _ (work_is k x.live.me x found)
+  goes_took s given (Nowhere_to r) = took _ (work_is k x.live.me x found)
+  goes_took s given (Over i table) = took _ (work_is k x.live.me x found)
+  goes_took s given (Through node link table) = took _ (work_is k x.live.me x found)
 
-  pub exec_took : last_of (on_exec p k x from call given advice s).after x.live.me ≡ max (last_of k x.live.me) call
+  backs_took : (step : ℕ) (next : Option ℕ) → last_of (backs_to (node_back k (takes_call x call task) step) (branch_back k (takes_call x call task) step) step next).after x.live.me ≡ call
+  backs_took step None = took _ (work_is k x.live.me x found)
+  backs_took step (Some i) = took _ (work_is k x.live.me x found)
+
+module _ (p : Place) (k : NodeState) (x : Branch) (found : branch_at k x.live.me ≡ Some x) (from : BranchId) (call : ℕ) where
+  task_took : (task : Task) → last_of (task_at p k (takes_call x call task) task).after x.live.me ≡ call
+  task_took (tasks.Run given advice s) =
+      goes_took p k x found from call (tasks.Run given advice s) s given (way_of p k.stored.durable (takes_call x call (tasks.Run given advice s)).live given s)
+  task_took (tasks.GoBack keep) =
+      backs_took p k x found from call (tasks.GoBack keep) keep (next_back (branch_back k (takes_call x call (tasks.GoBack keep)) keep).work keep 1)
+
+  pub exec_took : (task : Task) → last_of (on_exec p k x from call task).after x.live.me ≡ max (last_of k x.live.me) call
   unfolding admit
-  exec_took = subst (λ n. last_of (on_exec p k x from call given advice s).after x.live.me ≡ max n call) (found_calls k x found) (by (nat_lt x.work.came.last_call call) refl)
+  exec_took task = subst (λ n. last_of (on_exec p k x from call task).after x.live.me ≡ max n call) (found_calls k x found) (by (nat_lt x.work.came.last_call call) refl)
     where
-      ignored : (a : Admit) → (a ≡ admits.Again) ⊎ (a ≡ admits.Ignore) → last_of (exec_by p k x from call given advice s a).after x.live.me ≡ x.work.came.last_call
+      ignored : (a : Admit) → (a ≡ admits.Again) ⊎ (a ≡ admits.Ignore) → last_of (exec_by p k x from call task a).after x.live.me ≡ x.work.came.last_call
       ignored admits.Again is = sym (found_calls k x found)
       ignored admits.Ignore is = sym (found_calls k x found)
       ignored admits.Run (inl is) = absurd cc
@@ -130,6 +163,6 @@ module _ (p : Place) (k : NodeState) (x : Branch) (found : branch_at k x.live.me
       either false = inr refl
 
       by : (q : Bool) → nat_lt x.work.came.last_call call ≡ q
-          → last_of (exec_by p k x from call given advice s (if q then admits.Run else (if (call == x.work.came.last_call) && is_some x.work.came.reply then admits.Again else admits.Ignore))).after x.live.me ≡ max x.work.came.last_call call
-      by true is = goes_took (way_of p k.stored.durable (takes_call x call advice).live given s) ∙ sym (above x.work.came.last_call call is)
+          → last_of (exec_by p k x from call task (if q then admits.Run else (if (call == x.work.came.last_call) && is_some x.work.came.reply then admits.Again else admits.Ignore))).after x.live.me ≡ max x.work.came.last_call call
+      by true is = task_took task ∙ sym (above x.work.came.last_call call is)
       by false is = ignored _ (either ((call == x.work.came.last_call) && is_some x.work.came.reply)) ∙ sym (not_above x.work.came.last_call call is)

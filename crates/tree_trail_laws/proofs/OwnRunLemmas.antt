@@ -16,15 +16,15 @@ use Rattle.sql_eval.specs.Meaning.{unless, meant}
 use Rattle.sql_eval.proofs.MadeLemmas.{count_is_length}
 use Rattle.row_locks.specs.Locks.{Lock, is_lock_on, named, keys_held}
 use Rattle.row_locks.specs.Held.{in_doubt_one, doubt_on}
-use Rattle.stmt_run.specs.Run.{StmtContext, held_refusal, in_doubt_refusal, locked_refusal, space_refusal, ran_within, ran_meant, ran_locked, ran_checked, ran_over}
+use Rattle.stmt_run.specs.Run.{StmtContext, held_refusal, in_doubt_refusal, locked_refusal, space_refusal, ran_within, ran_meant, ran_locked, ran_checked, ran_over, too_old_refusal}
 use Rattle.node_rules.specs.Data.{Value, Change, Table, Stmt, Refusal, Done, BranchId, Keyed, Doubt, Place}
 use Rattle.node_rules.specs.Words.{same, same_text}
-use Rattle.node_rules.specs.Rows.{same_value, get, rows_of_table}
+use Rattle.node_rules.specs.Rows.{same_value, get, rows_of_table, view_of}
 use Rattle.node_rules.specs.Meaning.{examined, written, meant_over}
 use Rattle.node_rules.specs.Names.{table_of}
 use Rattle.node_rules.specs.NodeState.{NodeState}
 use Rattle.node_rules.specs.Prepare.{own_changes}
-use Rattle.node_rules.specs.Statement.{StmtOutcome, Refuses, Reads, Writes, ground_of, ran}
+use Rattle.node_rules.specs.Statement.{StmtOutcome, Refuses, Reads, Writes, ground_of, ran, reads_at, rows_read}
 use Rattle.run_rules.specs.Book.{commits_at, rows_of, committed_at, rows_by_book}
 use Rattle.run_rules.specs.Data.{Entry}
 use Rattle.run_rules.specs.Facts.{node_at}
@@ -133,11 +133,15 @@ no_first : (a b : Option Refusal) → else_refuse a b ≡ None → a ≡ None
 no_first (Some r) b none = absurd cc
 no_first None b none = refl
 
+no_second : (a b : Option Refusal) → else_refuse a b ≡ None → b ≡ None
+no_second (Some r) b none = absurd cc
+no_second None b none = none
+
 -- ---- a node and the book
 
 -- The rows of a node are those of the book at the keys that are not in doubt, and what it keeps fits.
 pub record IsOfBook (book : List Entry) (n : ℕ) (k : NodeState) : Type 0 where
-  pub doubts : (table : List ℕ) → keys_in_doubt book n table ≡ doubtful_keys k.stored.doubts table
+  pub doubts : (table : List ℕ) (test : Value → Bool) → list_any test (keys_in_doubt book n table) ≡ list_any test (doubtful_keys k.stored.doubts table)
   pub rows : (table : List ℕ) (key : Value) → list_any (same_value key) (keys_in_doubt book n table) ≡ false → get (rows_of_table k.stored.rows table) key ≡ get (rows_of book n table) key
   pub book_fits : (name : List ℕ) (x : Table) → table_in k.stored.durable.tables name ≡ Some x → AreRowsOf x (rows_of book n name)
   pub order : (table : List ℕ) → AreInKeyOrder (rows_of_table k.stored.rows table)
@@ -175,7 +179,7 @@ IsMeantBy book n s t seen (Reads rows keys) = (meant s t seen ≡ meants.Gives r
 IsMeantBy book n s t seen (Writes d cs keys undo) = meant s t seen ≡ meants.Changes d (length cs) cs
 
 module _ (book : List Entry) (n : ℕ) (k : NodeState) (of_it : IsOfBook book n k) (p : Place) (b : BranchId) (here : b.node ≡ n) (s : Stmt) (t : Table) (name : List ℕ)
-    (found : table_of k.stored.durable name ≡ Some t) where
+    (found : table_of k.stored.durable name ≡ Some t) (newest : reads_at k b ≡ None) where
   abbrev g : StmtContext
   g = ground_of p k b t
 
@@ -184,7 +188,14 @@ module _ (book : List Entry) (n : ℕ) (k : NodeState) (of_it : IsOfBook book n 
 
   -- what the branch sees by the book
   abbrev told_view : List Keyed
-  told_view = view_by book b (own_changes k b) t.name
+  told_view = view_by book b None (own_changes k b) t.name
+
+  -- and by the node, where it reads the newest rows
+  abbrev kept_view : List Keyed
+  kept_view = view_of k.stored.rows (own_changes k b) t.name
+
+  same_view : g.view ≡ kept_view
+  same_view = ap (λ r. view_of (rows_read k r) (own_changes k b) t.name) newest
 
   by_name : table_in k.stored.durable.tables t.name ≡ Some t
   by_name = subst (λ m. table_in k.stored.durable.tables m ≡ Some t) (sym (table_is k.stored.durable.tables name t found)) found
@@ -195,7 +206,7 @@ module _ (book : List Entry) (n : ℕ) (k : NodeState) (of_it : IsOfBook book n 
   agree : AgreeBut doubtful (rows_of_table k.stored.rows t.name) (rows_of book b.node t.name)
   agree key not_in =
       subst (λ m. get (rows_of_table k.stored.rows t.name) key ≡ get (rows_of book m t.name) key) (sym here)
-      (of_it.rows t.name key (ap (list_any (same_value key)) (of_it.doubts t.name) ∙ not_in))
+      (of_it.rows t.name key (of_it.doubts t.name (same_value key) ∙ not_in))
 
   second : IsView t told_view
   unfolding view_by
@@ -204,9 +215,9 @@ module _ (book : List Entry) (n : ℕ) (k : NodeState) (of_it : IsOfBook book n 
     fit = apply_rows k.stored.durable.tables (own_changes k b) (of_it.fits.1 b) t (rows_of book b.node t.name) by_name (subst (λ m. AreRowsOf t (rows_of book m t.name)) (sym here) (of_it.book_fits t.name t by_name));
   }
 
-  alike : in_doubt_refusal g t (examined s t g.view (keys_held k.locks t.name)) ≡ None → SeesAlike s t doubtful (keys_held k.locks t.name) g.view told_view
+  alike_at : in_doubt_refusal g t (examined s t kept_view (keys_held k.locks t.name)) ≡ None → SeesAlike s t doubtful (keys_held k.locks t.name) kept_view told_view
   unfolding view_by
-  alike none = record {
+  alike_at none = record {
     one_key = one_key k b t name found of_it.fits;
     first = record {
       order = changes_keep_order t.name (own_changes k b) (rows_of_table k.stored.rows t.name) (of_it.order t.name);
@@ -215,9 +226,13 @@ module _ (book : List Entry) (n : ℕ) (k : NodeState) (of_it : IsOfBook book n 
     second = second;
     agree = changes_keep_agreement t.name (own_changes k b) doubtful (rows_of_table k.stored.rows t.name) (rows_of book b.node t.name) agree;
     locks = all_some (IsLockedInDoubt k.locks t.name) _ doubtful (λ key is. is.0) locked;
-    avoids = all_some (λ key. doubt_on k.locks t.name key ≡ None) _ (examined s t g.view (keys_held k.locks t.name)) (not_doubtful k.locks t.name doubtful locked)
-        (unheld (doubt_on k.locks t.name) (examined s t g.view (keys_held k.locks t.name)) (nobody 1591 _ none));
+    avoids = all_some (λ key. doubt_on k.locks t.name key ≡ None) _ (examined s t kept_view (keys_held k.locks t.name)) (not_doubtful k.locks t.name doubtful locked)
+        (unheld (doubt_on k.locks t.name) (examined s t kept_view (keys_held k.locks t.name)) (nobody 1591 _ none));
   }
+
+  alike : in_doubt_refusal g t (examined s t g.view (keys_held k.locks t.name)) ≡ None → SeesAlike s t doubtful (keys_held k.locks t.name) g.view told_view
+  alike none =
+      subst (λ v. SeesAlike s t doubtful (keys_held k.locks t.name) v told_view) (sym same_view) (alike_at (subst (λ v. in_doubt_refusal g t (examined s t v (keys_held k.locks t.name)) ≡ None) same_view none))
 
   -- the meaning over both
   meant_both : checked s t ≡ None → SeesAlike s t doubtful (keys_held k.locks t.name) g.view told_view → (m : Meant) → meant_over s t g.view ≡ m → meant s t told_view ≡ m
@@ -225,8 +240,8 @@ module _ (book : List Entry) (n : ℕ) (k : NodeState) (of_it : IsOfBook book n 
   meant_both check so m is = ap (λ o. unless o (meant_over s t told_view)) check ∙ (sym (means_alike s t doubtful (keys_held k.locks t.name) g.view told_view so) ∙ is)
 
   certain : SeesAlike s t doubtful (keys_held k.locks t.name) g.view told_view → (others : List Value) → AreCertain book n t.name (examined s t told_view others)
-  certain so others = subst (λ keys. AllByRecursion (λ key. list_any (same_value key) keys ≡ false) (examined s t told_view others)) (sym (of_it.doubts t.name))
-      (avoids_alike s t doubtful (keys_held k.locks t.name) others g.view told_view so)
+  certain so others = all_some (λ key. list_any (same_value key) doubtful ≡ false) (λ key. list_any (same_value key) (keys_in_doubt book n t.name) ≡ false) (examined s t told_view others)
+      (λ key free. of_it.doubts t.name (same_value key) ∙ free) (avoids_alike s t doubtful (keys_held k.locks t.name) others g.view told_view so)
 
   within : (o : Option Refusal) (d : Done) (cs : List Change) → meant s t told_view ≡ meants.Changes d (length cs) cs → IsMeantBy book n s t told_view (ran_within g o d cs (written s t g.view))
   within (Some r) d cs is = tt
@@ -238,9 +253,10 @@ module _ (book : List Entry) (n : ℕ) (k : NodeState) (of_it : IsOfBook book n 
   by_meaning check so (meants.Changes d i cs) is =
       within (space_refusal g cs) d cs (meant_both check so (meants.Changes d i cs) is ∙ ap (λ c. meants.Changes d c cs) (count_is_length s t g.view d i cs is))
 
-  by_locks : (o : Option Refusal) → checked s t ≡ None → else_refuse (in_doubt_refusal g t (examined s t g.view (keys_held k.locks t.name))) (locked_refusal g t (written s t g.view)) ≡ o → IsMeantBy book n s t told_view (ran_locked g s t o)
+  by_locks : (o : Option Refusal) → checked s t ≡ None
+      → else_refuse (too_old_refusal g) (else_refuse (in_doubt_refusal g t (examined s t g.view (keys_held k.locks t.name))) (locked_refusal g t (written s t g.view))) ≡ o → IsMeantBy book n s t told_view (ran_locked g s t o)
   by_locks (Some r) check is = tt
-  by_locks None check is = by_meaning check (alike (no_first _ _ is)) (meant_over s t g.view) refl
+  by_locks None check is = by_meaning check (alike (no_first _ _ (no_second _ _ is))) (meant_over s t g.view) refl
 
   by_checks : (o : Option Refusal) → checked s t ≡ o → IsMeantBy book n s t told_view (ran_checked g s t o)
   by_checks (Some r) is = tt

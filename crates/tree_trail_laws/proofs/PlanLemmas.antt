@@ -17,15 +17,15 @@ use Rattle.node_rules.specs.Inputs.{IsCall}
 use Rattle.node_rules.specs.NodeState.{NodeState, Branch, TurnDraft, to_one, to_each}
 use Rattle.node_rules.specs.Sessions.{session_at, with_call, commit_is_pending, commit_complete}
 use Rattle.node_rules.specs.Prepare.{act_turn, collecting, with_comment, first_act_by, root_act, without_read_keys, prepare_to, path_of, site_neighbors, is_alone}
-use Rattle.node_rules.specs.Client.{root_at as kept_root, commit_by}
+use Rattle.node_rules.specs.Client.{root_at as kept_root, commit_by, commit_at}
 use Rattle.node_rules.specs.Turn.{turn_of, output_of, stamped}
 use Rattle.run_rules.specs.Data.{Turn, Happening}
 use Rattle.run_rules.specs.Data.happenings
 use Rattle.run_rules.specs.Facts.{Facts, place_at, node_at, served, outcome_at}
 use Rattle.run_rules.specs.Branches.{Seen, Trail, CommitPlan, is_root_of, root_at, is_plan_of, plan_at}
-use Rattle.run_rules.specs.Runs.{ended_answer, replied_answer, answer_or, answered_by}
+use Rattle.run_rules.specs.Runs.{ended_answer, replied_answer, answer_or, answered_by, is_refused}
 use Rattle.run_rules.specs.Tree.{plan}
-use Rattle.run_rules.specs.Trail.{begun_in_turn, is_refused, commits, planned_by, called_root, with_begun, trail_after}
+use Rattle.run_rules.specs.Trail.{begun_in_turn, commits, planned_by, called_root, with_begun, trail_after}
 pub use Rattle.tree_laws.proofs.TopStepLemmas.{find_more}
 
 -- ---- what is found in a list
@@ -100,10 +100,15 @@ first_granted : (k : NodeState) (l : Live) (es : List Edge) → IsGranted (act_t
 first_granted k l [] = collected_granted k l (is_none l.parent)
 first_granted k l (e ∷ es) = ap is_refused (silent_asks k.clock l.me l.comment (asked_from (path_of true (step l)) 1 l.edges))
 
+-- COMMIT of a READ ONLY transaction is not refused either
+at_granted : (k : NodeState) (n : ℕ) (c : List ℕ) (x : Branch) (read_at : Option ℕ) → IsGranted (commit_at k n c x read_at)
+at_granted k n c x (Some scn) = refl
+at_granted k n c x None =
+    let l : Live = collecting (with_comment x.live c) true in first_granted (without_read_keys (record k { sessions = with_call k.sessions n pending.Commit }) l.me) l l.edges
+
 commit_granted : (k : NodeState) (n : ℕ) (c : List ℕ) (o : Option Branch) → IsGranted (commit_by k n c None o)
 commit_granted k n c None = refl
-commit_granted k n c (Some x) =
-    let l : Live = collecting (with_comment x.live c) true in first_granted (without_read_keys (record k { sessions = with_call k.sessions n pending.Commit }) l.me) l l.edges
+commit_granted k n c (Some x) = at_granted k n c x x.live.read_at
 
 module _ (places : List Place) (f : Facts) (tr : Trail) (u : Turn) (k : NodeState) (up : node_at f u.node ≡ Some k) (session : ℕ) (given : Option (List ℕ)) (call : IsCall u.input session (stmts.Commit given))
     (code : (session_at k.sessions session).code ≡ None) where
@@ -129,9 +134,11 @@ module _ (places : List Place) (f : Facts) (tr : Trail) (u : Turn) (k : NodeStat
   pub same_trail : with_begun f tr u ≡ tr
   same_trail = ap (λ xs. record tr { seen = tr.seen ++ xs }) none_begins ∙ ap (λ xs. record tr { seen = xs }) (append-nil tr.seen)
 
-  module _ (s : Seen) (root : root_at tr u.node session ≡ Some s) where
+  module _ (s : Seen) (root : root_at tr u.node session ≡ Some s) (writer : s.read_at ≡ None) where
     is_commit : commits u.node (answered_by (outcome_at places f u)) s commit ≡ true
-    is_commit = ap (λ q. q && not (is_refused (answered_by (outcome_at places f u)))) (find_passes (is_root_of u.node session) tr.seen s root) ∙ ap not accepted
+    is_commit =
+        ap (λ o. is_none o && (is_root_of u.node session s && not (is_refused (answered_by (outcome_at places f u))))) writer
+        ∙ (ap (λ q. q && not (is_refused (answered_by (outcome_at places f u)))) (find_passes (is_root_of u.node session) tr.seen s root) ∙ ap not accepted)
 
     planned_so : planned_by places tr u.node (answered_by (outcome_at places f u)) commit (Some s) ≡ plan places tr s.me ∷ []
     planned_so = ap (λ q. if q then plan places tr s.me ∷ [] else []) is_commit

@@ -47,14 +47,14 @@ module _ (places : List Place) (f : Facts) (tr : Trail) (u : Turn) where
 
   -- one that left has left
   turned_left : (s : Seen) (e : Exit) → s.exit ≡ Some e → (turned s).exit ≡ Some e
-  turned_left s e is = ap (exit_after planned u s (with_turn f.book u (outcome_at places f u) brings s)) is
+  turned_left s e is = ap (exit_after planned u brings.answer s (with_turn f.book u (outcome_at places f u) brings s)) is
 
   -- one that was live leaves by its record
   turned_sealed : (s : Seen) (r : SealedRecord) → s.exit ≡ None → u.wrote ≡ Some (records.Sealed r) → r.me ≡ s.me → (turned s).exit ≡ Some (Sealed r.scn)
   turned_sealed s r live wrote me =
       let now : Seen = with_turn f.book u (outcome_at places f u) brings s in
-      ap (exit_after planned u s now) live
-      ∙ ap (exit_by planned u s now) (ap (recorded_exit s.me) wrote ∙ ap (λ q. if q then Some (Sealed r.scn) else None) (same_from_equal r.me s.me me))
+      ap (exit_after planned u brings.answer s now) live
+      ∙ ap (exit_by planned u brings.answer s now) (ap (recorded_exit s.me) wrote ∙ ap (λ q. if q then Some (Sealed r.scn) else None) (same_from_equal r.me s.me me))
 
   pub sealed_by_turn : (b : BranchId) (s : Seen) (r : SealedRecord) → seen_at tr b ≡ Some s → s.exit ≡ None → u.wrote ≡ Some (records.Sealed r) → r.me ≡ b
       → exit_at (trail_after places f tr (happenings.Turn u)) b ≡ Some (Sealed r.scn)

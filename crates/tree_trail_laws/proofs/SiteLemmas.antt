@@ -33,7 +33,7 @@ use Rattle.run_base_laws.specs.NodeLaws.{EachFactFrom}
 use Rattle.run_base_laws.specs.RunEvents.{wrote_event, with_event, with_record, events_of}
 use Rattle.run_claims.specs.Site.{IsSite, IsCovered, Covers, DecidedBySite, DecisionCovers, RecordIsSo, SiteDecides}
 use Rattle.run_rules.specs.Trail.{trail_after, trail_of}
-use Rattle.run_rules.specs.Tree.{has_changes, plan}
+use Rattle.run_rules.specs.Tree.{has_changes, plan, strength_of}
 use Rattle.run_rules.proofs.AtNodeLemmas.{turn_here}
 use Rattle.run_base_laws.proofs.BirthRunLemmas.{records_name_the_born}
 use Rattle.run_key_laws.proofs.ChangedLemmas.{changes_are_of_live}
@@ -56,18 +56,24 @@ use Rattle.tree_trail_laws.proofs.RootLemmas.{IsLiveIn, live_there, walk_in, roo
 use Rattle.tree_trail_laws.proofs.SealedLemmas.{seals_are_told}
 use Rattle.tree_laws.proofs.AtTurn.{at_turn}
 use Rattle.tree_trail_laws.proofs.AtTrail.{at_trail}
+use Rattle.tree_trail_laws.specs.SeenLaws.{TracesOwns}
+use Rattle.tree_trail_laws.proofs.TopFollowLemmas.{tops_at}
+use Rattle.tree_trail_laws.proofs.TopFinishLemmas.{told_strength}
+use Rattle.tree_trail_laws.proofs.TopTurnLemmas.{strong_tops}
+use Rattle.tree_trail_laws.proofs.FirstLemmas.{some_first}
 
 -- ---- what is told of the tree
-
-pub some_first : (cs : List Change) → is_some (slice_get cs 0) ≡ are_some cs
-some_first [] = refl
-some_first (c ∷ cs) = sym (lt-ltb 0 (length (c ∷ cs)) (omega arith))
 
 -- the first of two answers, where the other is the first one there
 first_of : {A : Type 0} (o : Option A) (a : A) (q : Bool) → o ≡ None → q ≡ true → first o (if q then Some a else None) ≡ Some a
 first_of o a q none here = ap (λ p. first p (if q then Some a else None)) none ∙ ap (λ p. if p then Some a else None) here
 
 module _ (t : History) (whole : IsLawfulRun t) (sees : SeesAll t) where
+  -- the changes of live branches are told
+  owns : AtEach (λ places f tr h. TracesOwns f tr) t
+  owns = by_moment t (λ places f tr h. TracesOwns f tr)
+      (λ hs h rest is n k up l live. (let it = (at_moment t (λ places f tr h. Sees f tr) sees hs h rest is).lives n k up l live in ap own_of it.1 ∙ it.2.own))
+
   module _ (hs : List Happening) (h : Happening) (rest : List Happening) (is : hs ++ h ∷ rest ≡ t.trace) where
     saw : Sees (f_at t hs) (tr_at t hs)
     saw = at_moment t (λ places f tr h. Sees f tr) sees hs h rest is
@@ -79,9 +85,20 @@ module _ (t : History) (whole : IsLawfulRun t) (sees : SeesAll t) where
         (it.0, subst (λ c. seen_at (tr_at t hs) c ≡ Some it.0) me it.1, it.2)
 
     -- the tree of a root is told as nodes keep it
-    pub sees_tree : (r : BranchId) → SeesTree (f_at t hs) (tr_at t hs) r
-    sees_tree r = record { children = children; changed = changed }
+    pub sees_tree : (r : BranchId) → SeesTree t.places (f_at t hs) (tr_at t hs) r
+    sees_tree r = record { children = children; changed = changed; strength = strength }
       where
+        part : Part t whole hs
+        part = record { rest = h ∷ rest; is = is }
+
+        strength : (c : BranchId) (l : Live) → InTree (f_at t hs) r c → live_in (f_at t hs) c ≡ Some l → strength_of t.places (tr_at t hs) c ≡ l.strength
+        strength c l inside live =
+            let at : IsLiveIn (f_at t hs) c l = live_there (f_at t hs) c l live in
+            let me : l.me ≡ c = item_is live_id at.kept.lives c l at.found in
+            let now = (tops_at t whole owns hs part).1 in
+            subst (λ d. strength_of t.places (tr_at t hs) d ≡ l.strength) me
+            (told_strength t whole owns hs h rest is now.tops (strong_tops t whole hs part now) c.node at.kept at.up l (subst (λ d. live_at at.kept d ≡ Some l) (sym me) at.found))
+
         children : (c : BranchId) (l : Live) → InTree (f_at t hs) r c → live_in (f_at t hs) c ≡ Some l → children_at (tr_at t hs) c ≡ kept_children l
         children c l inside live = let it = seen_live c l (live_there (f_at t hs) c l live) in ap children_of it.1 ∙ it.2.told.children
 
@@ -183,10 +200,18 @@ module _ (t : History) (whole : IsLawfulRun t) (sees : SeesAll t) where
         let it = (saw so.before (happenings.Turn v) (so.later ++ rest) is0).lives v.node so.kept so.up l l_found in
         subst (λ c. plan_at tr0 c ≡ None) (l_me ∙ sym top.2) (it.2.unplanned root_alone working)
 
+    -- its transaction is not READ ONLY
+    writer : top.0.read_at ≡ None
+    writer =
+        let it = (saw so.before (happenings.Turn v) (so.later ++ rest) is0).lives v.node so.kept so.up l l_found in
+        let both : Some top.0 ≡ Some it.0 = sym top.4 ∙ subst (λ c. seen_at tr0 c ≡ Some it.0) l_me it.1 in
+        let one : top.0 ≡ it.0 = cc in
+        ap (λ (s : Seen). s.read_at) one ∙ (it.2.told.read_at ∙ so.writes l top.3.1)
+
     planned_then : plan_at (trail_after t.places f0 tr0 (happenings.Turn v)) so.root ≡ Some (plan t.places tr0 so.root)
     planned_then =
         subst (λ c. plan_at (trail_after t.places f0 tr0 (happenings.Turn v)) c ≡ Some (plan t.places tr0 c)) top.2
-        (plan_here t.places f0 tr0 v so.kept so.up so.session so.given so.call so.accepted top.0 top.1 unplanned)
+        (plan_here t.places f0 tr0 v so.kept so.up so.session so.given so.call so.accepted top.0 top.1 writer unplanned)
 
     planned_at_end : plan_at (tr_at t (so.before ++ happenings.Turn v ∷ so.later)) so.root ≡ Some (plan t.places tr0 so.root)
     unfolding trail_of

@@ -1,5 +1,5 @@
 -- A root that is told to be live is live at its node after a turn, unless the turn is cut, where a root that ends without a site has a plan without one.
-use Rattle.std.proofs.Common.{◌≡◌, ◌≢◌, ℕ, ◌==◌, ◌||◌, ◌&&◌, ◌⊎◌, not, Bool, true, false, if◌then◌else◌, is_none, List, [], ◌∷◌, ◌++◌, map, Option, Some, None, inl, inr, refl, sym, ap, subst, ◌∙◌}
+use Rattle.std.proofs.Common.{◌≡◌, ◌≢◌, ℕ, ◌==◌, ◌||◌, ◌&&◌, ◌⊎◌, not, Bool, true, false, if◌then◌else◌, is_none, List, [], ◌∷◌, ◌++◌, map, Option, Some, None, inl, inr, refl, sym, ap, subst, ◌∙◌, is_some}
 use Rattle.std.specs.List.{AllByRecursion, list_any, list_all}
 use Rattle.std.proofs.lemmas.Bool.{and_from, or_left, or_right, cases_eq, eq-eqb, not-true}
 use Rattle.tran_ids.proofs.BranchLemmas.{same_from_equal}
@@ -11,11 +11,11 @@ use Rattle.node_rules.specs.Data.kinds
 use Rattle.node_rules.specs.Data.phases
 use Rattle.node_rules.specs.Data.votes
 use Rattle.node_rules.specs.Words.{same}
-use Rattle.node_rules.specs.NodeState.{NodeState, live_id, live_at}
-use Rattle.node_rules.specs.Client.{new_root}
+use Rattle.node_rules.specs.NodeState.{NodeState, live_id, live_at, Branch, work_at, with_work}
+use Rattle.node_rules.specs.Client.{new_root, commit_call}
 use Rattle.node_rules.specs.Prepare.{is_awaited, voted}
 use Rattle.node_rules.specs.Turn.{turn_of, heard, draft_of, stamped}
-use Rattle.node_rules.proofs.Steps.{Answers, vote_kind}
+use Rattle.node_rules.proofs.Steps.{Answers, vote_kind, By_reading}
 use Rattle.node_rules.proofs.StepLemmas.{branch_found}
 use Rattle.node_rules.proofs.HeardLemmas.{sessions_heard}
 use Rattle.run_rules.specs.Births.{births_of}
@@ -25,8 +25,8 @@ use Rattle.run_rules.specs.Data.happenings
 use Rattle.run_rules.specs.Facts.{Facts, node_at, outcome_at, kept_after, facts_after}
 use Rattle.run_rules.specs.Lawful.{MayHappen, IsOwed, History, IsLawfulRun}
 use Rattle.run_base_laws.specs.RunEvents.{events_of}
-use Rattle.run_rules.specs.Runs.{answered_by}
-use Rattle.run_rules.specs.Trail.{is_vote, is_abort, is_first_vote, is_refused, begins_collect, begun_in_turn, children_after, voted_after, input_drops, kind_drops, recorded_exit, is_quiet, has_no_site, ends_siteless, whole_exit, exit_by, exit_after, with_turn, trail_after}
+use Rattle.run_rules.specs.Runs.{answered_by, is_refused}
+use Rattle.run_rules.specs.Trail.{is_vote, is_abort, is_first_vote, begins_collect, begun_in_turn, children_after, voted_after, input_drops, kind_drops, recorded_exit, is_quiet, has_no_site, ends_siteless, whole_exit, exit_by, exit_after, with_turn, trail_after}
 use Rattle.run_rules.proofs.AtNodeLemmas.{turn_elsewhere, turn_here}
 use Rattle.run_base_laws.proofs.BirthRunLemmas.{run_births}
 use Rattle.run_base_laws.proofs.EventsStandLemmas.{run_stands}
@@ -34,7 +34,7 @@ use Rattle.run_base_laws.proofs.LawfulLemmas.{serves}
 use Rattle.run_rules.proofs.ListLemmas.{all_weaker, all_append, all_map}
 use Rattle.run_base_laws.proofs.NodeLemmas.{kept_alone}
 use Rattle.run_base_laws.proofs.RestLemmas.{Before}
-use Rattle.run_base_laws.proofs.RestRunLemmas.{run_roots, before_so}
+use Rattle.run_base_laws.proofs.RestRunLemmas.{run_roots, before_so, roots_wait}
 use Rattle.run_base_laws.proofs.RootLemmas.{SessionsFit, sessions_keep}
 use Rattle.run_base_laws.proofs.TurnEventLemmas.{all_both, number_is}
 use Rattle.tree_laws.specs.AskLaws.{way_of}
@@ -56,10 +56,15 @@ use Rattle.tree_trail_laws.proofs.TopBirthLemmas.{IsBorn, Counts, TurnBegins, No
 use Rattle.tree_trail_laws.proofs.TopListLemmas.{Alone}
 use Rattle.tree_trail_laws.proofs.TopFreshLemmas.{Fresh, fresh_so}
 use Rattle.tree_trail_laws.proofs.TopNodeLemmas.{RootGoes}
-use Rattle.tree_laws.proofs.TopStepLemmas.{Finishes, At_once, On_answer, Why, By_record, By_quiet, By_finish, By_abort, By_rollback, By_parent, By_ask, By_call, By_give_up, why_on}
+use Rattle.tree_laws.proofs.TopStepLemmas.{Finishes, At_once, On_answer, Why, By_record, By_quiet, By_finish, By_abort, By_rollback, By_parent, By_ask, By_call, By_reading, By_give_up, why_on}
 use Rattle.tree_laws.proofs.AtTurn.{at_turn}
 use Rattle.tree_trail_laws.proofs.AtTrail.{at_trail}
 use Rattle.tree_trail_laws.proofs.HeardNodeLemmas.{heard_live, heard_fits}
+use Rattle.node_rules.specs.Inputs.{IsCall}
+use Rattle.node_rules.specs.Data.stmts
+use Rattle.node_rules.specs.Sessions.{session_at}
+use Rattle.tree_trail_laws.proofs.TopCallLemmas.{commit_kept}
+use Rattle.node_rules.specs.Data.inputs
 
 -- a branch is live at its node, or the node has just been cut off
 abbrev pub IsBack : Facts → BranchId → Type 0
@@ -102,7 +107,8 @@ module _ (t : History) (whole : IsLawfulRun t) (hs : List Happening) (u : Turn) 
 
   -- a root that ends without a site has a plan without one
   abbrev pub Siteless : Type 0
-  Siteless = u.cut ≡ false → (z : Live) → live_at k z.me ≡ Some z → z.parent ≡ None → Finishes u.input z.me z k.sessions → has_no_site (plan_at pl z.me) ≡ true
+  Siteless = u.cut ≡ false → (z : Live) → live_at k z.me ≡ Some z → z.parent ≡ None
+      → ((n : ℕ) (given : Option (List ℕ)) → IsCall u.input n (stmts.Commit given) → z.read_at ≡ None) → Finishes u.input z.me z k.sessions → has_no_site (plan_at pl z.me) ≡ true
 
   fit : SessionsFit k
   fit = kept_alone SessionsFit sessions_keep s0 lawful0 u.node k may.1.up
@@ -161,22 +167,22 @@ module _ (t : History) (whole : IsLawfulRun t) (hs : List Happening) (u : Turn) 
         subst (IsTracedLive z) one it.2
 
     -- it is told to leave where something drops it
-    dropped : (input_drops u.node s u.input || ends_siteless pl new) ≡ true → (turned t.places f0 tr0 u s).exit ≡ None → ⊥
+    dropped : (input_drops u.node (brings t.places f0 tr0 u).answer s u.input || ends_siteless pl new) ≡ true → (turned t.places f0 tr0 u s).exit ≡ None → ⊥
     dropped drops none = absurd (by (recorded_exit s.me u.wrote) refl)
       where
-        whole_some : (q : Bool) → (x : Exit) × ((if q then Some Quiet else (if input_drops u.node s u.input || ends_siteless pl new then Some Dropped else None)) ≡ Some x)
+        whole_some : (q : Bool) → (x : Exit) × ((if q then Some Quiet else (if input_drops u.node (brings t.places f0 tr0 u).answer s u.input || ends_siteless pl new then Some Dropped else None)) ≡ Some x)
         whole_some true = (Quiet, refl)
         whole_some false = (Dropped, ap (λ q. if q then Some Dropped else None) drops)
 
         by : (o : Option Exit) → recorded_exit s.me u.wrote ≡ o → ⊥
-        by (Some e) wrote = (let left : (turned t.places f0 tr0 u s).exit ≡ Some e = ap (exit_after pl u s new) alive ∙ ap (exit_by pl u s new) wrote in absurd (cc (left, none)))
+        by (Some e) wrote = (let left : (turned t.places f0 tr0 u s).exit ≡ Some e = ap (exit_after pl u (brings t.places f0 tr0 u).answer s new) alive ∙ ap (exit_by pl u (brings t.places f0 tr0 u).answer s new) wrote in absurd (cc (left, none)))
         by None wrote =
             let some = whole_some (list_any (is_quiet s.me) u.sent) in
-            let left : (turned t.places f0 tr0 u s).exit ≡ Some some.0 = ap (exit_after pl u s new) alive ∙ (ap (exit_by pl u s new) wrote ∙ (ap (λ c. if c then None else whole_exit pl u s new) cut ∙ some.1)) in
+            let left : (turned t.places f0 tr0 u s).exit ≡ Some some.0 = ap (exit_after pl u (brings t.places f0 tr0 u).answer s new) alive ∙ (ap (exit_by pl u (brings t.places f0 tr0 u).answer s new) wrote ∙ (ap (λ c. if c then None else whole_exit pl u (brings t.places f0 tr0 u).answer s new) cut ∙ some.1)) in
             absurd (cc (left, none))
 
-    by_input : input_drops u.node s u.input ≡ true → (turned t.places f0 tr0 u s).exit ≡ None → ⊥
-    by_input drops = dropped (or_left (input_drops u.node s u.input) (ends_siteless pl new) drops)
+    by_input : input_drops u.node (brings t.places f0 tr0 u).answer s u.input ≡ true → (turned t.places f0 tr0 u s).exit ≡ None → ⊥
+    by_input drops = dropped (or_left (input_drops u.node (brings t.places f0 tr0 u).answer s u.input) (ends_siteless pl new) drops)
 
     is_root : (n : ℕ) → s.me.session ≡ n → is_root_of u.node n s ≡ true
     is_root n session =
@@ -200,9 +206,9 @@ module _ (t : History) (whole : IsLawfulRun t) (hs : List Happening) (u : Turn) 
           (and_from (is_live s && s.collects) _ (and_from (is_live s) s.collects (ap is_none alive) had.0)
           (and_from (is_among from s.children) (not (is_among from s.voted)) (ap (is_among from) was.children ∙ there.0) (ap not there.1)))
 
-    abort_drops : (from : BranchId) (sb : Bool) → Answers u.input z from votes.Abort sb → input_drops u.node s u.input ≡ true
+    abort_drops : (from : BranchId) (sb : Bool) → Answers u.input z from votes.Abort sb → input_drops u.node (brings t.places f0 tr0 u).answer s u.input ≡ true
     abort_drops from sb answers =
-        ap (input_drops u.node s) answers.came.is
+        ap (input_drops u.node (brings t.places f0 tr0 u).answer s) answers.came.is
         ∙ or_right (same z.me s.me && kind_drops s from answers.kind) _ (and_from (is_first_vote s (m from votes.Abort sb answers)) (is_abort answers.kind) (first_vote from votes.Abort sb answers) (abort_is answers.kind answers.is_vote))
 
     -- ---- a collect that is complete without a site
@@ -212,16 +218,17 @@ module _ (t : History) (whole : IsLawfulRun t) (hs : List Happening) (u : Turn) 
       kids_same =
           ap (children_after s.me s.children) (sent_is cut) ∙ (stamped_calls s.me d.after.clock s.children d.says ∙ ((kids.grown t whole hs u rest is (tells_at t whole hs part0)).1 s.me s.children gone ∙ was.children))
 
-      complete : Finishes u.input z.me z k.sessions → (new.collects ≡ true) × (all_voted new ≡ true)
-      complete (At_once n given call has code none at_end) = (
-        or_right s.collects _ (ap (λ i. begins i) call ∙ and_from (is_root_of u.node n s) (not (is_refused (answered_by (outcome_at t.places f0 u)))) (is_root n (sym (ap (λ (b : BranchId). b.session) me) ∙ fit.roots.each n z.me has))
-            (ap not (accepted t.places f0 tr0 u k may.1.up n given call code))),
+      complete : ((n : ℕ) (given : Option (List ℕ)) → IsCall u.input n (stmts.Commit given) → z.read_at ≡ None) → Finishes u.input z.me z k.sessions → (new.collects ≡ true) × (all_voted new ≡ true)
+      complete writes (At_once n given call has code none at_end) = (
+        or_right s.collects _ (ap (λ i. begins i) call ∙ and_from (is_none s.read_at) _ (ap is_none (was.read_at ∙ writes n given call))
+            (and_from (is_root_of u.node n s) (not (is_refused (answered_by (outcome_at t.places f0 u)))) (is_root n (sym (ap (λ (b : BranchId). b.session) me) ∙ fit.roots.each n z.me has))
+            (ap not (accepted t.places f0 tr0 u k may.1.up n given call code)))),
         ap (list_all (λ c. is_among c new.voted)) (kids_same ∙ ap (map (λ (e : Edge). e.peer)) none),
       )
         where
           begins : Input → Bool
           begins i = begins_collect u.node (brings t.places f0 tr0 u).answer s i
-      complete (On_answer from v sb answers other all at_end) =
+      complete writes (On_answer from v sb answers other all at_end) =
           let had = was.collects (busy from v sb answers) in
           let votes : new.voted ≡ s.voted ++ from ∷ [] = ap (voted_after s) answers.came.is ∙ ap (λ q. if q then s.voted ++ from ∷ [] else s.voted) (first_vote from v sb answers) in
           let heard_so : AreVoted (s.voted ++ from ∷ []) (voted z from v).edges = one_voted s.voted from v (vote_is v answers.kind answers.is_vote).1 z.edges had.1 in
@@ -230,30 +237,66 @@ module _ (t : History) (whole : IsLawfulRun t) (hs : List Happening) (u : Turn) 
             ap (list_all (λ c. is_among c new.voted)) (kids_same ∙ sym (voted_peers from v z.edges)) ∙ (ap (λ vs. list_all (λ c. is_among c vs) (map (λ (e : Edge). e.peer) (voted z from v).edges)) votes ∙ none_out (s.voted ++ from ∷ []) (voted z from v).edges heard_so none),
           )
 
-      ends : Finishes u.input z.me z k.sessions → ends_siteless pl new ≡ true
-      ends finishes =
-          let so = complete finishes in
+      ends : ((n : ℕ) (given : Option (List ℕ)) → IsCall u.input n (stmts.Commit given) → z.read_at ≡ None) → Finishes u.input z.me z k.sessions → ends_siteless pl new ≡ true
+      ends writes finishes =
+          let so = complete writes finishes in
           and_from (is_none s.parent) (new.collects && (all_voted new && has_no_site (plan_at pl s.me))) (ap is_none s_top)
           (and_from new.collects (all_voted new && has_no_site (plan_at pl s.me)) so.0
-          (and_from (all_voted new) (has_no_site (plan_at pl s.me)) so.1 (subst (λ b. has_no_site (plan_at pl b) ≡ true) me (siteless cut z z_live z_top finishes))))
+          (and_from (all_voted new) (has_no_site (plan_at pl s.me)) so.1 (subst (λ b. has_no_site (plan_at pl b) ≡ true) me (siteless cut z z_live z_top writes finishes))))
 
     -- ---- it is live where it is told so
 
     top_not : (from : BranchId) → is_branch from z.parent ≡ true → ⊥
     top_not from above = (let up : z.parent ≡ Some from = branch_found from z.parent above in let none : z.parent ≡ None = z_top in absurd (cc (up, none)))
 
+    -- a COMMIT with which it leaves is not refused
+    reader_accepted : (n : ℕ) (comment : Option (List ℕ)) → IsCall u.input n (stmts.Commit comment) → s.me.session ≡ n → live_at d.after s.me ≡ None → is_refused (answered_by (outcome_at t.places f0 u)) ≡ false
+    reader_accepted n comment call session gone = by (session_at k.sessions n).code refl
+      where
+        x : Branch
+        x = record { live = z; work = work_at k z.me }
+
+        has : (session_at k.sessions n).root ≡ Some z.me
+        has = subst (λ i. (session_at k.sessions i).root ≡ Some z.me) (ap (λ (b : BranchId). b.session) me ∙ session) (roots_wait s0 lawful0 u.node k may.1.up x (ap (with_work k) z_live) z_top).root
+
+        by : (code : Option ℕ) → (session_at k.sessions n).code ≡ code → is_refused (answered_by (outcome_at t.places f0 u)) ≡ false
+        by None code = accepted t.places f0 tr0 u k may.1.up n comment call code
+        by (Some c) code =
+            let still : live_at (commit_call k n comment).after z.me ≡ Some z = commit_kept p k n x (ap (with_work k) z_live) has comment c code in
+            let left : live_at (draft_of p k (inputs.Call n (Some (stmts.Commit comment)))).after z.me ≡ None = subst (λ i. live_at (draft_of p k i).after z.me ≡ None) call (subst (λ b. live_at d.after b ≡ None) (sym me) gone) in
+            absurd (cc (still, left))
+
+    -- by its COMMIT, where it is that of a READ ONLY transaction
+    reader_leaves : (n : ℕ) (comment : Option (List ℕ)) (scn : ℕ) → IsCall u.input n (stmts.Commit comment) → z.read_at ≡ Some scn → s.me.session ≡ n → live_at d.after s.me ≡ None → (turned t.places f0 tr0 u s).exit ≡ None → ⊥
+    reader_leaves n comment scn call reads session gone none =
+        by_input (ap (input_drops u.node (brings t.places f0 tr0 u).answer s) call
+        ∙ and_from (is_some s.read_at) _ (ap is_some (was.read_at ∙ reads)) (and_from (is_root_of u.node n s) (not (is_refused (answered_by (outcome_at t.places f0 u)))) (is_root n session) (ap not (reader_accepted n comment call session gone)))) none
+
+    finished : Finishes u.input z.me z k.sessions → live_at d.after s.me ≡ None → (turned t.places f0 tr0 u s).exit ≡ None → ⊥
+    finished (On_answer from v sb answers other all at_end) gone none =
+        dropped (or_right (input_drops u.node (brings t.places f0 tr0 u).answer s u.input) (ends_siteless pl new)
+        (ends gone (λ n given call. (let came = answers.came.is in absurd (cc (came, call)))) (On_answer from v sb answers other all at_end))) none
+    finished (At_once n given call has code no_children at_end) gone none = by z.read_at refl
+      where
+        by : (o : Option ℕ) → z.read_at ≡ o → ⊥
+        by (Some scn) reads = reader_leaves n given scn call reads (sym (ap (λ (b : BranchId). b.session) me) ∙ fit.roots.each n z.me has) gone none
+        by None writer =
+            dropped (or_right (input_drops u.node (brings t.places f0 tr0 u).answer s u.input) (ends_siteless pl new)
+            (ends gone (λ m other commit. writer) (At_once n given call has code no_children at_end))) none
+
     leaves : Why u.input s.me z k.sessions d.wrote d.says → live_at d.after s.me ≡ None → (turned t.places f0 tr0 u s).exit ≡ None → ⊥
     leaves (By_record e wrote) gone none =
-        (let left : (turned t.places f0 tr0 u s).exit ≡ Some e = ap (exit_after pl u s new) alive ∙ ap (exit_by pl u s new) (ap (recorded_exit s.me) (wrote_is cut) ∙ wrote) in absurd (cc (left, none)))
+        (let left : (turned t.places f0 tr0 u s).exit ≡ Some e = ap (exit_after pl u (brings t.places f0 tr0 u).answer s new) alive ∙ ap (exit_by pl u (brings t.places f0 tr0 u).answer s new) (ap (recorded_exit s.me) (wrote_is cut) ∙ wrote) in absurd (cc (left, none)))
     leaves (By_quiet q above said) gone none = absurd (let top : z.parent ≡ None = z_top in cc (above, top))
-    leaves (By_finish top finishes) gone none = dropped (or_right (input_drops u.node s u.input) (ends_siteless pl new) (ends gone (subst (λ b. Finishes u.input b z k.sessions) (sym me) finishes))) none
+    leaves (By_finish top finishes) gone none = finished (subst (λ b. Finishes u.input b z k.sessions) (sym me) finishes) gone none
     leaves (By_abort from sb answers) gone none = by_input (abort_drops from sb answers) none
-    leaves (By_rollback from came) gone none = by_input (ap (input_drops u.node s) came.is ∙ or_left (same s.me s.me && true) _ (and_from (same s.me s.me) true (same_from_equal s.me s.me refl) refl)) none
+    leaves (By_rollback from came) gone none = by_input (ap (input_drops u.node (brings t.places f0 tr0 u).answer s) came.is ∙ or_left (same s.me s.me && true) _ (and_from (same s.me s.me) true (same_from_equal s.me s.me refl) refl)) none
     leaves (By_parent from came above) gone none = top_not from above
     leaves (By_ask from came above) gone none = top_not from above
-    leaves (By_call n call session top) gone none = by_input (ap (input_drops u.node s) call ∙ is_root n session) none
+    leaves (By_call n call session top) gone none = by_input (ap (input_drops u.node (brings t.places f0 tr0 u).answer s) call ∙ is_root n session) none
+    leaves (By_reading n comment scn call reads session top) gone none = reader_leaves n comment scn call reads session gone none
     leaves (By_give_up n gives has pends) gone none =
-        by_input (ap (input_drops u.node s) gives ∙ and_from (is_root_of u.node n s) s.collects (is_root n (fit.roots.each n s.me has)) (was.collects (λ working. (goes u.node k may.1.up n s.me has).1 pends z found working)).0) none
+        by_input (ap (input_drops u.node (brings t.places f0 tr0 u).answer s) gives ∙ and_from (is_root_of u.node n s) s.collects (is_root n (fit.roots.each n s.me has)) (was.collects (λ working. (goes u.node k may.1.up n s.me has).1 pends z found working)).0) none
 
     why : live_at d.after s.me ≡ None → Why u.input s.me z k.sessions d.wrote d.says
     why gone =
@@ -288,7 +331,7 @@ module _ (t : History) (whole : IsLawfulRun t) (hs : List Happening) (u : Turn) 
                 stays_back siteless cut s had.1 alive top own l (subst (λ i. live_at i s.me ≡ Some l) (sym it) live) none
 
         by : (o : Option Exit) → s.exit ≡ o → IsBack f1 s.me
-        by (Some e) gone = (let left : (turned t.places f0 tr0 u s).exit ≡ Some e = ap (exit_after pl u s (with_turn f0.book u (outcome_at t.places f0 u) (brings t.places f0 tr0 u) s)) gone in absurd (cc (left, none)))
+        by (Some e) gone = (let left : (turned t.places f0 tr0 u s).exit ≡ Some e = ap (exit_after pl u (brings t.places f0 tr0 u).answer s (with_turn f0.book u (outcome_at t.places f0 u) (brings t.places f0 tr0 u) s)) gone in absurd (cc (left, none)))
         by None alive = elim (had.0 alive top) [
           | inl it ↦ at_node it.0 it.1 it.2 it.3 alive
           | inr stops ↦ (let settled = may.1.settled.upright in let to = stops.0 in absurd (cc (settled, to)))

@@ -23,7 +23,7 @@ use Rattle.run_rules.specs.Data.{Turn, Happening}
 use Rattle.run_rules.specs.Data.happenings
 use Rattle.run_rules.specs.Facts.{node_at, records_at, kept_after}
 use Rattle.run_rules.specs.Lawful.{MayTurn, boots, History, IsLawfulRun}
-use Rattle.run_rules.specs.Runs.{is_of_rows}
+use Rattle.run_rules.specs.Runs.{is_of_rows, begins_transaction}
 use Rattle.run_base_laws.specs.RunEvents.{events_of}
 use Rattle.run_rules.specs.Trail.{begun_in, root_seen, begun_in_turn, trail_after}
 use Rattle.run_rules.proofs.AtNodeLemmas.{turn_elsewhere, turn_here}
@@ -45,6 +45,7 @@ use Rattle.tree_trail_laws.proofs.TopBirthLemmas.{IsBorn, Counts, Booted}
 use Rattle.tree_laws.proofs.AtTurn.{at_turn}
 use Rattle.tree_trail_laws.proofs.AtTrail.{at_trail}
 use Rattle.tree_trail_laws.proofs.HeardNodeLemmas.{heard_fits}
+use Rattle.run_base_laws.proofs.BeginLemmas.{MayBegin}
 
 pub rows_so : (s : Stmt) → IsOfRows s → is_of_rows s ≡ true
 rows_so (stmts.Insert table columns given) rows = refl
@@ -52,6 +53,16 @@ rows_so (stmts.Update table sets cs) rows = refl
 rows_so (stmts.Delete table cs) rows = refl
 rows_so (stmts.Select list table cs for_update) rows = refl
 rows_so _ rows = absurd rows
+
+-- a statement that may begin a transaction does
+pub may_so : (s : Stmt) → MayBegin s → begins_transaction s ≡ true
+may_so stmts.SetReadOnly begins = refl
+may_so (stmts.Savepoint name) begins = refl
+may_so (stmts.Insert table columns given) begins = refl
+may_so (stmts.Update table sets cs) begins = refl
+may_so (stmts.Delete table cs) begins = refl
+may_so (stmts.Select list table cs for_update) begins = refl
+may_so _ begins = absurd begins
 
 module _ (t : History) (whole : IsLawfulRun t) where
   module _ (hs : List Happening) (u : Turn) (rest : List Happening) (is : hs ++ happenings.Turn u ∷ rest ≡ t.trace)
@@ -132,10 +143,10 @@ module _ (t : History) (whole : IsLawfulRun t) where
       seq_of : seqs d.after.sessions ≡ seqs k.sessions → (session_at d.after.sessions session).seq ≡ (session_at k.sessions session).seq
       seq_of same = session_seq d.after.sessions session ∙ (ap (λ ms. seq_at ms session) same ∙ sym (session_seq k.sessions session))
 
-      quiet_seq : ((n : ℕ) (s : Stmt) → IsCall u.input n s → is_of_rows s ≡ true → (session_at k.sessions n).root ≡ None → ⊥) → (session_at d.after.sessions session).seq ≡ (session_at k.sessions session).seq
+      quiet_seq : ((n : ℕ) (s : Stmt) → IsCall u.input n s → begins_transaction s ≡ true → (session_at k.sessions n).root ≡ None → ⊥) → (session_at d.after.sessions session).seq ≡ (session_at k.sessions session).seq
       quiet_seq nobody = elim (seqs_on p u.input (births.serving t whole hs u rest is sees counts born).step (heard_fits k (births.fit t whole hs u rest is sees counts born) u.input)) [
         | inl same ↦ seq_of (same ∙ ap seqs (sessions_heard k u.input))
-        | inr begins ↦ absurd (nobody begins.session begins.statement begins.call (rows_so begins.statement begins.rows) (subst (λ (ss : List Session). (session_at ss begins.session).root ≡ None) (sessions_heard k u.input) begins.none))
+        | inr begins ↦ absurd (nobody begins.session begins.statement begins.call (may_so begins.statement begins.begins) (subst (λ (ss : List Session). (session_at ss begins.session).root ≡ None) (sessions_heard k u.input) begins.none))
       ]
 
       -- the session of the root that begins gets the next one
@@ -163,7 +174,7 @@ module _ (t : History) (whole : IsLawfulRun t) where
           same_count u.node (boots (records_at f0 u.node)) session (subst (AllByRecursion (λ s. is_of u.node (boots (records_at f0 u.node)) session s ≡ false)) (sym (is_ys ∙ are)) (child_not u.node (boots (records_at f0 u.node)) session range.1 y its, tt))
           ∙ (counts u.node k may_turn.up session range ∙ sym (quiet_seq (λ n s call rows none. nobody n s call)))
       here_count cut ys (births.Root_begins n s call rows its none are) is_ys =
-          let r : Seen = root_seen (new_root p k n) in
+          let r : Seen = root_seen f0 u.node s (new_root p k n) in
           let so : Fresh p k n d = subst (λ i. Fresh p k n (draft_of p k i)) (sym call) (fresh_so p k n (births.not_live t whole hs u rest is sees counts born (new_root p k n) (births.root_unborn t whole hs u rest is sees counts born n s call rows none)) (births.fit t whole hs u rest is sees counts born) its none s rows) in
           let all : begun_in tr1 u.node (boots (records_at f0 u.node)) session ≡ length (filter (is_of u.node (boots (records_at f0 u.node)) session) (tr0.seen ++ r ∷ []))
           = counted u.node (boots (records_at f0 u.node)) session ∙ ap (λ zs. length (filter (is_of u.node (boots (records_at f0 u.node)) session) (tr0.seen ++ zs))) (is_ys ∙ are) in
@@ -190,7 +201,7 @@ module _ (t : History) (whole : IsLawfulRun t) where
           tt,
         )
     ordered_new ys (births.Root_begins n s call rows range none are) is_ys =
-        let r : Seen = root_seen (new_root p k n) in
+        let r : Seen = root_seen f0 u.node s (new_root p k n) in
         let b : ℕ = k.stored.durable.boot in
         let all : begun_in tr1 p.number b n ≡ length (filter (is_of p.number b n) (tr0.seen ++ r ∷ [])) = counted p.number b n ∙ ap (λ zs. length (filter (is_of p.number b n) (tr0.seen ++ zs))) (is_ys ∙ are) in
         let one : length (filter (is_of p.number b n) (tr0.seen ++ r ∷ [])) ≡ begun_in tr0 p.number b n + 1

@@ -21,7 +21,7 @@ use Rattle.node_rules.specs.Prepare.{with_prepare_sent, collecting, with_comment
 use Rattle.node_rules.proofs.StandLemmas.{live_so}
 use Rattle.run_rules.specs.Births.{Born, births_of}
 use Rattle.run_base_laws.specs.BirthLaws.{Began, LiveIs}
-use Rattle.run_rules.specs.Branches.{Seen, Trail, CommitPlan, no_trail, seen_at, own_at, children_of, children_at, root_at, plan_at}
+use Rattle.run_rules.specs.Branches.{Seen, Trail, CommitPlan, no_trail, seen_at, own_at, children_of, children_at, root_at, plan_at, strength_set}
 use Rattle.run_key_laws.specs.ChangedLaws.{changes_at, has_changes as are_some}
 use Rattle.run_rules.specs.Data.{Turn, Happening}
 use Rattle.run_rules.specs.Data.happenings
@@ -51,13 +51,13 @@ use Rattle.tree_laws.specs.DecideLaws.{live_in, InTree, Is_root, SeesTree}
 use Rattle.tree_laws.specs.RestLaws.{SameTree}
 use Rattle.tree_laws.proofs.DecideLemmas.{root_member}
 use Rattle.tree_laws.proofs.FindLemmas.{WasFound, commit_came}
-use Rattle.tree_laws.proofs.FrozenLemmas.{State, Here, Left, Member, same_step, strength_at}
+use Rattle.tree_laws.proofs.FrozenLemmas.{State, Here, Left, Member, same_step, strength_at, same_strength}
 use Rattle.tree_laws.proofs.MemberLemmas.{IsIn}
 use Rattle.tree_laws.proofs.SeenLemmas.{Low, step_seen}
 use Rattle.tree_laws.proofs.StrengthLemmas.{lives_have_strength}
 use Rattle.tree_laws.proofs.TimeLemmas.{Part, part_lawful, may_of, born_end}
 use Rattle.tree_laws.proofs.WeighLemmas.{placed_of}
-use Rattle.tree_trail_laws.specs.SeenLaws.{TracesTops, TracesOwns, SeesRoots}
+use Rattle.tree_trail_laws.specs.SeenLaws.{TracesTops, TracesOwns, SeesRoots, TracesStrengths}
 use Rattle.tree_trail_laws.proofs.CallLemmas.{call_free, seen_root}
 use Rattle.tree_trail_laws.proofs.LowerRunLemmas.{lower_at}
 use Rattle.tree_trail_laws.proofs.MomentLemmas.{tr_at, trail_join, trail_keeps, at_moment}
@@ -67,7 +67,8 @@ use Rattle.tree_trail_laws.proofs.SeenLemmas.{planned}
 use Rattle.tree_trail_laws.proofs.TopCoveredLemmas.{asked_left}
 use Rattle.tree_laws.proofs.TopStepLemmas.{Finishes, At_once, On_answer}
 use Rattle.tree_laws.proofs.AtTurn.{at_happening, at_turn}
-use Rattle.tree_trail_laws.proofs.SiteLemmas.{some_first}
+use Rattle.tree_trail_laws.proofs.FirstLemmas.{some_first}
+use Rattle.tree_trail_laws.proofs.ChildRunLemmas.{tells_at}
 
 -- ---- a plan without a site
 
@@ -85,12 +86,12 @@ siteless_stays o p is none = ap has_no_site is ∙ ap is_none none
 
 -- what is told of roots, before each happening
 abbrev pub Earlier : History → Type 0
-Earlier t = AtEach (λ places f tr h. TracesTops f tr × SeesRoots f tr) t
+Earlier t = AtEach (λ places f tr h. TracesTops f tr × SeesRoots f tr × TracesStrengths places f tr) t
 
 module _ (t : History) (whole : IsLawfulRun t) (owns : AtEach (λ places f tr h. TracesOwns f tr) t) where
   -- ---- a moment, where roots are told
 
-  module _ (hs : List Happening) (h : Happening) (rest : List Happening) (is : hs ++ h ∷ rest ≡ t.trace) (tops : TracesTops (f_at t hs) (tr_at t hs)) where
+  module _ (hs : List Happening) (h : Happening) (rest : List Happening) (is : hs ++ h ∷ rest ≡ t.trace) (tops : TracesTops (f_at t hs) (tr_at t hs)) (strengths : TracesStrengths t.places (f_at t hs) (tr_at t hs)) where
     open at_happening t whole hs h rest is use {part, lawful}
 
     -- each live branch is told with its children
@@ -108,9 +109,25 @@ module _ (t : History) (whole : IsLawfulRun t) (owns : AtEach (λ places f tr h.
         let marked : l.changed ≡ are_some (changes_at k.owns l.me) = (changes_are_of_live (so_far t hs) lawful n k up).marked l.me l live in
         ap (λ cs. is_some (slice_get cs 0)) own ∙ (some_first (changes_at k.owns l.me) ∙ sym marked)
 
-    pub tells_tree : (r : BranchId) → SeesTree (f_at t hs) (tr_at t hs) r
-    tells_tree r = record { children = children; changed = changed }
+    -- and its strength
+    pub told_strength : (n : ℕ) (k : NodeState) → node_at (f_at t hs) n ≡ Some k → (l : Live) → live_at k l.me ≡ Some l → strength_of t.places (tr_at t hs) l.me ≡ l.strength
+    told_strength n k up l live = by l.parent refl
       where
+        by : (o : Option BranchId) → l.parent ≡ o → strength_of t.places (tr_at t hs) l.me ≡ l.strength
+        by None top = strengths n k up l live top
+        by (Some q) above =
+            let it = (tells_at t whole hs part).lower n k up l live (λ none. absurd (cc (above, none))) in
+            ap (λ o. unwrap_or (strength_set o) (place_at t.places l.me.node).strength) it.1 ∙ it.5
+
+    pub tells_tree : (r : BranchId) → SeesTree t.places (f_at t hs) (tr_at t hs) r
+    tells_tree r = record { children = children; changed = changed; strength = strength }
+      where
+        strength : (c : BranchId) (l : Live) → InTree (f_at t hs) r c → live_in (f_at t hs) c ≡ Some l → strength_of t.places (tr_at t hs) c ≡ l.strength
+        strength c l inside live =
+            let at : IsLiveIn (f_at t hs) c l = live_there (f_at t hs) c l live in
+            let me : l.me ≡ c = item_is live_id at.kept.lives c l at.found in
+            subst (λ d. strength_of t.places (tr_at t hs) d ≡ l.strength) me (told_strength c.node at.kept at.up l (subst (λ d. live_at at.kept d ≡ Some l) (sym me) at.found))
+
         children : (c : BranchId) (l : Live) → InTree (f_at t hs) r c → live_in (f_at t hs) c ≡ Some l → children_at (tr_at t hs) c ≡ kept_children l
         children c l inside live =
             let at : IsLiveIn (f_at t hs) c l = live_there (f_at t hs) c l live in
@@ -152,14 +169,18 @@ module _ (t : History) (whole : IsLawfulRun t) (owns : AtEach (λ places f tr h.
           same_session b m own root = (roots_are_of_sessions (so_far t hs) lawful u.node k up m b root).0
 
       -- so the plan is made then
-      pub planned_then : (l : Live) → live_at k r ≡ Some l → l.parent ≡ None → plan_at (trail_after t.places (f_at t hs) (tr_at t hs) (happenings.Turn u)) r ≡ Some (plan t.places (tr_at t hs) r)
-      planned_then l found parent =
+      pub planned_then : (l : Live) → live_at k r ≡ Some l → l.parent ≡ None → l.read_at ≡ None → plan_at (trail_after t.places (f_at t hs) (tr_at t hs) (happenings.Turn u)) r ≡ Some (plan t.places (tr_at t hs) r)
+      planned_then l found parent writer =
+          let me : l.me ≡ r = item_is live_id k.lives r l found in
+          let it = tops u.node k up l (subst (λ c. live_at k c ≡ Some l) (sym me) found) parent in
+          let both : Some top.0 ≡ Some it.0 = sym top.4 ∙ subst (λ c. seen_at (tr_at t hs) c ≡ Some it.0) me it.1 in
+          let one : top.0 ≡ it.0 = cc in
           subst (λ c. plan_at (trail_after t.places (f_at t hs) (tr_at t hs) (happenings.Turn u)) c ≡ Some (plan t.places (tr_at t hs) c)) top.2
-          (plan_here t.places (f_at t hs) (tr_at t hs) u k up n given call code top.0 top.1 (unplanned l found parent))
+          (plan_here t.places (f_at t hs) (tr_at t hs) u k up n given call code top.0 top.1 (ap (λ (s : Seen). s.read_at) one ∙ (it.2.read_at ∙ writer)) (unplanned l found parent))
 
   -- ---- a root that ends
 
-  module _ (hs : List Happening) (u : Turn) (rest : List Happening) (is : hs ++ happenings.Turn u ∷ rest ≡ t.trace) (tops : TracesTops (f_at t hs) (tr_at t hs)) (sees : SeesRoots (f_at t hs) (tr_at t hs)) (earlier : Earlier (so_far t hs)) where
+  module _ (hs : List Happening) (u : Turn) (rest : List Happening) (is : hs ++ happenings.Turn u ∷ rest ≡ t.trace) (tops : TracesTops (f_at t hs) (tr_at t hs)) (sees : SeesRoots (f_at t hs) (tr_at t hs)) (strengths : TracesStrengths t.places (f_at t hs) (tr_at t hs)) (earlier : Earlier (so_far t hs)) where
     open at_turn t whole hs u rest is use {s as s0, lawful as lawful0, may as may0, k}
 
     abbrev pl : Trail
@@ -177,23 +198,23 @@ module _ (t : History) (whole : IsLawfulRun t) (owns : AtEach (λ places f tr h.
       found_z : branch_at k z.me ≡ Some (record { live = z; work = work_at k z.me })
       found_z = ap (with_work k) z_live
 
-      strong : strength_of t.places z.me ≡ z.strength
-      strong = ap (λ n. (place_at t.places n).strength) z_node ∙ sym (lives_have_strength s0 lawful0 u.node k may0.1.up (record { live = z; work = work_at k z.me }) found_z)
+      strong : strength_of t.places (tr_at t hs) z.me ≡ z.strength
+      strong = strengths u.node k may0.1.up z z_live top
 
       -- at once
-      at_once : (n : ℕ) (given : Option (List ℕ)) → IsCall u.input n (stmts.Commit given) → (session_at k.sessions n).root ≡ Some z.me → (session_at k.sessions n).code ≡ None → z.edges ≡ []
+      at_once : (n : ℕ) (given : Option (List ℕ)) → z.read_at ≡ None → IsCall u.input n (stmts.Commit given) → (session_at k.sessions n).root ≡ Some z.me → (session_at k.sessions n).code ≡ None → z.edges ≡ []
           → step (collecting (with_comment z (unwrap_or given [])) true) ≡ walks.Nowhere → has_no_site (plan_at pl z.me) ≡ true
       unfolding step told.step
-      at_once n given call has code none at_end =
-          let kids : children_at (tr_at t hs) z.me ≡ [] = told_children hs (happenings.Turn u) rest is tops u.node k may0.1.up z z_live ∙ ap (map (λ (e : Edge). e.peer)) none in
-          let changes : has_changes (tr_at t hs) z.me ≡ z.changed = told_changes hs (happenings.Turn u) rest is tops u.node k may0.1.up z z_live in
+      at_once n given writer call has code none at_end =
+          let kids : children_at (tr_at t hs) z.me ≡ [] = told_children hs (happenings.Turn u) rest is tops strengths u.node k may0.1.up z z_live ∙ ap (map (λ (e : Edge). e.peer)) none in
+          let changes : has_changes (tr_at t hs) z.me ≡ z.changed = told_changes hs (happenings.Turn u) rest is tops strengths u.node k may0.1.up z z_live in
           let kept : walk_by z.changed z.strength (place_of_greatest 1 [] None) ≡ walks.Nowhere
           = subst (λ es. walk_by z.changed z.strength (place_of_greatest 1 (map (λ (e : Edge). e.weight) (map with_prepare_sent es)) None) ≡ walks.Nowhere) none at_end in
           let nowhere : told.step t.places (tr_at t hs) z.me ≡ walks.Nowhere
-          = ap (λ q. walk_by q (strength_of t.places z.me) (place_of_greatest 1 (map (told.weight t.places (tr_at t hs)) (children_at (tr_at t hs) z.me)) None)) changes
+          = ap (λ q. walk_by q (strength_of t.places (tr_at t hs) z.me) (place_of_greatest 1 (map (told.weight t.places (tr_at t hs)) (children_at (tr_at t hs) z.me)) None)) changes
           ∙ (ap (λ s. walk_by z.changed s (place_of_greatest 1 (map (told.weight t.places (tr_at t hs)) (children_at (tr_at t hs) z.me)) None)) strong
           ∙ (ap (λ cs. walk_by z.changed z.strength (place_of_greatest 1 (map (told.weight t.places (tr_at t hs)) cs) None)) kids ∙ kept)) in
-          siteless_stays (plan_at pl z.me) (plan t.places (tr_at t hs) z.me) (same_plans z.me ∙ planned_then hs (happenings.Turn u) rest is tops u refl sees k may0.1.up n given call code z.me has z z_live top)
+          siteless_stays (plan_at pl z.me) (plan t.places (tr_at t hs) z.me) (same_plans z.me ∙ planned_then hs (happenings.Turn u) rest is tops strengths u refl sees k may0.1.up n given call code z.me has z z_live top writer)
           (no_site_planned t.places (tr_at t hs) z.me nowhere)
 
       -- on an answer
@@ -257,10 +278,13 @@ module _ (t : History) (whole : IsLawfulRun t) (owns : AtEach (λ places f tr h.
         covered = asked_left s0 lawful0 u k may0.1 z z_live from v sb answers other all at_end born_top
 
         tops0 : TracesTops (f_at t hs0) (tr_at t hs0)
-        tops0 = (at_moment s0 (λ places f tr h. TracesTops f tr × SeesRoots f tr) earlier hs0 (happenings.Turn u0) found.later found.is).0
+        tops0 = (at_moment s0 (λ places f tr h. TracesTops f tr × SeesRoots f tr × TracesStrengths places f tr) earlier hs0 (happenings.Turn u0) found.later found.is).0
 
         sees0 : SeesRoots (f_at t hs0) (tr_at t hs0)
-        sees0 = (at_moment s0 (λ places f tr h. TracesTops f tr × SeesRoots f tr) earlier hs0 (happenings.Turn u0) found.later found.is).1
+        sees0 = (at_moment s0 (λ places f tr h. TracesTops f tr × SeesRoots f tr × TracesStrengths places f tr) earlier hs0 (happenings.Turn u0) found.later found.is).1
+
+        strengths0 : TracesStrengths t.places (f_at t hs0) (tr_at t hs0)
+        strengths0 = (at_moment s0 (λ places f tr h. TracesTops f tr × SeesRoots f tr × TracesStrengths places f tr) earlier hs0 (happenings.Turn u0) found.later found.is).2
 
         first_depth : x0.live.depth ≡ 1
         first_depth =
@@ -277,13 +301,13 @@ module _ (t : History) (whole : IsLawfulRun t) (owns : AtEach (λ places f tr h.
 
         strong_x : z.strength ≡ x0.live.strength
         strong_x =
-            let at_x : x0.live.strength ≡ (place_at t.places x0.live.me.node).strength = strength_at s0 lawful0 hs0 part0 x0 member.here in
-            sym strong ∙ (ap (λ (b : BranchId). (place_at t.places b.node).strength) (sym found.commit.is_me) ∙ sym at_x)
+            same_strength s0 lawful0 x0 (record { live = z; work = work_at k z.me }) (sym found.commit.is_me) (strength_at s0 lawful0 hs0 part0 x0 member.here)
+            (lives_have_strength s0 lawful0 u.node k may0.1.up (record { live = z; work = work_at k z.me }) found_z)
 
         nowhere : told.step t.places (tr_at t hs0) z.me ≡ walks.Nowhere
         nowhere =
             subst (λ b. told.step t.places (tr_at t hs0) b ≡ walks.Nowhere) found.commit.is_me
-            (step_seen s0 lawful0 hs0 part0 z.me covered (tr_at t hs0) (tells_tree hs0 (happenings.Turn u0) (found.later ++ happenings.Turn u ∷ rest) is0 tops0 z.me) low x0 member (subst (InTree (f_at t hs0) z.me) (sym found.commit.is_me) Is_root)
+            (step_seen s0 lawful0 hs0 part0 z.me covered (tr_at t hs0) (tells_tree hs0 (happenings.Turn u0) (found.later ++ happenings.Turn u ∷ rest) is0 tops0 strengths0 z.me) low x0 member (subst (InTree (f_at t hs0) z.me) (sym found.commit.is_me) Is_root)
             ∙ (sym (same_step x0.live z same_now.changed strong_x same_now.weights) ∙ (sym (voted_step z from v) ∙ at_end)))
 
         up0 : node_at (f_at t hs0) u0.node ≡ Some found.commit.kept
@@ -297,7 +321,7 @@ module _ (t : History) (whole : IsLawfulRun t) (owns : AtEach (λ places f tr h.
 
         planned_first : plan_at (trail_after t.places (f_at t hs0) (tr_at t hs0) (happenings.Turn u0)) z.me ≡ Some (plan t.places (tr_at t hs0) z.me)
         planned_first =
-            planned_then hs0 (happenings.Turn u0) (found.later ++ happenings.Turn u ∷ rest) is0 tops0 u0 refl sees0 found.commit.kept up0 found.commit.session found.commit.given found.commit.call found.commit.code z.me found.commit.root x0.live x_live x_top
+            planned_then hs0 (happenings.Turn u0) (found.later ++ happenings.Turn u ∷ rest) is0 tops0 strengths0 u0 refl sees0 found.commit.kept up0 found.commit.session found.commit.given found.commit.call found.commit.code z.me found.commit.root x0.live x_live x_top found.commit.writes
 
         planned_end : plan_at (tr_at t hs) z.me ≡ Some (plan t.places (tr_at t hs0) z.me)
         unfolding trail_of
@@ -312,6 +336,6 @@ module _ (t : History) (whole : IsLawfulRun t) (owns : AtEach (λ places f tr h.
             siteless_stays (plan_at pl z.me) (plan t.places (tr_at t hs0) z.me)
             (same_plans z.me ∙ plan_stays t.places (f_at t hs) (tr_at t hs) (happenings.Turn u) z.me (plan t.places (tr_at t hs0) z.me) planned_end) (no_site_planned t.places (tr_at t hs0) z.me nowhere)
 
-      pub ends_siteless_planned : Finishes u.input z.me z k.sessions → has_no_site (plan_at pl z.me) ≡ true
-      ends_siteless_planned (At_once n given call has code none at_end) = at_once n given call has code none at_end
-      ends_siteless_planned (On_answer from v sb answers other all at_end) = on_answer from v sb answers other all at_end
+      pub ends_siteless_planned : ((n : ℕ) (given : Option (List ℕ)) → IsCall u.input n (stmts.Commit given) → z.read_at ≡ None) → Finishes u.input z.me z k.sessions → has_no_site (plan_at pl z.me) ≡ true
+      ends_siteless_planned writes (At_once n given call has code none at_end) = at_once n given (writes n given call) call has code none at_end
+      ends_siteless_planned writes (On_answer from v sb answers other all at_end) = on_answer from v sb answers other all at_end

@@ -12,10 +12,10 @@ use Rattle.run_rules.specs.Branches.{no_trail}
 use Rattle.run_rules.specs.Trail.{trail_after, trail_of}
 use Rattle.tree_laws.proofs.PrefixLemmas.{so_far}
 use Rattle.tree_laws.proofs.TimeLemmas.{Part, part_of, keep_on}
-use Rattle.tree_trail_laws.specs.SeenLaws.{TracesTops, TracesOwns, SeesRoots}
+use Rattle.tree_trail_laws.specs.SeenLaws.{TracesTops, TracesOwns, SeesRoots, TracesStrengths}
 use Rattle.tree_trail_laws.specs.TopLaws.{TopsFollow}
 use Rattle.tree_trail_laws.proofs.TopFinishLemmas.{Earlier, ends_siteless_planned}
-use Rattle.tree_trail_laws.proofs.TopTurnLemmas.{Tops, seen_roots}
+use Rattle.tree_trail_laws.proofs.TopTurnLemmas.{Tops, seen_roots, strong_tops}
 use Rattle.tree_trail_laws.proofs.TopRunLemmas.{EndsSiteless, tops_go_on, first_tops}
 use Rattle.tree_trail_laws.proofs.TopSeesLemmas.{names_next}
 
@@ -32,11 +32,13 @@ module _ (t : History) (whole : IsLawfulRun t) (owns : AtEach (λ places f tr h.
   Follows hs = Earlier (so_far t hs) × Tops t whole hs
 
   siteless : (hs : List Happening) → Earlier (so_far t hs) → EndsSiteless t whole hs
-  siteless hs earlier u rest is now = λ cut z z_live top finishes. ends_siteless_planned t whole owns hs u rest is now.tops (seen_roots t whole hs (part_of t whole hs (happenings.Turn u) rest is) now) earlier z z_live top finishes
+  siteless hs earlier u rest is now = λ cut z z_live top writes finishes. ends_siteless_planned t whole owns hs u rest is now.tops (seen_roots t whole hs (part_of t whole hs (happenings.Turn u) rest is) now)
+      (strong_tops t whole hs (part_of t whole hs (happenings.Turn u) rest is) now) earlier z z_live top writes finishes
 
   follows_on : (hs : List Happening) (h : Happening) (rest : List Happening) → hs ++ h ∷ rest ≡ t.trace → Follows hs → Follows (hs ++ h ∷ [])
   follows_on hs h rest is now = (
-    each_last t.places t.commands (λ f tr h. TracesTops f tr × SeesRoots f tr) (first_facts t.places) no_trail hs h now.0 (now.1.tops, seen_roots t whole hs (part_of t whole hs h rest is) now.1),
+    each_last t.places t.commands (λ f tr h. TracesTops f tr × SeesRoots f tr × TracesStrengths t.places f tr) (first_facts t.places) no_trail hs h now.0
+        (now.1.tops, seen_roots t whole hs (part_of t whole hs h rest is) now.1, strong_tops t whole hs (part_of t whole hs h rest is) now.1),
     tops_go_on t whole hs h rest is (siteless hs now.0) now.1,
   )
 

@@ -3,7 +3,7 @@
 use Rattle.std.proofs.Common.{◌≡◌, ◌≢◌, ℕ, ◌+◌, ◌≤◌, Bool, true, false, if◌then◌else◌, List, [], is_none, length, unwrap_or, Option, Some, None, inl, inr, refl, sym, ap, subst, ◌∙◌, arith}
 use Rattle.tran_ids.proofs.ListedLemmas.{item_is}
 use Rattle.commit_forget.specs.declared.next.Next.TheVariants as nexts
-use Rattle.node_rules.specs.Data.{Stmt, Answer, Advice, BranchId, Decision, Kind, Live, Act, Place, Input}
+use Rattle.node_rules.specs.Data.{Stmt, Answer, Advice, BranchId, Decision, Kind, Live, Act, Place, Input, Task}
 use Rattle.node_rules.specs.Data.acts
 use Rattle.node_rules.specs.Data.decisions
 use Rattle.node_rules.specs.Data.inputs
@@ -19,23 +19,25 @@ use Rattle.session_tree.specs.Live.{new_edge, fresh_live}
 use Rattle.node_rules.specs.NodeState.{NodeState, Branch, TurnDraft, live_id, live_at, branch_at}
 use Rattle.node_rules.specs.Statement.{ran, after_run}
 use Rattle.node_rules.specs.Sessions.{fresh_session, session_at, with_call, needs_rollback, no_transaction, commit_ended}
-use Rattle.node_rules.specs.Calls.{answered_sessions, heard_sessions, next_child, strength_of, with_edge, hears_reply}
-use Rattle.node_rules.specs.Client.{new_root, fresh_root, begun_by, commit_by, commit_call, root_at}
+use Rattle.node_rules.specs.Calls.{answered_sessions, heard_sessions, next_child, strength_of, with_edge, hears_reply, backs_to}
+use Rattle.node_rules.specs.Client.{new_root, fresh_root, begun_by, commit_by, commit_call, root_at, commit_at, counted}
 use Rattle.node_rules.specs.Commit.{decided_sessions}
 use Rattle.node_rules.specs.Prepare.{act_turn, collecting, with_comment, first_act, ready, is_alone, abandoned_sessions, without_read_keys}
 use Rattle.node_rules.specs.Turn.{heard, draft_of}
 use Rattle.node_rules.specs.LiveBranches.{works_of}
 use Rattle.node_rules.proofs.Steps as steps
-use Rattle.node_rules.proofs.Steps.{HasRoot, Step, Asked, Acting, Collects, Drops}
+use Rattle.node_rules.proofs.Steps.{HasRoot, Step, Asked, Acting, Collects, Drops, Calls_back, Goes_to}
 use Rattle.node_rules.proofs.StandLemmas.{RootSo, live_so, root_so}
 use Rattle.node_rules.proofs.StepLemmas.{branch_found}
 use Rattle.run_rules.proofs.AtNodeLemmas.{range_of}
-use Rattle.run_base_laws.proofs.RootLemmas.{SessionsFit, session_or_before, root_alone, begun_so}
+use Rattle.run_base_laws.proofs.RootLemmas.{SessionsFit, session_or_before, root_alone, begun_so, counted_so, counted_session}
 use Rattle.run_base_laws.proofs.RestLemmas.{NodeRoots, Works, live_root, free_waits, going_works}
 use Rattle.run_base_laws.proofs.RestStepLemmas.{going_of, commit_or_not}
 use Rattle.run_base_laws.proofs.RestRunLemmas.{NodeRests, heard_rests}
 use Rattle.tree_trail_laws.proofs.TopNodeLemmas.{RootGoes, ButOf, same_goes, put_goes, gone_goes, more_goes, session_put, all_alike, set_but, none_but, alike_set, ended_alike, ended_but, heard_alike}
 use Rattle.book_laws.proofs.WriteLemmas.{none_there as none_is}
+use Rattle.node_rules.specs.Data.tasks
+use Rattle.node_rules.specs.Marks.{next_back, node_back, branch_back}
 
 -- a message is no call
 pub no_call : {input : Input} {from to : BranchId} {kind : Kind} → Came input from to kind → (n : ℕ) (s : Stmt) → IsCall input n s → ⊥
@@ -44,7 +46,7 @@ no_call came n s call = let is = came.is in absurd (cc (is, call))
 -- What is known of what comes: a call comes where none is pending, and a call, Prepare and Rollback go to branches below others.
 pub record Brings (input : Input) (k : NodeState) : Type 0 where
   pub free : (n : ℕ) (s : Stmt) → IsCall input n s → (session_at k.sessions n).call ≡ pending.NoCall
-  pub asked : (from to : BranchId) (call given : ℕ) (advice : Option Advice) (s : Stmt) → Came input from to (kinds.Exec call given advice s) → (l : Live) → live_at k to ≡ Some l → l.parent ≢ None
+  pub asked : (from to : BranchId) (call : ℕ) (task : Task) → Came input from to (kinds.Exec call task) → (l : Live) → live_at k to ≡ Some l → l.parent ≢ None
   pub prepared : (from to : BranchId) (site_below : Bool) (comment : List ℕ) → Came input from to (kinds.Prepare site_below comment) → (l : Live) → live_at k to ≡ Some l → l.parent ≢ None
   pub rolled : (from to : BranchId) → Came input from to kinds.Rollback → (l : Live) → live_at k to ≡ Some l → l.parent ≢ None
 
@@ -131,6 +133,19 @@ module _ (k : NodeState) (fit : SessionsFit k) (now : RootGoes k.sessions k.live
       by None at none = absurd cc
       by (Some s) at some = (let range = range_of k.sessions m s at in omega (arith, range.1, fit.roots.many))
 
+  -- a root ends at once
+  left_goes : (n : ℕ) (b : BranchId) → HasRoot k n b → RootGoes (set_numbered k.sessions n (no_transaction (session_at k.sessions n))) (drop_item live_id k.lives b)
+  left_goes n b has =
+      let s : Session = no_transaction (session_at k.sessions n) in
+      let ts : List Session = set_numbered k.sessions n s in
+      gone_goes k.sessions k.lives now b ts (none_but k.sessions b n s refl)
+      (λ m its free. elim (session_or_before k.sessions n m s) [
+        | inl still ↦ (let here : n ≡ m = one_session n m b has (sym (ap (λ (x : Session). x.root) still) ∙ its) in
+            let none : (session_at ts m).root ≡ None = subst (λ i. (session_at ts i).root ≡ None) here (ap (λ (x : Session). x.root) (session_put k.sessions n b s has)) in
+            absurd (cc (none, its)))
+        | inr new ↦ (let none : (session_at ts m).root ≡ None = ap (λ (x : Session). x.root) new.1 in absurd (cc (none, its)))
+      ])
+
   module _ (input : Input) (brings : Brings input k) (roots : ((n : ℕ) (s : Stmt) → IsCall input n s → ⊥) → NodeRoots k) (quits : (n : ℕ) (c : Option (List ℕ)) → IsCall input n (stmts.Commit c) → ⊥) where
     -- the transaction of a session that waits for no answer is working
     at_rest : {from to : BranchId} {kind : Kind} → Came input from to kind → (m : ℕ) (l : Live) → HasRoot k m l.me → live_at k l.me ≡ Some l → (session_at k.sessions m).call ≡ pending.NoCall → l.phase ≡ phases.Working
@@ -141,7 +156,7 @@ module _ (k : NodeState) (fit : SessionsFit k) (now : RootGoes k.sessions k.live
         (subst (λ i. (session_at k.sessions i).call ≡ pending.NoCall) (sym session) free)).0
 
     collects_held : {comment : List ℕ} {q : Bool} (l : Live) → live_at k l.me ≡ Some l → Collects k input l comment q → (m : ℕ) → HasRoot k m l.me → ⊥
-    collects_held l found (steps.By_commit n given call has code is) m root = quits n given call
+    collects_held l found (steps.By_commit n given call has code writer is) m root = quits n given call
     collects_held {comment = comment} l found (steps.By_prepare from q came working) m root = brings.prepared from l.me q comment came l found (root_alone k fit m l.me root l found)
 
     -- a branch that acts is no transaction at rest
@@ -158,12 +173,12 @@ module _ (k : NodeState) (fit : SessionsFit k) (now : RootGoes k.sessions k.live
     IsFree y = (y.parent ≡ None → (session_at k.sessions y.me.session).root ≡ Some y.me) × ((m : ℕ) → HasRoot k m y.me → (session_at k.sessions m).call ≡ pending.Commit → ⊥)
 
     asked_free : {x : Branch} {s : Stmt} {given : ℕ} → Asked k input x s given → IsFree x.live
-    asked_free (steps.By_call n x s call rows has code live) = (
+    asked_free (steps.By_call n x s call rows has code live may) = (
       (λ top. subst (λ i. (session_at k.sessions i).root ≡ Some x.live.me) (sym (fit.roots.each n x.live.me has)) has),
       (λ m root commits. (let is_free : (session_at k.sessions m).call ≡ pending.NoCall = subst (λ i. (session_at k.sessions i).call ≡ pending.NoCall) (one_session n m x.live.me has root) (brings.free n s call) in absurd (cc (is_free, commits)))),
     )
     asked_free (steps.By_exec x from call given advice s came live runs) =
-        let below : x.live.parent ≢ None = brings.asked from x.live.me call given advice s came x.live (live_so k x.live.me x live) in
+        let below : x.live.parent ≢ None = brings.asked from x.live.me call (tasks.Run given advice s) came x.live (live_so k x.live.me x live) in
         ((λ top. absurd (below top)), (λ m root commits. below (root_alone k fit m x.live.me root x.live (live_so k x.live.me x live))))
 
     works_free : (x : Branch) → branch_at k x.live.me ≡ Some x → Works k.sessions x → IsFree x.live
@@ -200,18 +215,6 @@ module _ (k : NodeState) (fit : SessionsFit k) (now : RootGoes k.sessions k.live
           | inr new ↦ (let no : (session_at ss m).call ≡ pending.NoCall = ap (λ (x : Session). x.call) new.1 in absurd (cc (no, commits)))
         ])) (set_numbered ss n t) (λ m. inl (alike_set ss n t (refl, refl) m))
 
-    rolled_back : (n : ℕ) (b : BranchId) → HasRoot k n b → RootGoes (set_numbered k.sessions n (no_transaction (session_at k.sessions n))) (drop_item live_id k.lives b)
-    rolled_back n b has =
-        let s : Session = no_transaction (session_at k.sessions n) in
-        let ts : List Session = set_numbered k.sessions n s in
-        gone_goes k.sessions k.lives now b ts (none_but k.sessions b n s refl)
-        (λ m its free. elim (session_or_before k.sessions n m s) [
-          | inl still ↦ (let here : n ≡ m = one_session n m b has (sym (ap (λ (x : Session). x.root) still) ∙ its) in
-              let none : (session_at ts m).root ≡ None = subst (λ i. (session_at ts i).root ≡ None) here (ap (λ (x : Session). x.root) (session_put k.sessions n b s has)) in
-              absurd (cc (none, its)))
-          | inr new ↦ (let none : (session_at ts m).root ≡ None = ap (λ (x : Session). x.root) new.1 in absurd (cc (none, its)))
-        ])
-
     commit_given_up : (n : ℕ) (b : BranchId) → HasRoot k n b → (session_at k.sessions n).call ≡ pending.Commit → RootGoes (commit_ended k.sessions b) (drop_item live_id k.lives b)
     commit_given_up n b has calls =
         gone_goes k.sessions k.lives now b (commit_ended k.sessions b) (ended_but k.sessions b b)
@@ -223,12 +226,23 @@ module _ (k : NodeState) (fit : SessionsFit k) (now : RootGoes k.sessions k.live
               absurd (cc (commits, is_free)))
         ])
 
-begun_goes : (k : NodeState) (p : Place) (n : ℕ) (fit : SessionsFit k) → RootGoes k.sessions k.lives → (session_at k.sessions n).root ≡ None → (session_at k.sessions n).call ≡ pending.NoCall
-    → RootGoes (begun_by p k n None).sessions (begun_by p k n None).lives
-begun_goes k p n fit now none free =
+-- a branch that goes back is a root of its session, of which no COMMIT is pending, or below another
+gone_free : {input : Input} (k : NodeState) (fit : SessionsFit k) → Brings input k → RootGoes k.sessions k.lives → {x : Branch} {step : ℕ} → Goes_to k input x step
+    → (x.live.parent ≡ None → (session_at k.sessions x.live.me.session).root ≡ Some x.live.me) × ((m : ℕ) → HasRoot k m x.live.me → (session_at k.sessions m).call ≡ pending.Commit → ⊥)
+gone_free k fit brings now (steps.By_rollback_to n x name step call has code live set) = (
+  (λ top. subst (λ i. (session_at k.sessions i).root ≡ Some x.live.me) (sym (fit.roots.each n x.live.me has)) has),
+  (λ m root commits. (let is_free : (session_at k.sessions m).call ≡ pending.NoCall = subst (λ i. (session_at k.sessions i).call ≡ pending.NoCall) (one_session k fit now n m x.live.me has root) (brings.free n (stmts.RollbackTo name) call) in absurd (cc (is_free, commits)))),
+)
+gone_free k fit brings now (steps.By_back x from call keep came live runs) =
+    let below : x.live.parent ≢ None = brings.asked from x.live.me call (tasks.GoBack keep) came x.live (live_so k x.live.me x live) in
+    ((λ top. absurd (below top)), (λ m root commits. below (root_alone k fit m x.live.me root x.live (live_so k x.live.me x live))))
+
+begun_goes : (k : NodeState) (p : Place) (n : ℕ) (read_at : Option ℕ) (fit : SessionsFit k) → RootGoes k.sessions k.lives → (session_at k.sessions n).root ≡ None → (session_at k.sessions n).call ≡ pending.NoCall
+    → RootGoes (begun_by p k n read_at None).sessions (begun_by p k n read_at None).lives
+begun_goes k p n read_at fit now none free =
     let b : BranchId = new_root p k n in
-    let s : Session = record (session_at k.sessions n) { seq = b.seq; root = Some b } in
-    more_goes k.sessions k.lives now (fresh_root p k b) (set_numbered k.sessions n s) (set_but k.sessions b n s refl)
+    let s : Session = record (session_at k.sessions n) { seq = b.seq; root = Some b; calls = 0 } in
+    more_goes k.sessions k.lives now (fresh_root p k b read_at) (set_numbered k.sessions n s) (set_but k.sessions b n s refl)
     (λ m its commits. elim (session_or_before k.sessions n m s) [
       | inl still ↦ (let has : (session_at k.sessions m).root ≡ Some b = sym (ap (λ (x : Session). x.root) still) ∙ its in
           let here : n ≡ m = fit.roots.each m b has in
@@ -237,22 +251,56 @@ begun_goes k p n fit now none free =
       | inr new ↦ (let no : (session_at (set_numbered k.sessions n s) m).call ≡ pending.NoCall = ap (λ (x : Session). x.call) new.1 ∙ free in absurd (cc (no, commits)))
     ])
 
-begun_brings : (input : Input) (k : NodeState) (p : Place) (n : ℕ) (s : Stmt) → IsCall input n s → Brings input k → Brings input (begun_by p k n None)
-begun_brings input k p n s call brings = record {
-  free = λ m x is. elim (session_or_before k.sessions n m (record (session_at k.sessions n) { seq = (new_root p k n).seq; root = Some (new_root p k n) })) [
+begun_brings : (input : Input) (k : NodeState) (p : Place) (n : ℕ) (read_at : Option ℕ) (s : Stmt) → IsCall input n s → Brings input k → Brings input (begun_by p k n read_at None)
+begun_brings input k p n read_at s call brings = record {
+  free = λ m x is. elim (session_or_before k.sessions n m (record (session_at k.sessions n) { seq = (new_root p k n).seq; root = Some (new_root p k n); calls = 0 })) [
     | inl still ↦ ap (λ (y : Session). y.call) still ∙ brings.free m x is
     | inr new ↦ ap (λ (y : Session). y.call) new.1 ∙ brings.free n s call
   ];
-  asked = λ from to c given advice x came. absurd (no_call came n s call);
+  asked = λ from to c task came. absurd (no_call came n s call);
   prepared = λ from to site_below comment came. absurd (no_call came n s call);
   rolled = λ from to came. absurd (no_call came n s call);
 }
 
+-- a call is counted
+counted_brings : (input : Input) (k : NodeState) (n : ℕ) → Brings input k → Brings input (counted k n)
+counted_brings input k n brings = record {
+  free = λ m x is. ap (λ (y : Session). y.call) (counted_session k.sessions n m (session_at k.sessions n).root).1 ∙ brings.free m x is;
+  asked = brings.asked;
+  prepared = brings.prepared;
+  rolled = brings.rolled;
+}
+
+counted_goes : (k : NodeState) (n : ℕ) → RootGoes k.sessions k.lives → RootGoes (counted k n).sessions (counted k n).lives
+counted_goes k n now =
+    same_goes k.sessions k.lives now (counted k n).sessions (λ m. (let at = counted_session k.sessions n m (session_at k.sessions n).root in inl (ap (λ (s : Session). s.root) at.1, ap (λ (s : Session). s.call) at.1)))
+
 module _ (p : Place) (input : Input) (quits : (n : ℕ) (c : Option (List ℕ)) → IsCall input n (stmts.Commit c) → ⊥) where
+  -- a branch goes back, whichever child it calls first
+  went_goes : (k : NodeState) (fit : SessionsFit k) (brings : Brings input k) (roots : ((n : ℕ) (s : Stmt) → IsCall input n s → ⊥) → NodeRoots k) (now : RootGoes k.sessions k.lives) (x : Branch) (step : ℕ) → Goes_to k input x step → (next : Option ℕ)
+      → RootGoes (backs_to (node_back k x step) (branch_back k x step) step next).after.sessions (backs_to (node_back k x step) (branch_back k x step) step next).after.lives
+  went_goes k fit brings roots now x step goes None = (let its = gone_free k fit brings now goes in answered_goes k.sessions k.lives now (branch_back k x step).live its.0 its.1 x.live.parent refl)
+  went_goes k fit brings roots now x step goes (Some i) = (let its = gone_free k fit brings now goes in pends_goes k.sessions k.lives now (branch_back k x step).live its.0 its.1 (is_none x.live.parent) refl)
+
+  -- a branch whose children are to go back
+  calling_free : (k : NodeState) (fit : SessionsFit k) → Brings input k → (((n : ℕ) (s : Stmt) → IsCall input n s → ⊥) → NodeRoots k) → RootGoes k.sessions k.lives → {x : Branch} {step from : ℕ} → Calls_back k input x step from
+      → (x.live.parent ≡ None → (session_at k.sessions x.live.me.session).root ≡ Some x.live.me) × ((m : ℕ) → HasRoot k m x.live.me → (session_at k.sessions m).call ≡ pending.Commit → ⊥)
+  calling_free k fit brings roots now (steps.Has_gone j x step goes is) =
+      let fits : SessionsFit (node_back j x step) = subst SessionsFit is fit in
+      let brought : Brings input (node_back j x step) = subst (Brings input) is brings in
+      let goes_so : RootGoes j.sessions j.lives = subst (λ (i : NodeState). RootGoes i.sessions i.lives) is now in
+      subst (λ (i : NodeState). (x.live.parent ≡ None → (session_at i.sessions x.live.me.session).root ≡ Some x.live.me) × ((m : ℕ) → HasRoot i m x.live.me → (session_at i.sessions m).call ≡ pending.Commit → ⊥)) (sym is)
+      (gone_free j (record { roots = fits.roots; above = fits.above }) (record { free = brought.free; asked = brought.asked; prepared = brought.prepared; rolled = brought.rolled }) goes_so goes)
+  calling_free k fit brings roots now (steps.Has_heard x weight count a i e g step answered going errand done) =
+      works_free k fit now input brings roots quits x answered.live (going_works k (roots (λ n s call. no_call answered.came n s call)) x g answered.live going)
+
   pub goes_on : {k : NodeState} {d : TurnDraft} → Step p input k d → SessionsFit k → Brings input k → (((n : ℕ) (s : Stmt) → IsCall input n s → ⊥) → NodeRoots k) → RootGoes k.sessions k.lives → RootGoes d.after.sessions d.after.lives
-  goes_on (steps.Begins {k = k} n s call rows range none step) fit brings roots now =
-      goes_on step (begun_so k fit p n) (begun_brings input k p n s call brings) (λ no. absurd (no n s call)) (begun_goes k p n fit now none (brings.free n s call))
-  goes_on (steps.Pends {k = k} n l given call has found code step) fit brings roots now = absurd (quits n given call)
+  goes_on (steps.Begins {k = k} n s read_at call begins range none step) fit brings roots now =
+      goes_on step (begun_so k fit p n read_at) (begun_brings input k p n read_at s call brings) (λ no. absurd (no n s call)) (begun_goes k p n read_at fit now none (brings.free n s call))
+  goes_on (steps.Counts_call {k = k} n s call counts step) fit brings roots now = goes_on step (counted_so k fit n) (counted_brings input k n brings) (λ no. absurd (no n s call)) (counted_goes k n now)
+  goes_on (steps.Goes_back {k = k} x step goes next) fit brings roots now =
+      went_goes k fit brings roots now x step goes (next_back (branch_back k x step).work step 1)
+  goes_on (steps.Pends {k = k} n l given call has found code writer step) fit brings roots now = absurd (quits n given call)
   goes_on (steps.Lets_reads_go l comment q found begins step) fit brings roots now =
       goes_on step (record { roots = fit.roots; above = fit.above }) (record { free = brings.free; asked = brings.asked; prepared = brings.prepared; rolled = brings.rolled }) roots now
   goes_on (steps.Counts_ack s from kept came counts step) fit brings roots now =
@@ -272,8 +320,10 @@ module _ (p : Place) (input : Input) (quits : (n : ℕ) (c : Option (List ℕ)) 
       let g = going_of x answered.from answered.call i e answered.waits in
       let its = works_free k fit now input brings roots quits x answered.live (going_works k (roots (λ n s call. no_call answered.came n s call)) x g.0 answered.live g.1) in
       replied k fit now input brings roots quits x a (hears_reply x i weight count e).live refl refl its
-  goes_on (steps.Opens_branch {k = k} to parent edge root depth came new) fit brings roots now =
-      more_goes k.sessions k.lives now (fresh_live (next_child p k) root (Some parent) depth (strength_of p k)) k.sessions (all_alike k.sessions (next_child p k))
+  goes_on (steps.Backs {k = k} x step from i calls next) fit brings roots now = (let its = calling_free k fit brings roots now calls in pends_goes k.sessions k.lives now x.live its.0 its.1 (is_none x.live.parent) refl)
+  goes_on (steps.Is_back {k = k} x step from calls none) fit brings roots now = (let its = calling_free k fit brings roots now calls in answered_goes k.sessions k.lives now x.live its.0 its.1 x.live.parent refl)
+  goes_on (steps.Opens_branch {k = k} to parent edge root depth read_at came new) fit brings roots now =
+      more_goes k.sessions k.lives now (fresh_live (next_child p k) root (Some parent) depth (strength_of p k) read_at) k.sessions (all_alike k.sessions (next_child p k))
       (λ m its commits. (let small : m ≤ 64 = low k fit now m (next_child p k) its in let is : 65 + length k.opens ≡ m = fit.roots.each m (next_child p k) its in omega (arith, small, is)))
   goes_on (steps.Acts {k = k} l q a why) fit brings roots now = acts_goes k.sessions k l (acting_busy why) now (all_alike k.sessions l.me) (acting_held k fit now input brings roots quits why) q a
   goes_on (steps.Drops_told {k = k} l found drops) fit brings roots now = gone_goes k.sessions k.lives now l.me k.sessions (all_alike k.sessions l.me) (λ m root free. drops_held k fit now input brings roots quits l found drops m root)
@@ -294,7 +344,12 @@ module _ (p : Place) (input : Input) (quits : (n : ℕ) (c : Option (List ℕ)) 
   goes_on (steps.Hides n mixed id s call found) fit brings roots now = now
   goes_on (steps.Advises {k = k} n a call) fit brings roots now =
       let s : Session = record (session_at k.sessions n) { advice = a } in same_goes k.sessions k.lives now (set_numbered k.sessions n s) (λ m. inl (alike_set k.sessions n s (refl, refl) m))
-  goes_on (steps.Rolls_back {k = k} n x call has found) fit brings roots now = rolled_back k fit now input brings roots quits n x.live.me has
+  goes_on (steps.Leaves {k = k} n s d x call ends has found) fit brings roots now = left_goes k fit now n x.live.me has
+  goes_on (steps.Sets_read_only n call) fit brings roots now = now
+  goes_on (steps.Sets_savepoint {k = k} n x name call has code found) fit brings roots now =
+      put_goes k.sessions k.lives now x.live k.sessions (all_alike k.sessions x.live.me)
+      (λ m root commits. (let is_free : (session_at k.sessions m).call ≡ pending.NoCall = subst (λ i. (session_at k.sessions i).call ≡ pending.NoCall) (one_session k fit now n m x.live.me has root) (brings.free n (stmts.Savepoint name) call) in absurd (cc (is_free, commits))))
+  goes_on (steps.Images is) fit brings roots now = now
   goes_on (steps.Gives_up {k = k} n x gives has calls found) fit brings roots now = given_up k fit now input brings roots quits n x has calls
   goes_on (steps.Gives_up_commit {k = k} n b (Some l) gives has calls found) fit brings roots now =
       commit_given_up k fit now input brings roots quits n l.me (subst (λ c. HasRoot k n c) (sym (item_is live_id k.lives b l found)) has) calls
@@ -307,11 +362,9 @@ module _ (p : Place) (input : Input) (quits : (n : ℕ) (c : Option (List ℕ)) 
 -- ---- COMMIT
 
 module _ (k : NodeState) (fit : SessionsFit k) (now : RootGoes k.sessions k.lives) (n : ℕ) where
-  commit_by_goes : (comment : List ℕ) (code : Option ℕ) (o : Option Branch) → RootSo k n o → RootGoes (commit_by k n comment code o).after.sessions (commit_by k n comment code o).after.lives
-  commit_by_goes comment None None so = now
-  commit_by_goes comment (Some c) None so = now
-  commit_by_goes comment (Some c) (Some x) so = now
-  commit_by_goes comment None (Some x) so =
+  commit_at_goes : (comment : List ℕ) (x : Branch) (read_at : Option ℕ) → RootSo k n (Some x) → RootGoes (commit_at k n comment x read_at).after.sessions (commit_at k n comment x read_at).after.lives
+  commit_at_goes comment x (Some scn) so = left_goes k fit now n x.live.me so.0
+  commit_at_goes comment x None so =
       let l : Live = collecting (with_comment x.live comment) true in
       let s : Session = record (session_at k.sessions n) { call = pending.Commit } in
       let ts : List Session = with_call k.sessions n pending.Commit in
@@ -323,6 +376,12 @@ module _ (k : NodeState) (fit : SessionsFit k) (now : RootGoes k.sessions k.live
         | inr new ↦ (let commits : (session_at ts m).call ≡ pending.Commit = ap (λ (y : Session). y.call) new.1 in absurd (cc (commits, free)))
       ]) true (first_act l true)
 
+  commit_by_goes : (comment : List ℕ) (code : Option ℕ) (o : Option Branch) → RootSo k n o → RootGoes (commit_by k n comment code o).after.sessions (commit_by k n comment code o).after.lives
+  commit_by_goes comment None None so = now
+  commit_by_goes comment (Some c) None so = now
+  commit_by_goes comment (Some c) (Some x) so = now
+  commit_by_goes comment None (Some x) so = commit_at_goes comment x x.live.read_at so
+
   pub commit_goes : (comment : Option (List ℕ)) → RootGoes (commit_call k n comment).after.sessions (commit_call k n comment).after.lives
   commit_goes comment = commit_by_goes (unwrap_or comment []) (session_at k.sessions n).code (root_at k n) (root_so k n)
 
@@ -333,12 +392,14 @@ heard_brings k (inputs.Message m) what brings = record { free = brings.free; ask
 heard_brings k (inputs.Call n s) what brings = brings
 heard_brings k (inputs.GiveUp n) what brings = brings
 heard_brings k inputs.Reco what brings = brings
+heard_brings k inputs.Checkpoint what brings = brings
 
 heard_goes : (k : NodeState) (input : Input) → RootGoes k.sessions k.lives → RootGoes (heard k input).sessions (heard k input).lives
 heard_goes k (inputs.Message m) now = now
 heard_goes k (inputs.Call n s) now = now
 heard_goes k (inputs.GiveUp n) now = now
 heard_goes k inputs.Reco now = now
+heard_goes k inputs.Checkpoint now = now
 
 pub turn_goes : (p : Place) (k : NodeState) (input : Input) → Step p input (heard k input) (draft_of p k input) → Brings input k → NodeRests k → RootGoes k.sessions k.lives → RootGoes (draft_of p k input).after.sessions (draft_of p k input).after.lives
 turn_goes p k input step brings rests now = elim (commit_or_not input) [

@@ -44,6 +44,7 @@ module _ (t : History) (whole : IsLawfulRun t) (hs : List Happening) (u : Turn) 
     called_born (inputs.Message m) s root = absurd cc
     called_born (inputs.GiveUp session) s root = absurd cc
     called_born inputs.Reco s root = absurd cc
+    called_born inputs.Checkpoint s root = absurd cc
 
     new_plans : (a : Option Answer) (o : Option Seen) → ((s : Seen) → o ≡ Some s → IsBorn t whole hs1 s.me) → AllByRecursion (λ x. IsBorn t whole hs1 x.root) (planned_by t.places b0 u.node a u.input o)
     unfolding plan

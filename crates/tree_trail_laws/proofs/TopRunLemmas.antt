@@ -20,7 +20,7 @@ use Rattle.tree_laws.proofs.TimeLemmas.{part_of}
 use Rattle.tree_trail_laws.proofs.MomentLemmas.{tr_at, trail_one_on}
 use Rattle.tree_trail_laws.proofs.StartLemmas.{none_made}
 use Rattle.tree_trail_laws.proofs.TopBackLemmas.{IsBack, Back, Siteless}
-use Rattle.tree_trail_laws.proofs.TopBirthLemmas.{IsBorn, Booted, born_more}
+use Rattle.tree_trail_laws.proofs.TopBirthLemmas.{IsBorn, Booted, born_more, IsStarted, started_more}
 use Rattle.tree_trail_laws.proofs.TopListLemmas.{Alone, is_of, Ordered}
 use Rattle.tree_trail_laws.proofs.TopNodeLemmas.{RootGoes}
 use Rattle.tree_trail_laws.proofs.TopTurnLemmas.{Tops, tops_so, seen_roots, turn_tops}
@@ -54,6 +54,8 @@ module _ (t : History) (whole : IsLawfulRun t) where
           back = subst (AllByRecursion (Back f)) (sym seen) (all_weaker (Back (f_at t hs)) (Back f) (λ s so live top. back_same f up stops s.me (so live top)) (tr_at t hs).seen now.back);
           plans = subst (AllByRecursion (λ x. IsBorn t whole (hs ++ h ∷ []) x.root)) (sym plans)
               (all_weaker (λ x. IsBorn t whole hs x.root) (λ x. IsBorn t whole (hs ++ h ∷ []) x.root) (λ x its. born_later x.root its) (tr_at t hs).plans now.plans);
+          started = subst (AllByRecursion (IsStarted t whole (hs ++ h ∷ []))) (sym seen)
+              (all_weaker (IsStarted t whole hs) (IsStarted t whole (hs ++ h ∷ [])) (λ s its. started_more t whole hs h rest is s its) (tr_at t hs).seen now.started);
         })
       where
         item_of : List Seen → BranchId → Option Seen
@@ -95,6 +97,7 @@ module _ (t : History) (whole : IsLawfulRun t) where
     alone = tt;
     back = tt;
     plans = tt;
+    started = tt;
   }
     where
       first_goes : (n : ℕ) (k : NodeState) → node_at (first_facts t.places) n ≡ Some k → RootGoes k.sessions k.lives

@@ -21,7 +21,7 @@ use Rattle.tree_laws.proofs.TimeLemmas.{part_of, part_lawful, may_of}
 use Rattle.tree_trail_laws.specs.SeenLaws.{TracesTops}
 use Rattle.tree_trail_laws.proofs.MomentLemmas.{tr_at, trail_one_on}
 use Rattle.tree_trail_laws.proofs.TopBackLemmas.{IsBack, Back}
-use Rattle.tree_trail_laws.proofs.TopBirthLemmas.{IsBorn, Counts, Booted, born_more}
+use Rattle.tree_trail_laws.proofs.TopBirthLemmas.{IsBorn, Counts, Booted, born_more, IsStarted, started_more}
 use Rattle.tree_trail_laws.proofs.TopListLemmas.{Alone, is_of, count_none, Ordered}
 use Rattle.tree_trail_laws.proofs.TopNodeLemmas.{RootGoes}
 use Rattle.tree_trail_laws.proofs.TopTurnLemmas.{Tops, tops_so}
@@ -152,4 +152,6 @@ module _ (t : History) (whole : IsLawfulRun t) where
           back = subst (AllByRecursion (Back f1)) (sym same_seen) (all_weaker (Back f0) (Back f1) start_back tr0.seen now.back);
           plans = subst (AllByRecursion (λ x. IsBorn t whole (hs ++ happenings.Started n boot ∷ []) x.root)) (sym same_plans)
               (all_weaker (λ x. IsBorn t whole hs x.root) (λ x. IsBorn t whole (hs ++ happenings.Started n boot ∷ []) x.root) (λ x its. born_more t whole hs (happenings.Started n boot) rest is x.root its) tr0.plans now.plans);
+          started = subst (AllByRecursion (IsStarted t whole (hs ++ happenings.Started n boot ∷ []))) (sym same_seen)
+              (all_weaker (IsStarted t whole hs) (IsStarted t whole (hs ++ happenings.Started n boot ∷ [])) (λ s its. started_more t whole hs (happenings.Started n boot) rest is s its) tr0.seen now.started);
         })

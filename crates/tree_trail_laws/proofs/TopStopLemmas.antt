@@ -22,7 +22,7 @@ use Rattle.tree_trail_laws.proofs.LowerRunLemmas.{stopped_other, not_stopped, st
 use Rattle.tree_trail_laws.proofs.MomentLemmas.{tr_at, trail_one_on}
 use Rattle.tree_trail_laws.proofs.SeenLemmas.{item_mapped}
 use Rattle.tree_trail_laws.proofs.TopBackLemmas.{IsBack, Back}
-use Rattle.tree_trail_laws.proofs.TopBirthLemmas.{IsBorn, Booted, born_more}
+use Rattle.tree_trail_laws.proofs.TopBirthLemmas.{IsBorn, Booted, born_more, IsStarted, started_more}
 use Rattle.tree_trail_laws.proofs.TopListLemmas.{Alone, alone_map, is_of, count_map, Ordered}
 use Rattle.tree_trail_laws.proofs.TopTurnLemmas.{Tops, tops_so}
 use Rattle.tree_trail_laws.proofs.SeenLemmas.{stopped_me}
@@ -131,6 +131,13 @@ module _ (t : History) (whole : IsLawfulRun t) where
     unfolding trail_after
     same_plans = refl
 
+    stopped_started : (s : Seen) → IsStarted t whole (hs ++ happenings.Stopped n ∷ []) s → IsStarted t whole (hs ++ happenings.Stopped n ∷ []) (stopped_by n s)
+    stopped_started s its = by (is_live_at n s)
+      where
+        by : (q : Bool) → IsStarted t whole (hs ++ happenings.Stopped n ∷ []) (if q then record s { exit = Some Dropped } else s)
+        by true = its
+        by false = its
+
     pub stop_tops : Tops t whole (hs ++ happenings.Stopped n ∷ [])
     stop_tops =
         tops_so t whole (hs ++ happenings.Stopped n ∷ []) f1 tr1 (sym (one_on t hs (happenings.Stopped n))) (sym (trail_one_on t hs (happenings.Stopped n))) (record {
@@ -147,4 +154,6 @@ module _ (t : History) (whole : IsLawfulRun t) where
           back = backs;
           plans = subst (AllByRecursion (λ x. IsBorn t whole (hs ++ happenings.Stopped n ∷ []) x.root)) (sym same_plans)
               (all_weaker (λ x. IsBorn t whole hs x.root) (λ x. IsBorn t whole (hs ++ happenings.Stopped n ∷ []) x.root) (λ x its. born_more t whole hs (happenings.Stopped n) rest is x.root its) tr0.plans now.plans);
+          started = mapped (IsStarted t whole (hs ++ happenings.Stopped n ∷ [])) (λ s its. stopped_started s its)
+              (all_weaker (IsStarted t whole hs) (IsStarted t whole (hs ++ happenings.Stopped n ∷ [])) (λ s its. started_more t whole hs (happenings.Stopped n) rest is s its) tr0.seen now.started);
         })

@@ -23,9 +23,9 @@ use Rattle.run_branch_laws.specs.HeardLaws.{QuietIs}
 use Rattle.run_base_laws.specs.InTurnLaws.{post_of, packet_post, said_in}
 use Rattle.run_rules.specs.Lawful.{MayHappen, Comes, IsOwed, History, IsLawfulRun, facts_at}
 use Rattle.run_branch_laws.specs.PhaseLaws.{PhaseFits}
-use Rattle.run_rules.specs.Runs.{answered_by}
+use Rattle.run_rules.specs.Runs.{answered_by, is_refused}
 use Rattle.run_base_laws.specs.RunEvents.{with_record, events_of}
-use Rattle.run_rules.specs.Trail.{is_refused, children_after, recorded_exit, is_quiet}
+use Rattle.run_rules.specs.Trail.{children_after, recorded_exit, is_quiet}
 use Rattle.run_rules.proofs.AtNodeLemmas.{turn_elsewhere}
 use Rattle.run_base_laws.proofs.EventsStandLemmas.{run_stands, nodes_are_as_events, ids_name_their_node}
 use Rattle.run_branch_laws.proofs.HeardStandLemmas.{quiets_are_gone}
@@ -134,7 +134,7 @@ module _ (t : History) (whole : IsLawfulRun t) (hs : List Happening) (u : Turn) 
           let votes : (turned t.places f0 tr0 u s).voted ≡ s.voted = same_voted t.places f0 tr0 u s not_to not_root in
           let begins : (turned t.places f0 tr0 u s).collects ≡ s.collects = same_collects t.places f0 tr0 u s not_to not_root in
           with_plan
-          (told_so t.places f0 tr0 u l top fits unwritten unquiet s me (old_begun s at) was.live (was.parent ∙ top) silent (none_drops t.places f0 tr0 u s not_to not_root)
+          (told_so t.places f0 tr0 u l top fits unwritten unquiet s me (old_begun s at) was.live (was.parent ∙ top) silent was.read_at (none_drops t.places f0 tr0 u s not_to not_root)
           (λ working. (let had = was.working working in (begins ∙ had.0, votes ∙ had.1))) (λ busy. (let had = was.collects busy in (begins ∙ had.0, subst (λ vs. AreVoted vs l.edges) (sym votes) had.1))))
           (λ working. none_planned t.places f0 tr0 u l.me refused (none working))
 

@@ -1,6 +1,6 @@
 -- What a turn tells of a root: that it lives on where no record, no message and no call ends it and its collect is not complete, that it is as it was
 -- where nothing comes to it, and that its COMMIT is not accepted where none came.
-use Rattle.std.proofs.Common.{◌≡◌, ◌≢◌, ℕ, ◌==◌, ◌||◌, ◌&&◌, ◌⊎◌, not, Bool, true, false, if◌then◌else◌, find, is_none, List, [], ◌∷◌, ◌++◌, map, Option, Some, None, inl, inr, refl, sym, ap, subst, ◌∙◌}
+use Rattle.std.proofs.Common.{◌≡◌, ◌≢◌, ℕ, ◌==◌, ◌||◌, ◌&&◌, ◌⊎◌, not, Bool, true, false, if◌then◌else◌, find, is_none, List, [], ◌∷◌, ◌++◌, map, Option, Some, None, inl, inr, refl, sym, ap, subst, ◌∙◌, is_some}
 use Rattle.std.specs.List.{list_any, list_all}
 use Rattle.std.proofs.lemmas.Bool.{and_parts, and_left, and_right, or_cases, not-true, eqb-true}
 use Rattle.tran_ids.proofs.BranchLemmas.{equal_from_same}
@@ -18,9 +18,9 @@ use Rattle.run_rules.specs.Data.{Turn}
 use Rattle.run_rules.specs.Data.happenings
 use Rattle.run_rules.specs.Facts.{Facts, outcome_at}
 use Rattle.run_branch_laws.specs.PhaseLaws.{PhaseFits}
-use Rattle.run_rules.specs.Runs.{answered_by}
+use Rattle.run_rules.specs.Runs.{answered_by, is_refused}
 use Rattle.run_rules.specs.Tree.{plan}
-use Rattle.run_rules.specs.Trail.{is_vote, is_abort, is_first_vote, voted_after, is_refused, commits, begins_collect, recorded_exit, is_quiet, kind_drops, input_drops, has_no_site, ends_siteless, whole_exit, exit_by, exit_after, with_turn, planned_by, called_root, trail_after}
+use Rattle.run_rules.specs.Trail.{is_vote, is_abort, is_first_vote, voted_after, commits, begins_collect, recorded_exit, is_quiet, kind_drops, input_drops, has_no_site, ends_siteless, whole_exit, exit_by, exit_after, with_turn, planned_by, called_root, trail_after}
 use Rattle.tree_trail_laws.specs.LowerLaws.{AreVoted, IsTracedLive}
 use Rattle.tree_trail_laws.proofs.SeenLemmas.{begun, planned, brings, turned, seen_begun}
 use Rattle.tree_trail_laws.proofs.UntouchedLemmas.{Concerns_root, Is_commit, Is_rollback, Gives_up}
@@ -61,7 +61,7 @@ module _ (places : List Place) (f : Facts) (tr : Trail) (u : Turn) where
     abbrev t1 : Seen
     t1 = turned places f tr u s
 
-    module _ (at : seen_at (begun places f tr u) l.me ≡ Some s) (live : s.exit ≡ None) (parent : s.parent ≡ None) (kids : t1.children ≡ children_of l) (drops : input_drops u.node s u.input ≡ false)
+    module _ (at : seen_at (begun places f tr u) l.me ≡ Some s) (live : s.exit ≡ None) (parent : s.parent ≡ None) (kids : t1.children ≡ children_of l) (reads : s.read_at ≡ l.read_at) (drops : input_drops u.node answer s u.input ≡ false)
         (working : l.phase ≡ phases.Working → (t1.collects ≡ false) × (t1.voted ≡ [])) (collects : l.phase ≢ phases.Working → (t1.collects ≡ true) × AreVoted t1.voted l.edges) where
       abbrev pl : Trail
       pl = planned places f tr u
@@ -76,20 +76,20 @@ module _ (places : List Place) (f : Facts) (tr : Trail) (u : Turn) where
             (ap (list_all (λ c. is_among c new.voted)) kids ∙ awaited_out new.voted l.edges (collects busy).1 (root_waits l.parent l.edges l.phase top busy fits)))
       ]
 
-      whole : whole_exit pl u s new ≡ None
+      whole : whole_exit pl u answer s new ≡ None
       whole =
-          ap (λ q. if q then Some Quiet else (if input_drops u.node s u.input || ends_siteless pl new then Some Dropped else None)) (subst (λ b. list_any (is_quiet b) u.sent ≡ false) (sym me) unquiet)
+          ap (λ q. if q then Some Quiet else (if input_drops u.node answer s u.input || ends_siteless pl new then Some Dropped else None)) (subst (λ b. list_any (is_quiet b) u.sent ≡ false) (sym me) unquiet)
           ∙ (ap (λ q. if q || ends_siteless pl new then Some Dropped else None) drops ∙ ap (λ q. if q then Some Dropped else None) (and_right (is_none s.parent) _ not_complete))
 
       lives : t1.exit ≡ None
-      lives = ap (exit_after pl u s new) live ∙ (ap (exit_by pl u s new) (subst (λ b. recorded_exit b u.wrote ≡ None) (sym me) unwritten) ∙ by u.cut (whole_exit pl u s new) whole)
+      lives = ap (exit_after pl u answer s new) live ∙ (ap (exit_by pl u answer s new) (subst (λ b. recorded_exit b u.wrote ≡ None) (sym me) unwritten) ∙ by u.cut (whole_exit pl u answer s new) whole)
         where
           by : (cut : Bool) (w : Option Exit) → w ≡ None → (if cut then None else w) ≡ None
           by true w is = refl
           by false w is = is
 
       pub told_so : (s : Seen) × (seen_at tr1 l.me ≡ Some s) × IsTracedLive l s
-      told_so = (t1, seen_begun places f tr u l.me s at, record { live = lives; parent = parent ∙ sym top; children = kids; working = working; collects = collects })
+      told_so = (t1, seen_begun places f tr u l.me s at, record { live = lives; parent = parent ∙ sym top; children = kids; read_at = reads; working = working; collects = collects })
 
   -- ---- one to which nothing comes
 
@@ -103,21 +103,23 @@ module _ (places : List Place) (f : Facts) (tr : Trail) (u : Turn) where
 
     begins_by : (a : Option Answer) (input : Input) → u.input ≡ input → begins_collect u.node a s input ≡ false
     begins_by a (inputs.Message m) came = and_left (same m.to s.me) _ (not_to m came)
-    begins_by a (inputs.Call session (Some (stmts.Commit comment))) came = and_left (is_root_of u.node session s) _ (not_root session (Is_commit comment came))
-    begins_by a (inputs.Call session (Some _)) came = refl
-    begins_by a (inputs.Call session None) came = refl
-    begins_by a _ came = refl
+    begins_by a (inputs.Call session (Some (stmts.Commit comment))) came = and_right (is_none s.read_at) _ (and_left (is_root_of u.node session s) _ (not_root session (Is_commit comment came)))
+    begins_by a (inputs.Call session (Some _)) came = and_right (is_none s.read_at) false refl
+    begins_by a (inputs.Call session None) came = and_right (is_none s.read_at) false refl
+    begins_by a _ came = and_right (is_none s.read_at) false refl
 
-    drops_by : (input : Input) → u.input ≡ input → input_drops u.node s input ≡ false
+    drops_by : (input : Input) → u.input ≡ input → input_drops u.node answer s input ≡ false
     drops_by (inputs.Message m) came =
         ap (λ q. q || (is_first_vote s m && is_abort m.kind)) (and_left (same m.to s.me) (kind_drops s m.from m.kind) (not_to m came)) ∙ and_left (is_first_vote s m) (is_abort m.kind) (first_not m (not_to m came))
     drops_by (inputs.Call session (Some stmts.Rollback)) came = not_root session (Is_rollback came)
+    drops_by (inputs.Call session (Some (stmts.Commit comment))) came = and_right (is_some s.read_at) _ (and_left (is_root_of u.node session s) _ (not_root session (Is_commit comment came)))
     drops_by (inputs.Call session (Some _)) came = refl
     drops_by (inputs.Call session None) came = refl
     drops_by (inputs.GiveUp session) came = and_left (is_root_of u.node session s) s.collects (not_root session (Gives_up came))
     drops_by inputs.Reco came = refl
+    drops_by inputs.Checkpoint came = refl
 
-    pub none_drops : input_drops u.node s u.input ≡ false
+    pub none_drops : input_drops u.node answer s u.input ≡ false
     none_drops = drops_by u.input refl
 
     pub same_voted : (turned places f tr u s).voted ≡ s.voted
@@ -139,7 +141,7 @@ module _ (places : List Place) (f : Facts) (tr : Trail) (u : Turn) where
         by : (q : Bool) → same s.me b ≡ q → q ≡ false
         by false other = refl
         by true here =
-            let parts = and_parts (is_root_of u.node session s) (not (is_refused answer)) is in
+            let parts = and_parts (is_root_of u.node session s) (not (is_refused answer)) (and_parts (is_none s.read_at) _ is).1 in
             let more = and_parts (is_live_at u.node s) (is_none s.parent && (s.me.session == session)) parts.0 in
             let root = (and_parts (is_none s.parent) (s.me.session == session) more.1).1 in
             let here_at : b.node ≡ u.node = sym (ap (λ (c : BranchId). c.node) (equal_from_same s.me b here)) ∙ eqb-true s.me.node u.node (and_parts (s.me.node == u.node) (is_live s) more.0).0 in
@@ -154,14 +156,19 @@ module _ (places : List Place) (f : Facts) (tr : Trail) (u : Turn) where
     one_plan s session given call false is = refl
     one_plan s session given call true is = ap (λ q. if q then Some (plan places (begun places f tr u) s.me) else None) (commits_not s session given call is)
 
+    none_by : (q : Bool) (ps : List CommitPlan) → Other (if q && false then ps else [])
+    none_by true ps = refl
+    none_by false ps = refl
+
     by_root : (input : Input) → u.input ≡ input → (o : Option Seen) → Other (planned_by places (begun places f tr u) u.node answer input o)
     by_root input came None = refl
     by_root (inputs.Call session (Some (stmts.Commit given))) came (Some s) = one_plan s session given came (commits u.node answer s (inputs.Call session (Some (stmts.Commit given)))) refl
-    by_root (inputs.Call session (Some _)) came (Some s) = refl
-    by_root (inputs.Call session None) came (Some s) = refl
-    by_root (inputs.Message m) came (Some s) = refl
-    by_root (inputs.GiveUp session) came (Some s) = refl
-    by_root inputs.Reco came (Some s) = refl
+    by_root (inputs.Call session (Some _)) came (Some s) = none_by (is_none s.read_at) _
+    by_root (inputs.Call session None) came (Some s) = none_by (is_none s.read_at) _
+    by_root (inputs.Message m) came (Some s) = none_by (is_none s.read_at) _
+    by_root (inputs.GiveUp session) came (Some s) = none_by (is_none s.read_at) _
+    by_root inputs.Reco came (Some s) = none_by (is_none s.read_at) _
+    by_root inputs.Checkpoint came (Some s) = none_by (is_none s.read_at) _
 
     none_more : (ps qs : List CommitPlan) → Other ps → Other qs → Other (ps ++ qs)
     none_more [] qs one two = two

@@ -4,6 +4,7 @@ pub mod SeenLaws
 pub mod TopLaws
 pub mod LeaveLaws
 pub mod OwnLaws
+pub mod RunLaws
 pub mod NoSite
 pub mod TriedTrail
 pub mod TriedOwns

@@ -1,5 +1,5 @@
 -- What the happenings tell of a live branch below a root is what its node keeps of it: that it is live, its parent and its
--- children, whether its collect began, and which of its children answered. (Database Administrator's Guide, "Distributed
+-- children, the SCN at which it reads, whether its collect began, and which of its children answered. (Database Administrator's Guide, "Distributed
 -- Transactions Concepts": session trees, prepare phase.)
 use Rattle.std.specs.Prelude.{◌≡◌, ◌≢◌, ℕ, not, true, false, List, [], Some, None}
 use Rattle.std.specs.List.{AllByRecursion}
@@ -23,6 +23,7 @@ pub record IsTracedLive (l : Live) (s : Seen) : Type 0 where
   pub live : s.exit ≡ None
   pub parent : s.parent ≡ l.parent
   pub children : s.children ≡ children_of l
+  pub read_at : s.read_at ≡ l.read_at
   pub working : l.phase ≡ phases.Working → (s.collects ≡ false) × (s.voted ≡ [])
   pub collects : l.phase ≢ phases.Working → (s.collects ≡ true) × AreVoted s.voted l.edges
 

@@ -20,11 +20,16 @@ use Rattle.run_rules.specs.Lawful.{History, IsLawfulRun}
 use Rattle.run_claims.specs.Site.{SiteDecides, RecordIsSo, DecisionCovers, HasOwn}
 use Rattle.run_rules.specs.Trail.{trail_after}
 use Rattle.tree_trail_laws.specs.LowerLaws.{IsTracedLive}
+use Rattle.run_rules.specs.Tree.{strength_of}
 
 -- each live root is in the branch history as its node keeps it, and no COMMIT was accepted of one that is working
 abbrev pub TracesTops : Facts → Trail → Type 0
 TracesTops f tr = (n : ℕ) (k : NodeState) → node_at f n ≡ Some k → (l : Live) → live_at k l.me ≡ Some l → l.parent ≡ None
     → (s : Seen) × (seen_at tr l.me ≡ Some s) × IsTracedLive l s × (l.phase ≡ phases.Working → plan_at tr l.me ≡ None)
+
+-- the commit point strength of each live root by the branch history is that which its node keeps
+abbrev pub TracesStrengths : List Place → Facts → Trail → Type 0
+TracesStrengths places f tr = (n : ℕ) (k : NodeState) → node_at f n ≡ Some k → (l : Live) → live_at k l.me ≡ Some l → l.parent ≡ None → strength_of places tr l.me ≡ l.strength
 
 -- the changes of each live branch by the branch history are those that its node keeps
 abbrev pub TracesOwns : Facts → Trail → Type 0

@@ -49,5 +49,5 @@ pub record TheTriedOwns : Type 0 where
   pub traced_at_b : own_at (trail_after_so_many 9) tried.b ≡ tried.changes
   pub kept_at_b : kept_in (node_at (facts_after_so_many 9) 2) tried.b ≡ tried.changes
   pub runs : option_map (λ r. r.branch) (run_of (facts_after_so_many 8) (trail_after_so_many 8) ninth) ≡ Some tried.a
-  pub means : option_map (λ r. meaning (facts_after_so_many 8).book (own_at (trail_after_so_many 8) r.branch) r) (run_of (facts_after_so_many 8) (trail_after_so_many 8) ninth) ≡ Some (Changes dones.Created 1 tried.changes)
+  pub means : option_map (λ r. meaning (facts_after_so_many 8).book None (own_at (trail_after_so_many 8) r.branch) r) (run_of (facts_after_so_many 8) (trail_after_so_many 8) ninth) ≡ Some (Changes dones.Created 1 tried.changes)
   pub answers : answer_of (facts_after_so_many 8) ninth ≡ Some (answers.Did dones.Created 1)

@@ -25,6 +25,9 @@ pub(crate) fn undo_fits(change: &Change, before: Option<&Row>)
     }
 }
 
+// The bytes for which room is taken at once; the undo of most changes needs no more.
+const ROOM: usize = 64;
+
 /// Writes the undo of a change at the end. Fails where memory runs out; a part of it may then be there.
 pub(crate) fn put_undo(
     out: &mut Vec<u8>,
@@ -35,6 +38,7 @@ pub(crate) fn put_undo(
     ensures written { OnOk result (out.new.items ≡ out.old.items ++ change_format.text (with_row change.now (option_copied before.entry))) }
     ensures kept { StartsWith out.new.items out.old.items }
 {
+    out.reserve(ROOM)?;
     put_name(out, &change.table)?;
     put_value(out, &change.key)?;
     match before {

@@ -1,5 +1,5 @@
 -- The advice of a session: ALTER SESSION ADVISE sets it, and nothing else that a node does touches it.
-use Rattle.std.proofs.Common.{◌≡◌, ℕ, zero, suc, ◌&&◌, Bool, true, false, if◌then◌else◌, is_none, List, [], replicate, slice_get, unwrap_or, Option, Some, None, inl, inr, refl, ap, ◌∙◌}
+use Rattle.std.proofs.Common.{◌≡◌, ℕ, zero, suc, ◌+◌, ◌&&◌, Bool, true, false, if◌then◌else◌, is_none, List, [], replicate, slice_get, unwrap_or, Option, Some, None, inl, inr, refl, ap, ◌∙◌}
 use Rattle.std.proofs.lemmas.Bool.{cond_both}
 use Rattle.node_rules.specs.Data.{Advice, Answer, BranchId, Decision, Input, Live, Place}
 use Rattle.node_rules.specs.Data.acts
@@ -17,7 +17,7 @@ use Rattle.node_rules.specs.Commit.{decided_sessions}
 use Rattle.node_rules.specs.Inputs.{IsCall}
 use Rattle.node_rules.specs.NodeState.{NodeState, TurnDraft}
 use Rattle.node_rules.specs.Prepare.{abandoned_sessions, is_alone}
-use Rattle.node_rules.specs.Sessions.{commit_ended, commit_is_pending, fresh_session, needs_rollback, no_transaction, session_at, with_call, with_root}
+use Rattle.node_rules.specs.Sessions.{commit_ended, commit_is_pending, fresh_session, needs_rollback, no_transaction, session_at, with_call, with_call_of, with_root}
 use Rattle.node_rules.proofs.Steps as steps
 use Rattle.node_rules.proofs.Steps.{Step}
 use Rattle.run_base_laws.proofs.RootLemmas.{session_or_before}
@@ -48,7 +48,11 @@ module _ (ss : List Session) where
   done_advice n = set_advice n (no_transaction (session_at ss n)) refl
 
   root_advice : (n : ℕ) (b : BranchId) → SameAdvice ss (with_root ss n b)
-  root_advice n b = set_advice n (record (session_at ss n) { seq = b.seq; root = Some b }) refl
+  root_advice n b = set_advice n (record (session_at ss n) { seq = b.seq; root = Some b; calls = 0 }) refl
+
+  counted_advice : (n : ℕ) (root : Option BranchId) → SameAdvice ss (with_call_of ss n root)
+  counted_advice n None = λ m. refl
+  counted_advice n (Some root) = set_advice n (record (session_at ss n) { calls = (session_at ss n).calls + 1 }) refl
 
   ended_advice : (root : BranchId) → SameAdvice ss (commit_ended ss root)
   ended_advice root = cond_both (commit_is_pending ss root) (set_numbered ss root.session (no_transaction (session_at ss root.session))) ss (SameAdvice ss) (λ is. done_advice root.session) (λ other m. refl)
@@ -82,8 +86,10 @@ both ss rs qs first second m = second m ∙ first m
 
 module _ (p : Place) (input : Input) (none : (n : ℕ) (a : Option Advice) → IsCall input n (stmts.Advise a) → ⊥) where
   pub advice_on : {k : NodeState} {d : TurnDraft} → Step p input k d → SameAdvice k.sessions d.after.sessions
-  advice_on (steps.Begins {k = k} n s call rows range free step) = both _ _ _ (root_advice k.sessions n (new_root p k n)) (advice_on step)
-  advice_on (steps.Pends {k = k} n l given call has live code step) = both _ _ _ (call_advice k.sessions n pending.Commit) (advice_on step)
+  advice_on (steps.Begins {k = k} n s read_at call begins range free step) = both _ _ _ (root_advice k.sessions n (new_root p k n)) (advice_on step)
+  advice_on (steps.Counts_call {k = k} n s call counts step) = both _ _ _ (counted_advice k.sessions n (session_at k.sessions n).root) (advice_on step)
+  advice_on (steps.Goes_back x step goes next) = advice_on next
+  advice_on (steps.Pends {k = k} n l given call has live code writer step) = both _ _ _ (call_advice k.sessions n pending.Commit) (advice_on step)
   advice_on (steps.Lets_reads_go l comment q live begins step) = advice_on step
   advice_on (steps.Counts_ack s from kept came counts step) = advice_on step
   advice_on (steps.Runs {k = k} x s given t asked way) = answered_advice k.sessions x.live x.live.parent
@@ -92,7 +98,9 @@ module _ (p : Place) (input : Input) (none : (n : ℕ) (a : Option Advice) → I
   advice_on (steps.Opens {k = k} x s given node link table asked way) = pends_advice k.sessions x.live
   advice_on (steps.Goes_on {k = k} x from strength g link opened) = pends_advice k.sessions x.live
   advice_on (steps.Hears_reply {k = k} x weight count a i e answered) = both _ _ _ (heard_advice k.sessions x.live a) (answered_advice (heard_sessions k.sessions x.live a) x.live x.live.parent)
-  advice_on (steps.Opens_branch to parent edge root depth came new) = λ m. refl
+  advice_on (steps.Backs {k = k} x step from i calls next) = pends_advice k.sessions x.live
+  advice_on (steps.Is_back {k = k} x step from calls none) = answered_advice k.sessions x.live x.live.parent
+  advice_on (steps.Opens_branch to parent edge root depth read_at came new) = λ m. refl
   advice_on (steps.Acts {k = k} l q acts.Decide why) = ended_if_advice k.sessions (is_alone l) l.me
   advice_on (steps.Acts {k = k} l q acts.Finish why) = ended_advice k.sessions l.me
   advice_on (steps.Acts {k = k} l q acts.Abandon why) = abandoned_advice k.sessions l l.parent
@@ -115,7 +123,7 @@ module _ (p : Place) (input : Input) (none : (n : ℕ) (a : Option Advice) → I
   advice_on (steps.Forces_commit {k = k} n id b call named) = ended_advice k.sessions b
   advice_on (steps.Forces_rollback {k = k} n id b call named) = ended_advice k.sessions b
   advice_on (steps.Advises n a call) = absurd (none n a call)
-  advice_on (steps.Rolls_back {k = k} n x call has live) = done_advice k.sessions n
+  advice_on (steps.Leaves {k = k} n s d x call ends has live) = done_advice k.sessions n
   advice_on (steps.Gives_up {k = k} n x gives has calls live) = both _ _ _ (call_advice k.sessions n pending.NoCall) (needs_advice (with_call k.sessions n pending.NoCall) n (dtx 3 []).code)
   advice_on (steps.Gives_up_commit {k = k} n b (Some l) gives has calls live) = ended_advice k.sessions l.me
   advice_on (steps.Gives_up_commit {k = k} n b None gives has calls live) = ended_advice k.sessions b
@@ -125,6 +133,9 @@ module _ (p : Place) (input : Input) (none : (n : ℕ) (a : Option Advice) → I
   advice_on (steps.Sends says why) = λ m. refl
   advice_on (steps.Refuses n s r is) = λ m. refl
   advice_on (steps.Completes_at_once n s d call completes free) = λ m. refl
+  advice_on (steps.Sets_read_only n call) = λ m. refl
+  advice_on (steps.Sets_savepoint n x name call has code live) = λ m. refl
+  advice_on (steps.Images checkpoint) = λ m. refl
 
 -- ---- sessions that have done nothing
 

@@ -9,6 +9,7 @@ use Rattle.node_rules.specs.Data.{Advice, BranchId, Input, Kind, Live, Place, Po
 use Rattle.node_rules.specs.Data.inputs
 use Rattle.node_rules.specs.Data.kinds
 use Rattle.node_rules.specs.Data.stmts
+use Rattle.node_rules.specs.Data.tasks
 use Rattle.node_rules.specs.declared.session.Session.{Session}
 use Rattle.node_rules.specs.Inputs.{IsCall, IsSession}
 use Rattle.node_rules.specs.NodeState.{NodeState, live_at, live_id}
@@ -53,6 +54,7 @@ advise_or_not (inputs.Call n None) = inl (λ m a is. cc)
 advise_or_not (inputs.Message m) = inl (λ n a is. cc)
 advise_or_not (inputs.GiveUp m) = inl (λ n a is. cc)
 advise_or_not inputs.Reco = inl (λ n a is. cc)
+advise_or_not inputs.Checkpoint = inl (λ n a is. cc)
 
 module _ (n m : ℕ) (now : Option Advice) (node : ℕ) where
   none_advises : (input : Input) → ((n : ℕ) (a : Option Advice) → IsCall input n (stmts.Advise a) → ⊥) → advised_after n m now node input ≡ now
@@ -62,6 +64,7 @@ module _ (n m : ℕ) (now : Option Advice) (node : ℕ) where
   none_advises (inputs.Message x) none = refl
   none_advises (inputs.GiveUp k) none = refl
   none_advises inputs.Reco none = refl
+  none_advises inputs.Checkpoint none = refl
 
   else_advises : (input : Input) → (node == n) ≡ false → advised_after n m now node input ≡ now
   else_advises (inputs.Call k (Some (stmts.Advise a))) other = ap (λ q. if q && (k == m) then a else now) other
@@ -70,6 +73,7 @@ module _ (n m : ℕ) (now : Option Advice) (node : ℕ) where
   else_advises (inputs.Message x) other = refl
   else_advises (inputs.GiveUp k) other = refl
   else_advises inputs.Reco other = refl
+  else_advises inputs.Checkpoint other = refl
 
 -- ---- in a run
 
@@ -98,6 +102,7 @@ module _ (t : History) (whole : IsLawfulRun t) where
     heard_sessions (inputs.Call n s) = refl
     heard_sessions (inputs.GiveUp n) = refl
     heard_sessions inputs.Reco = refl
+    heard_sessions inputs.Checkpoint = refl
 
     fits : SessionsFit k
     fits = kept_alone SessionsFit sessions_keep s0 lawful0 u.node k may.1.up
@@ -158,7 +163,7 @@ module _ (t : History) (whole : IsLawfulRun t) where
 
     module _ (advised : AdvisedAt hs1) where
       one_brings : (cut : u.cut ≡ false) (from : BranchId) (kind : Kind) → CarriesSo d.after from kind → BringsAdvice (tr_at t hs1) (g_at t hs1) from kind
-      one_brings cut from (kinds.Exec call given advice st) carries =
+      one_brings cut from (kinds.Exec call (tasks.Run given advice st)) carries =
           let l : Live = carries.live in
           let me : l.me ≡ from = item_is live_id d.after.lives from l carries.at in
           let up1 : node_at (f_at t hs1) u.node ≡ Some d.after = ap (λ f. node_at f u.node) (one_on t hs (happenings.Turn u)) ∙ after_up cut in

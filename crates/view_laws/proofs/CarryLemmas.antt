@@ -1,20 +1,24 @@
 -- Whose comment a Prepare carries, and whose advice an Exec: its sender is live after the turn, and has them.
-use Rattle.std.proofs.Common.{◌≡◌, ◌≢◌, ℕ, ◌+◌, ◌-◌, Bool, if◌then◌else◌, is_none, List, [], ◌∷◌, map, length, Option, Some, None, refl, sym, ap}
+use Rattle.std.proofs.Common.{◌≡◌, ◌≢◌, ℕ, ◌+◌, Bool, if◌then◌else◌, is_none, List, [], ◌∷◌, map, length, Option, Some, None, refl, sym, ap}
 use Rattle.std.specs.List.{AllByRecursion}
 use Rattle.tran_ids.proofs.ListedLemmas.{put_found}
 use Rattle.session_tree.specs.Live.{new_edge, peer_of}
 use Rattle.session_tree.specs.Tree.{step as step_from}
-use Rattle.node_rules.specs.Data.{Act, Advice, Answer, BranchId, Edge, Input, Kind, Live, Place, Post, Stmt}
+use Rattle.node_rules.specs.Data.{Act, Advice, Answer, BranchId, Edge, Input, Kind, Live, Place, Post}
 use Rattle.node_rules.specs.Data.acts
 use Rattle.node_rules.specs.Data.kinds
 use Rattle.node_rules.specs.Data.nexts
 use Rattle.node_rules.specs.Data.phases
-use Rattle.node_rules.specs.Calls.{answer_says, calls_over, exec_to, hears_reply, with_edge}
+use Rattle.node_rules.specs.Data.tasks
+use Rattle.node_rules.specs.declared.work.Errand.{Errand}
+use Rattle.node_rules.specs.declared.work.Errand.TheVariants as errands
+use Rattle.node_rules.specs.Calls.{answer_says, branch_ran, calls_over, exec_to, hears_reply, less_room, with_edge}
 use Rattle.node_rules.specs.Commit.{beyond}
 use Rattle.node_rules.specs.NodeState.{Branch, NodeState, TurnDraft, live_id, live_at, to_each, to_one}
 use Rattle.node_rules.specs.Prepare.{act_turn, path_of, prepares, site_neighbors}
 use Rattle.node_rules.specs.Recovery.{kept_told}
-use Rattle.node_rules.specs.Statement.{after_run, ran}
+use Rattle.node_rules.specs.Names.{passed_on}
+use Rattle.node_rules.specs.Statement.{ran}
 use Rattle.node_rules.proofs.Steps as steps
 use Rattle.node_rules.proofs.Steps.{Acting, Says, Step}
 use Rattle.run_base_laws.proofs.KindSayLemmas.{OfDecisions, AllSay, one_says, each_says, told_says, passes_say, askings_say}
@@ -24,7 +28,7 @@ use Rattle.view_laws.proofs.AdviceLemmas.{advice_at, pends_advice}
 -- a message carries neither
 abbrev CarriesNone : Kind → Type 0
 CarriesNone (kinds.Prepare site_below comment) = ⊥
-CarriesNone (kinds.Exec call given advice s) = ⊥
+CarriesNone (kinds.Exec call (tasks.Run given advice s)) = ⊥
 CarriesNone _ = Unit {0}
 
 none_decisions : OfDecisions CarriesNone
@@ -45,7 +49,7 @@ pub record ExecsWith (after : NodeState) (from : BranchId) (advice : Option Advi
 -- what each message carries
 abbrev pub CarriesSo : NodeState → BranchId → Kind → Type 0
 CarriesSo after from (kinds.Prepare site_below comment) = PreparesWith after from comment
-CarriesSo after from (kinds.Exec call given advice s) = ExecsWith after from advice
+CarriesSo after from (kinds.Exec call (tasks.Run given advice s)) = ExecsWith after from advice
 CarriesSo after from _ = Unit {0}
 
 abbrev pub CarrySo : TurnDraft → Type 0
@@ -54,7 +58,7 @@ CarrySo d = AllByRecursion (λ x. CarriesSo d.after x.from x.kind) d.says
 module _ (after : NodeState) where
   none_so : (from : BranchId) (kind : Kind) → CarriesNone kind → CarriesSo after from kind
   none_so from (kinds.Prepare site_below comment) none = absurd none
-  none_so from (kinds.Exec call given advice s) none = absurd none
+  none_so from (kinds.Exec call (tasks.Run given advice s)) none = absurd none
   none_so from _ none = tt
 
   quiet : (posts : List Post) → AllSay CarriesNone posts → AllByRecursion (λ x. CarriesSo after x.from x.kind) posts
@@ -69,12 +73,13 @@ answer_none x a None = tt
 answer_none x a (Some parent) = (tt, tt)
 
 -- an Exec to a child
-execs_so : (k : NodeState) (x : Branch) (i : ℕ) (s : Stmt) (given : ℕ) → CarrySo (calls_over k x i s given)
-execs_so k x i s given = by (peer_of x.live i)
+execs_so : (k : NodeState) (x : Branch) (i : ℕ) (e : Errand) → CarrySo (calls_over k x i e)
+execs_so k x i e = by (peer_of x.live i) e
   where
-    by : (o : Option BranchId) → AllByRecursion (λ y. CarriesSo (calls_over k x i s given).after y.from y.kind) (exec_to k.sessions x i s given o)
-    by None = tt
-    by (Some peer) = (
+    by : (o : Option BranchId) (e : Errand) → AllByRecursion (λ y. CarriesSo (calls_over k x i e).after y.from y.kind) (exec_to k.sessions x i e o)
+    by None e = tt
+    by (Some peer) (errands.GoBack step) = (tt, tt)
+    by (Some peer) (errands.Statement s given) = (
       record {
         live = x.live;
         at = put_found live_id k.lives x.live;
@@ -108,33 +113,37 @@ acts_carry k l q acts.Finish busy = tt
 acts_carry k l q acts.Abandon busy = quiet _ _ (all_append (λ x. CarriesNone x.kind) (to_one l.me kinds.Abort l.parent) _ (one_says CarriesNone l.me kinds.Abort l.parent tt) (rolls_none l _))
 
 says_none : {k : NodeState} {input : Input} {posts : List Post} → Says k input posts → AllSay CarriesNone posts
-says_none (steps.Gone_replies to from call given advice s came gone) = (tt, tt)
-says_none (steps.Replies_again x to call given advice s t came live last kept) = (tt, tt)
+says_none (steps.Gone_replies to from call task came gone) = (tt, tt)
+says_none (steps.Replies_again x to call task t came live last kept) = (tt, tt)
 says_none (steps.Tells s from came kept) = (told_says CarriesNone none_decisions (kept_told s from), tt)
 says_none {k = k} (steps.Recovers reco) = askings_say CarriesNone none_decisions k
 says_none (steps.Gone_aborts to from b comment came gone) = (tt, tt)
 says_none (steps.Gone_rolls_back to from came gone) = (tt, tt)
 says_none (steps.Gone_acks to from n came gone) = (tt, tt)
 says_none (steps.Gone_forgets to from came gone) = (tt, tt)
-says_none (steps.Opened_again to parent edge root depth o came found) = (tt, tt)
+says_none (steps.Opened_again to parent edge root depth read_at o came found) = (tt, tt)
 says_none (steps.Prepared_again s from b comment came kept again) = (tt, tt)
 says_none (steps.Knows_commit s from n came kept knows) = (tt, tt)
 says_none (steps.Knows_rollback s from came kept knows) = (tt, tt)
 says_none (steps.Is_in_doubt l from came live other) = (tt, tt)
 
 pub carry_on : (p : Place) (input : Input) → {k : NodeState} {d : TurnDraft} → Step p input k d → CarrySo d
-carry_on p input (steps.Begins n s call rows range none step) = carry_on p input step
-carry_on p input (steps.Pends n l given call has live code step) = carry_on p input step
+carry_on p input (steps.Begins n s read_at call begins range none step) = carry_on p input step
+carry_on p input (steps.Counts_call n s call counts step) = carry_on p input step
+carry_on p input (steps.Goes_back x step goes next) = carry_on p input next
+carry_on p input (steps.Pends n l given call has live code writer step) = carry_on p input step
 carry_on p input (steps.Lets_reads_go l comment b live begins step) = carry_on p input step
 carry_on p input (steps.Counts_ack s from kept came counts step) = carry_on p input step
 carry_on p input (steps.Sends {k = k} posts why) = quiet k posts (says_none why)
-carry_on p input (steps.Runs {k = k} x s given t ask way) = quiet _ _ (answer_none (record x { live = after_run x.live (ran p k x.live.me s t) }) _ x.live.parent)
+carry_on p input (steps.Runs {k = k} x s given t ask way) = quiet _ _ (answer_none (branch_ran k.sessions x t (ran p k x.live.me s t)) _ x.live.parent)
 carry_on p input (steps.Goes_nowhere {k = k} x s given r ask way) = quiet _ _ (answer_none x _ x.live.parent)
-carry_on p input (steps.Calls {k = k} x s given i table ask way) = execs_so k x i _ given
+carry_on p input (steps.Calls {k = k} x s given i table ask way) = execs_so k x i (errands.Statement (passed_on s table) given)
 carry_on p input (steps.Opens {k = k} x s given node link table ask way) = (tt, tt)
-carry_on p input (steps.Goes_on {k = k} x from strength g link opened) = execs_so k (with_edge x (new_edge from link strength)) (length x.live.edges + 1) g.statement (g.room - 1)
+carry_on p input (steps.Goes_on {k = k} x from strength g link opened) = execs_so k (with_edge x (new_edge from link strength)) (length x.live.edges + 1) (less_room g.errand)
 carry_on p input (steps.Hears_reply {k = k} x weight count a i e answered) = quiet _ _ (answer_none (hears_reply x i weight count e) _ x.live.parent)
-carry_on p input (steps.Opens_branch to parent edge root depth came new) = (tt, tt)
+carry_on p input (steps.Backs {k = k} x step from i calls next) = execs_so k x i (errands.GoBack step)
+carry_on p input (steps.Is_back {k = k} x step from calls none) = quiet _ _ (answer_none x _ x.live.parent)
+carry_on p input (steps.Opens_branch to parent edge root depth read_at came new) = (tt, tt)
 carry_on p input (steps.Acts {k = k} l q a why) = acts_carry k l q a (acting_busy why)
 carry_on p input (steps.Drops_told {k = k} l live drops) = quiet _ _ (rolls_none l _)
 carry_on p input (steps.Drops_asked {k = k} l from live came parent) = (tt, quiet _ _ (rolls_none l _))
@@ -145,7 +154,7 @@ carry_on p input (steps.Does {k = k} s from nexts.Forget kept why) = quiet _ _ (
 carry_on p input (steps.Does s from nexts.SayForgotten kept why) = (tt, tt)
 carry_on p input (steps.Does s from nexts.SayAck kept why) = (tt, tt)
 carry_on p input (steps.Does s from nexts.Rest kept why) = tt
-carry_on p input (steps.Rolls_back {k = k} n x call has live) = quiet _ _ (rolls_none x.live _)
+carry_on p input (steps.Leaves {k = k} n s d x call ends has live) = quiet _ _ (rolls_none x.live _)
 carry_on p input (steps.Gives_up n x gives has calls live) = tt
 carry_on p input (steps.Gives_up_commit {k = k} n b (Some l) gives has calls live) = quiet _ _ (rolls_none l _)
 carry_on p input (steps.Gives_up_commit n b None gives has calls live) = tt
@@ -158,3 +167,6 @@ carry_on p input (steps.Forces_commit n id b call named) = tt
 carry_on p input (steps.Forces_rollback n id b call named) = tt
 carry_on p input (steps.Hides n mixed id s call found) = tt
 carry_on p input (steps.Advises n a call) = tt
+carry_on p input (steps.Sets_read_only n call) = tt
+carry_on p input (steps.Sets_savepoint n x name call has code live) = tt
+carry_on p input (steps.Images checkpoint) = tt

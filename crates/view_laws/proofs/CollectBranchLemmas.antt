@@ -10,6 +10,7 @@ use Rattle.node_rules.specs.Data.kinds
 use Rattle.node_rules.specs.declared.session.PendingCall.TheVariants as pending
 use Rattle.node_rules.specs.Data.phases
 use Rattle.node_rules.specs.Data.stmts
+use Rattle.node_rules.specs.Data.tasks
 use Rattle.node_rules.specs.Words.{is_item_of, item_at, same}
 use Rattle.node_rules.specs.Calls.{on_exec}
 use Rattle.node_rules.specs.Client.{new_root}
@@ -25,7 +26,7 @@ use Rattle.run_rules.specs.Data.happenings
 use Rattle.run_rules.specs.Facts.{node_at}
 use Rattle.run_rules.specs.Lawful.{History, IsLawfulRun, facts_at}
 use Rattle.run_rules.specs.Tree.{plan}
-use Rattle.run_rules.specs.Trail.{begun_in_turn, root_seen}
+use Rattle.run_rules.specs.Trail.{begun_in_turn, root_seen, strength_at}
 use Rattle.run_rules.proofs.AtNodeLemmas.{turn_elsewhere}
 use Rattle.run_base_laws.specs.BirthLaws.{Began, GoesSo, IsChild, LiveIs, StandsBelow}
 use Rattle.run_base_laws.specs.RunEvents.{events_of, lives_at}
@@ -44,18 +45,17 @@ use Rattle.tree_laws.proofs.FateLemmas.{among_found}
 use Rattle.tree_laws.proofs.PrefixLemmas.{one_on}
 use Rattle.tree_laws.proofs.TimeLemmas.{born_end, exit_end}
 use Rattle.tree_trail_laws.specs.OwnLaws.{TracesRoots}
-use Rattle.tree_trail_laws.specs.SeenLaws as seen
 use Rattle.tree_trail_laws.proofs.AtTrail.{at_trail}
 use Rattle.tree_trail_laws.proofs.CallLemmas.{call_free, seen_root}
 use Rattle.tree_trail_laws.proofs.ChildTurnLemmas as kids
 use Rattle.tree_trail_laws.proofs.MomentLemmas.{at_moment}
 use Rattle.tree_trail_laws.proofs.OwnCallLemmas.{found_calls}
+use Rattle.tree_trail_laws.proofs.OwnFollowLemmas.{owns_at}
 use Rattle.tree_trail_laws.proofs.OwnKnowLemmas.{Knows}
 use Rattle.tree_trail_laws.proofs.OwnTurnLemmas as turns
 use Rattle.tree_trail_laws.proofs.OwnTurnLemmas.{Owns}
 use Rattle.tree_trail_laws.proofs.PlanLemmas.{find_more, plan_here}
 use Rattle.tree_trail_laws.proofs.SeenLemmas.{seen_begun, seen_turned, turned}
-use Rattle.tree_trail_laws.proofs.SeenRunLemmas.{all_is_seen}
 use Rattle.tree_trail_laws.proofs.TopBirthLemmas.{IsBorn, TurnBegins, None_begins, Root_begins, Child_begins, view}
 use Rattle.tree_trail_laws.proofs.TopFollowLemmas.{tops_at}
 use Rattle.tree_trail_laws.proofs.TopTurnLemmas.{Tops}
@@ -82,7 +82,7 @@ module _ (t : History) (whole : IsLawfulRun t) where
     roots0 = at_moment t (λ places f tr h. TracesRoots places f tr) (roots_of t whole) hs (happenings.Turn u) rest is
 
     pub owns0 : Owns f0 tr0
-    owns0 = record { owns = (at_moment t (λ places f tr h. seen.Sees f tr) (all_is_seen t whole) hs (happenings.Turn u) rest is).owns; calls = now.calls }
+    owns0 = owns_at t whole (roots_of t whole) hs part0
 
     pub tells : kids.Tells t whole hs
     tells = turns.tells t whole hs u rest is roots0 owns0
@@ -100,7 +100,7 @@ module _ (t : History) (whole : IsLawfulRun t) where
         let before : node_at f0 n ≡ Some j = sym (turn_elsewhere t.places t.commands f0 (run_stands s0 lawful0).0.even u n other).0 ∙ up in
         let was : LiveGot tr0 g0 l = now.lives n j before l live in
         let own : l.me.node ≡ n = all_found (λ (y : Live). y.me.node ≡ n) live_id j.lives l.me l (ids_name_their_node s0 lawful0 n j before).lives live in
-        let not_here : ExecCame u.input l.me → ⊥ = (λ exec. other (sym (came_here f0 k u.node u.input u.took may.1.comes exec.0 l.me (kinds.Exec exec.1 exec.2 exec.3 exec.4) exec.5) ∙ own)) in
+        let not_here : ExecCame u.input l.me → ⊥ = (λ exec. other (sym (came_here f0 k u.node u.input u.took may.1.comes exec.0 l.me (kinds.Exec exec.1 (tasks.Run exec.2 exec.3 exec.4)) exec.5) ∙ own)) in
         record {
           told = (turned t.places f0 tr0 u was.told.0, seen_turned t.places f0 tr0 u l.me was.told.0 was.told.1, was.told.2, was.told.3);
           advice = was.advice ∙ sym (none_gives tr0 l.me (g0.advice l.me) u.input not_here);
@@ -115,6 +115,7 @@ module _ (t : History) (whole : IsLawfulRun t) where
     heard_lives (inputs.Call n s) = refl
     heard_lives (inputs.GiveUp n) = refl
     heard_lives inputs.Reco = refl
+    heard_lives inputs.Checkpoint = refl
 
     back : (b : BranchId) (o : Option Live) → live_at k1 b ≡ o → live_at k b ≡ o
     back b o live = ap (λ ls. item_at live_id ls b) (sym (heard_lives u.input)) ∙ live
@@ -191,7 +192,7 @@ module _ (t : History) (whole : IsLawfulRun t) where
           -- an Exec comes to none but a child
           exec_below : ExecCame u.input l.me → l.parent ≡ None → ⊥
           exec_below exec top =
-              let child : IsChild (Began bs0) l.me exec.0 = goes_so exec.0 l.me (kinds.Exec exec.1 exec.2 exec.3 exec.4) exec.5 in
+              let child : IsChild (Began bs0) l.me exec.0 = goes_so exec.0 l.me (kinds.Exec exec.1 (tasks.Run exec.2 exec.3 exec.4)) exec.5 in
               let at : born_at bs0 l.me ≡ Some child.0 = subst (λ c. born_at bs0 c ≡ Some child.0) child.2 child.1 in
               let both : Some child.0 ≡ Some born0.born = sym at ∙ at0 in
               let one : child.0 ≡ born0.born = cc in
@@ -199,27 +200,30 @@ module _ (t : History) (whole : IsLawfulRun t) where
               cc (above, top)
 
           -- the advice that an Exec brings
-          exec_so : (from : BranchId) (call given : ℕ) (advice : Option Advice) (s : Stmt) → Came u.input from l.me (kinds.Exec call given advice s) → l.advice ≡ g1.advice l.me
+          exec_so : (from : BranchId) (call given : ℕ) (advice : Option Advice) (s : Stmt) → Came u.input from l.me (kinds.Exec call (tasks.Run given advice s)) → l.advice ≡ g1.advice l.me
           exec_so from call given advice s came =
-              let k2 : NodeState = heard k (inputs.Message (record { from = from; to = l.me; scn = came.scn; kind = kinds.Exec call given advice s })) in
+              let k2 : NodeState = heard k (inputs.Message (record { from = from; to = l.me; scn = came.scn; kind = kinds.Exec call (tasks.Run given advice s) })) in
               let z_live : live_at k2 z.me ≡ Some z = subst (λ c. live_at k c ≡ Some z) (sym me) there in
               let x : Branch = record { live = z; work = work_at k2 z.me } in
               let found : branch_at k2 z.me ≡ Some x = ap (with_work k2) z_live in
-              let after : live_at (draft_of p k (inputs.Message (record { from = from; to = l.me; scn = came.scn; kind = kinds.Exec call given advice s }))).after l.me ≡ Some l = subst (λ i. live_at (draft_of p k i).after l.me ≡ Some l) came.is live in
-              let turned_at : live_at (kind_turn p k2 from z.me (kinds.Exec call given advice s) (status_of k2 z.me)).after z.me ≡ Some l
-              = subst (λ c. live_at (kind_turn p k2 from c (kinds.Exec call given advice s) (status_of k2 c)).after c ≡ Some l) (sym me) after in
-              let exec : live_at (on_exec p k2 x from call given advice s).after z.me ≡ Some l = subst (λ stand. live_at (kind_turn p k2 from z.me (kinds.Exec call given advice s) stand).after z.me ≡ Some l) (stands_live k2 x found) turned_at in
+              let after : live_at (draft_of p k (inputs.Message (record { from = from; to = l.me; scn = came.scn; kind = kinds.Exec call (tasks.Run given advice s) }))).after l.me ≡ Some l = subst (λ i. live_at (draft_of p k i).after l.me ≡ Some l) came.is live in
+              let turned_at : live_at (kind_turn p k2 from z.me (kinds.Exec call (tasks.Run given advice s)) (status_of k2 z.me)).after z.me ≡ Some l
+              = subst (λ c. live_at (kind_turn p k2 from c (kinds.Exec call (tasks.Run given advice s)) (status_of k2 c)).after c ≡ Some l) (sym me) after in
+              let exec : live_at (on_exec p k2 x from call (tasks.Run given advice s)).after z.me ≡ Some l = subst (λ stand. live_at (kind_turn p k2 from z.me (kinds.Exec call (tasks.Run given advice s)) stand).after z.me ≡ Some l) (stands_live k2 x found) turned_at in
               let known : Knows k tr0 z.me = turns.known t whole hs u rest is roots0 owns0 u.node k may.1.up z (subst (λ c. live_at k c ≡ Some z) (sym me) there) in
               let seen_it : seen_at tr0 l.me ≡ Some known.seen = subst (λ c. seen_at tr0 c ≡ Some known.seen) me known.at in
-              let last : x.work.came.last_call ≡ known.seen.taken = found_calls k2 x found ∙ sym known.taken in
+              let same_one : known.seen ≡ was.told.0 = (let both : Some known.seen ≡ Some was.told.0 = sym known.at ∙ was.told.1 in cc) in
+              let parent : known.seen.parent ≡ l.parent = ap (λ (y : Seen). y.parent) same_one ∙ (was.told.3 ∙ parent_same) in
+              let below : known.seen.parent ≢ None = (λ top. exec_below (from, call, given, advice, s, came) (sym parent ∙ top)) in
+              let last : x.work.came.last_call ≡ known.seen.taken = found_calls k2 x found ∙ sym (known.taken below) in
               exec_advice p k2 x found from call given advice s l exec
               ∙ (ap (λ n. if nat_lt n call then advice else z.advice) last
               ∙ (ap (λ a. if nat_lt known.seen.taken call then advice else a) advice_was ∙ sym (exec_gives tr0 l.me (g0.advice l.me) u.input from call given advice s came known.seen seen_it known.live)))
 
           -- ---- a COMMIT
 
-          by_commit : (n : ℕ) (given : Option (List ℕ)) → IsCall u.input n (stmts.Commit given) → HasRoot k1 n l.me → (session_at k1.sessions n).code ≡ None → l.comment ≡ unwrap_or given [] → IsPlanned tr1 g1 l.root l.comment
-          by_commit n given call has1 code1 comment =
+          by_commit : (n : ℕ) (given : Option (List ℕ)) → IsCall u.input n (stmts.Commit given) → HasRoot k1 n l.me → (session_at k1.sessions n).code ≡ None → z.read_at ≡ None → l.comment ≡ unwrap_or given [] → IsPlanned tr1 g1 l.root l.comment
+          by_commit n given call has1 code1 writer comment =
               let same_node : k1 ≡ k = ap (heard k) call in
               let has : HasRoot k n l.me = subst (λ j. HasRoot j n l.me) same_node has1 in
               let code : (session_at k.sessions n).code ≡ None = subst (λ (j : NodeState). (session_at j.sessions n).code ≡ None) same_node code1 in
@@ -233,9 +237,12 @@ module _ (t : History) (whole : IsLawfulRun t) where
               let no_call : (session_at k.sessions z.me.session).call ≡ pending.NoCall = subst (λ i. (session_at k.sessions i).call ≡ pending.NoCall) (sym session) free.1 in
               let working : z.phase ≡ phases.Working = (free_waits (session_at k.sessions z.me.session).call z.phase x.work.going waits no_call).0 in
               let told = roots0.tops u.node k may.1.up z z_live z_top in
+              let told_at : seen_at tr0 l.me ≡ Some told.0 = subst (λ c. seen_at tr0 c ≡ Some told.0) me told.1 in
+              let same_one : told.0 ≡ it.0 = (let both : Some told.0 ≡ Some it.0 = sym told_at ∙ it.4 in cc) in
+              let writes : it.0.read_at ≡ None = ap (λ (s : Seen). s.read_at) (sym same_one) ∙ (told.2.read_at ∙ writer) in
               let unplanned : plan_at tr0 l.me ≡ None = subst (λ c. plan_at tr0 c ≡ None) me (told.3 working) in
               let its : CommitPlan = plan t.places tr0 it.0.me in
-              let planned : plan_at tr1 it.0.me ≡ Some its = plan_here t.places f0 tr0 u k may.1.up n given call code it.0 it.1 (subst (λ c. plan_at tr0 c ≡ None) (sym it.2) unplanned) in
+              let planned : plan_at tr1 it.0.me ≡ Some its = plan_here t.places f0 tr0 u k may.1.up n given call code it.0 it.1 writes (subst (λ c. plan_at tr0 c ≡ None) (sym it.2) unplanned) in
               let some : plan_at tr1 l.me ≡ Some its = subst (λ c. plan_at tr1 c ≡ Some its) it.2 planned in
               let mine : IsPlanned tr1 g1 l.me (unwrap_or given []) = (some_not (plan_at tr1 l.me) its some, plan_gives tr0 tr1 l.me (g0.comment l.me) u.input unplanned its some n given call) in
               subst (IsPlanned tr1 g1 l.root) (sym comment) (subst (λ r. IsPlanned tr1 g1 r (unwrap_or given [])) (sym (own_root (sym parent_same ∙ z_top))) mine)
@@ -284,13 +291,13 @@ module _ (t : History) (whole : IsLawfulRun t) where
                 by : Got p u.input l.me k1 l → l.advice ≡ g0.advice l.me
                 by (Keeps z there (inl same) comment phase) = same ∙ advice_was z (back l.me (Some z) there)
                 by (Keeps z there (inr exec) comment phase) = absurd (none exec)
-                by (Commits z there same n given call has code comment) = same ∙ advice_was z (back l.me (Some z) there)
+                by (Commits z there same n given call has code writer comment) = same ∙ advice_was z (back l.me (Some z) there)
                 by (Prepares z there same from q came) = same ∙ advice_was z (back l.me (Some z) there)
                 by (Begins gone same phase not_exec) = same ∙ sym (now.unseen l.me (not_told (back l.me None gone)))
 
             with_exec : ExecCame u.input l.me → Got p u.input l.me k1 l → l.advice ≡ g1.advice l.me
             with_exec exec (Keeps z there same comment phase) = exec_so z (back l.me (Some z) there) exec.0 exec.1 exec.2 exec.3 exec.4 exec.5
-            with_exec exec (Commits z there same n given call has code comment) = (let came = exec.5.is in absurd (cc (came, call)))
+            with_exec exec (Commits z there same n given call has code writer comment) = (let came = exec.5.is in absurd (cc (came, call)))
             with_exec exec (Prepares z there same from q came) = (let it : false ≡ true = exec_kind exec came in absurd cc)
             with_exec exec (Begins gone same phase not_exec) = absurd (not_exec exec)
 
@@ -300,7 +307,7 @@ module _ (t : History) (whole : IsLawfulRun t) where
             by : Got p u.input l.me k1 l → l.advice ≡ None
             by (Keeps z there (inl same) comment phase) = same ∙ (was z (back l.me (Some z) there)).top (parent_same z (back l.me (Some z) there) ∙ top)
             by (Keeps z there (inr exec) comment phase) = absurd (exec_below z (back l.me (Some z) there) exec top)
-            by (Commits z there same n given call has code comment) = same ∙ (was z (back l.me (Some z) there)).top (parent_same z (back l.me (Some z) there) ∙ top)
+            by (Commits z there same n given call has code writer comment) = same ∙ (was z (back l.me (Some z) there)).top (parent_same z (back l.me (Some z) there) ∙ top)
             by (Prepares z there same from q came) = same ∙ (was z (back l.me (Some z) there)).top (parent_same z (back l.me (Some z) there) ∙ top)
             by (Begins gone same phase not_exec) = same
 
@@ -311,7 +318,7 @@ module _ (t : History) (whole : IsLawfulRun t) where
             by (Keeps z there advice same phase) =
                 let at : live_at k l.me ≡ Some z = back l.me (Some z) there in
                 planned_on l.root l.comment (subst (IsPlanned tr0 g0 l.root) (sym same) (subst (λ r. IsPlanned tr0 g0 r z.comment) (root_same z at) ((was z at).comment (λ working. busy (phase working)))))
-            by (Commits z there advice n given call has code comment) = by_commit z (back l.me (Some z) there) n given call has code comment
+            by (Commits z there advice n given call has code writer comment) = by_commit z (back l.me (Some z) there) n given call has code writer comment
             by (Prepares z there advice from q came) = by_prepare z (back l.me (Some z) there) from q came
             by (Begins gone advice phase not_exec) = absurd (busy phase)
 
@@ -321,7 +328,7 @@ module _ (t : History) (whole : IsLawfulRun t) where
             new_told : live_at k l.me ≡ None → (s : Seen) × (seen_at trb l.me ≡ Some s) × (s.root ≡ l.root) × (s.parent ≡ l.parent)
             new_told none = elim ((turns.opens_by t whole hs u rest is roots0 owns0 cut l live).new none) [
               | inl top ↦ by_root top (view t whole hs u rest is roots0.roots tops.counts tops.born cut)
-              | inr opened ↦ (newly_seen l.me opened.root (Some opened.parent), kids.opened_begun t whole hs u rest is tells cut l opened, sym opened.is_root, sym opened.is_parent)
+              | inr opened ↦ (newly_seen l.me opened.root (Some opened.parent) (strength_at f0 l.me.node) opened.read_at, kids.opened_begun t whole hs u rest is tells cut l opened, sym opened.is_root, sym opened.is_parent)
             ]
               where
                 known : Knows k1 trb l.me
@@ -333,7 +340,7 @@ module _ (t : History) (whole : IsLawfulRun t) where
                 by_root : l.parent ≡ None → TurnBegins t whole hs u rest is roots0.roots tops.counts tops.born (begun_in_turn f0 tr0 u) → (s : Seen) × (seen_at trb l.me ≡ Some s) × (s.root ≡ l.root) × (s.parent ≡ l.parent)
                 by_root top (None_begins nobody are) = (let nothing : item_at seen_id [] l.me ≡ Some known.seen = subst (λ ys. item_at seen_id ys l.me ≡ Some known.seen) are begun_one in absurd cc)
                 by_root top (Root_begins n s call rows range no_root are) =
-                    let one : root_seen (new_root p k n) ≡ known.seen = only_one (root_seen (new_root p k n)) l.me known.seen (subst (λ ys. item_at seen_id ys l.me ≡ Some known.seen) are begun_one) in
+                    let one : root_seen f0 u.node s (new_root p k n) ≡ known.seen = only_one (root_seen f0 u.node s (new_root p k n)) l.me known.seen (subst (λ ys. item_at seen_id ys l.me ≡ Some known.seen) are begun_one) in
                     (known.seen, known.at, ap (λ (y : Seen). y.root) (sym one) ∙ (ap (λ (y : Seen). y.me) one ∙ (item_is seen_id trb.seen l.me known.seen known.at ∙ sym (own_root top))), ap (λ (y : Seen). y.parent) (sym one) ∙ sym top)
                 by_root top (Child_begins y nobody its below alive untold are) =
                     let one : y ≡ known.seen = only_one y l.me known.seen (subst (λ ys. item_at seen_id ys l.me ≡ Some known.seen) are begun_one) in

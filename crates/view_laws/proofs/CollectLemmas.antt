@@ -8,6 +8,7 @@ use Rattle.node_rules.specs.Data.{Advice, BranchId, Kind, Live, Place, Stmt}
 use Rattle.node_rules.specs.Data.admits
 use Rattle.node_rules.specs.Data.kinds
 use Rattle.node_rules.specs.Data.phases
+use Rattle.node_rules.specs.Data.tasks
 use Rattle.node_rules.specs.Words.{item_at, same}
 use Rattle.node_rules.specs.Calls.{admit, exec_by, goes, on_exec, takes_call}
 use Rattle.node_rules.specs.Names.{Way, Runs_here, Over, Through, Nowhere_to, way_of}
@@ -16,7 +17,7 @@ use Rattle.node_rules.specs.Turn.{Is_live, live_or, status_of}
 use Rattle.node_rules.proofs.StandLemmas.{live_so}
 use Rattle.run_rules.specs.Births.{Born, births_of}
 use Rattle.run_rules.specs.Branches.{CommitPlan, Seen, Trail, plan_at, seen_at, seen_id}
-use Rattle.run_rules.specs.Data.{Happening, Turn}
+use Rattle.run_rules.specs.Data.{Happening}
 use Rattle.run_rules.specs.Data.happenings
 use Rattle.run_rules.specs.Each.{AtEach}
 use Rattle.run_rules.specs.Facts.{Facts, facts_after, node_at}
@@ -29,7 +30,6 @@ use Rattle.tree_trail_laws.specs.OwnLaws.{TracesRoots}
 use Rattle.tree_trail_laws.specs.SeenLaws as seen
 use Rattle.tree_trail_laws.specs.SeenLaws.{TracesOwns}
 use Rattle.tree_trail_laws.proofs.MomentLemmas.{at_moment, by_moment, tr_at, trail_one_on}
-use Rattle.tree_trail_laws.proofs.OwnTurnLemmas.{TellsCalls}
 use Rattle.tree_trail_laws.proofs.PlanLemmas.{plan_stays}
 use Rattle.tree_trail_laws.proofs.SeenRunLemmas.{all_is_seen}
 use Rattle.tree_trail_laws.proofs.TopFollowLemmas.{tops_follow}
@@ -42,21 +42,21 @@ module _ (p : Place) (k : NodeState) (x : Branch) (found : branch_at k x.live.me
   put_is : (l : Live) → l.advice ≡ advice → (o : Option Live) → o ≡ Some l → o ≡ Some y → y.advice ≡ advice
   put_is l same o is live = (let both : Some l ≡ Some y = sym is ∙ live in let one : l ≡ y = cc in ap (λ (z : Live). z.advice) (sym one) ∙ same)
 
-  goes_advice : (way : Way) → live_at (goes p k (takes_call x call advice) s given way).after x.live.me ≡ Some y → y.advice ≡ advice
+  goes_advice : (way : Way) → live_at (goes p k (takes_call x call (tasks.Run given advice s)) s given way).after x.live.me ≡ Some y → y.advice ≡ advice
   goes_advice (Runs_here t) live = put_is _ refl _ (put_found live_id k.lives _) live
-  goes_advice (Nowhere_to r) live = put_is _ refl _ (put_found live_id k.lives (takes_call x call advice).live) live
-  goes_advice (Over i table) live = put_is _ refl _ (put_found live_id k.lives (takes_call x call advice).live) live
-  goes_advice (Through node link table) live = put_is _ refl _ (put_found live_id k.lives (takes_call x call advice).live) live
+  goes_advice (Nowhere_to r) live = put_is _ refl _ (put_found live_id k.lives (takes_call x call (tasks.Run given advice s)).live) live
+  goes_advice (Over i table) live = put_is _ refl _ (put_found live_id k.lives (takes_call x call (tasks.Run given advice s)).live) live
+  goes_advice (Through node link table) live = put_is _ refl _ (put_found live_id k.lives (takes_call x call (tasks.Run given advice s)).live) live
 
-  pub exec_advice : live_at (on_exec p k x from call given advice s).after x.live.me ≡ Some y → y.advice ≡ (if nat_lt x.work.came.last_call call then advice else x.live.advice)
+  pub exec_advice : live_at (on_exec p k x from call (tasks.Run given advice s)).after x.live.me ≡ Some y → y.advice ≡ (if nat_lt x.work.came.last_call call then advice else x.live.advice)
   unfolding admit
   exec_advice live = by (nat_lt x.work.came.last_call call) _ live
     where
       same_one : live_at k x.live.me ≡ Some y → y.advice ≡ x.live.advice
       same_one live = (let both : Some x.live ≡ Some y = sym (live_so k x.live.me x found) ∙ live in let one : x.live ≡ y = cc in ap (λ (z : Live). z.advice) (sym one))
 
-      by : (q r : Bool) → live_at (exec_by p k x from call given advice s (if q then admits.Run else (if r then admits.Again else admits.Ignore))).after x.live.me ≡ Some y → y.advice ≡ (if q then advice else x.live.advice)
-      by true r live = goes_advice (way_of p k.stored.durable (takes_call x call advice).live given s) live
+      by : (q r : Bool) → live_at (exec_by p k x from call (tasks.Run given advice s) (if q then admits.Run else (if r then admits.Again else admits.Ignore))).after x.live.me ≡ Some y → y.advice ≡ (if q then advice else x.live.advice)
+      by true r live = goes_advice (way_of p k.stored.durable (takes_call x call (tasks.Run given advice s)).live given s) live
       by false true live = same_one live
       by false false live = same_one live
 
@@ -104,7 +104,6 @@ PrepareGot bs tr g to _ = Unit {0}
 pub record Gives (bs : List Born) (f : Facts) (tr : Trail) (g : Given) : Type 0 where
   pub lives : (n : ℕ) (k : NodeState) → node_at f n ≡ Some k → (l : Live) → live_at k l.me ≡ Some l → LiveGot tr g l
   pub said : AllByRecursion (λ x. PrepareGot bs tr g x.msg.to x.msg.kind) f.net.packets
-  pub calls : TellsCalls f tr
   pub unseen : (b : BranchId) → seen_at tr b ≡ None → g.advice b ≡ None
 
 pub some_not : {A : Type 0} (o : Option A) (a : A) → o ≡ Some a → o ≢ None

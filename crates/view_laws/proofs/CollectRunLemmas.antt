@@ -5,10 +5,8 @@ use Rattle.std.specs.List.{AllByRecursion}
 use Rattle.std.proofs.lemmas.Bool.{cases_eq}
 use Rattle.tran_ids.proofs.ListedLemmas.{item_is}
 use Rattle.tran_ids.proofs.NumberedLemmas.{set_or_before}
-use Rattle.agreement.specs.Events.{exit}
 use Rattle.node_rules.specs.Data.{BranchId, Kind, Live, Msg, Post}
 use Rattle.node_rules.specs.Data.kinds
-use Rattle.node_rules.specs.Words.{same}
 use Rattle.node_rules.specs.Calls.{goes}
 use Rattle.node_rules.specs.NodeState.{NodeState, live_at, live_id}
 use Rattle.node_rules.specs.Turn.{stamped, start_of, turn_of}
@@ -30,21 +28,17 @@ use Rattle.run_base_laws.proofs.SaidPostLemmas.{said_after}
 use Rattle.tree_laws.proofs.AtTurn.{at_turn}
 use Rattle.tree_laws.proofs.PrefixLemmas.{f_at, one_on, so_far}
 use Rattle.tree_laws.proofs.TimeLemmas.{Part, keep_on}
-use Rattle.tree_trail_laws.specs.SeenLaws as seen
 use Rattle.tree_trail_laws.proofs.AtTrail.{at_trail}
 use Rattle.tree_trail_laws.proofs.ChildTurnLemmas as kids
 use Rattle.tree_trail_laws.proofs.ChildTurnLemmas.{all_behind}
 use Rattle.tree_trail_laws.proofs.LowerRunLemmas.{stop_still}
-use Rattle.tree_trail_laws.proofs.MomentLemmas.{tr_at, trail_one_on}
-use Rattle.tree_trail_laws.proofs.OwnCallLemmas.{last_of}
-use Rattle.tree_trail_laws.proofs.OwnFollowLemmas.{turn_owns}
-use Rattle.tree_trail_laws.proofs.OwnTurnLemmas.{TellsCalls, taken_of}
+use Rattle.tree_trail_laws.proofs.MomentLemmas.{tr_at}
 use Rattle.tree_trail_laws.proofs.SeenLemmas.{item_mapped, seen_turned, stopped_me}
 use Rattle.tree_trail_laws.proofs.StartLemmas.{none_made, started_none}
 use Rattle.view_laws.specs.GivenColumns.{Given, given_after}
 use Rattle.view_laws.proofs.CarryLemmas.{CarriesSo, CarrySo, carry_on}
 use Rattle.view_laws.proofs.GivenLemmas.{g_at, unseen_gives}
-use Rattle.view_laws.proofs.CollectLemmas.{IsPlanned, LiveGot, PrepareGot, Gives, GivesAt, gives_at, prepare_on, planned_after, roots_of}
+use Rattle.view_laws.proofs.CollectLemmas.{IsPlanned, LiveGot, PrepareGot, Gives, GivesAt, gives_at, prepare_on, planned_after}
 use Rattle.view_laws.proofs.CollectBranchLemmas as branches
 
 module _ (t : History) (whole : IsLawfulRun t) where
@@ -115,11 +109,6 @@ module _ (t : History) (whole : IsLawfulRun t) where
             by None gone = refl
             by (Some s) some = (let later = seen_turned t.places f0 tr0 u b s some in absurd (cc (later, none)))
 
-    calls1 : TellsCalls f1 tr1
-    calls1 =
-        let it : TellsCalls (f_at t hs1) (tr_at t hs1) = (turn_owns t whole (roots_of t whole) hs u rest is (branches.owns0 t whole hs u rest is now)).calls in
-        subst (λ f. TellsCalls f tr1) (one_on t hs (happenings.Turn u)) (subst (TellsCalls (f_at t hs1)) (trail_one_on t hs (happenings.Turn u)) it)
-
     turn_gives : GivesAt t whole hs1
     turn_gives = gives_at t whole hs (happenings.Turn u) (record {
       lives = λ n j up l live. elim (cases_eq u.node n) [
@@ -128,7 +117,6 @@ module _ (t : History) (whole : IsLawfulRun t) where
       ];
       said = sent_after (λ m. PrepareGot bs1 tr1 g1 m.to m.kind) t.places t.commands f0 (happenings.Turn u) sent_got
           (all_weaker _ _ (λ x got. prepare_on t whole hs (happenings.Turn u) rest is x.msg.to x.msg.kind got) f0.net.packets now.said);
-      calls = calls1;
       unseen = unseen_so;
     })
       where
@@ -147,35 +135,28 @@ module _ (t : History) (whole : IsLawfulRun t) where
     same_gives : (g : Facts) (tr : Trail) (v : Given) → facts_after t.places t.commands (f_at t hs) h ≡ g → trail_after t.places (f_at t hs) (tr_at t hs) h ≡ tr → given_after t.places (f_at t hs) (tr_at t hs) h (g_at t hs) ≡ v
         → ((n : ℕ) (j : NodeState) → node_at g n ≡ Some j → (l : Live) → live_at j l.me ≡ Some l → node_at (f_at t hs) n ≡ Some j)
         → AllByRecursion (λ x. PrepareGot (births_of (so_far t (hs ++ h ∷ []))) (trail_after t.places (f_at t hs) (tr_at t hs) h) (given_after t.places (f_at t hs) (tr_at t hs) h (g_at t hs)) x.msg.to x.msg.kind) (facts_after t.places t.commands (f_at t hs) h).net.packets
-        → ((b : BranchId) (s : Seen) → seen_at (tr_at t hs) b ≡ Some s → (y : Seen) × (seen_at tr b ≡ Some y) × (y.root ≡ s.root) × (y.taken ≡ s.taken) × (y.parent ≡ s.parent)) → ((b : BranchId) → v.advice b ≡ (g_at t hs).advice b) → GivesAt t whole (hs ++ h ∷ [])
+        → ((b : BranchId) (s : Seen) → seen_at (tr_at t hs) b ≡ Some s → (y : Seen) × (seen_at tr b ≡ Some y) × (y.root ≡ s.root) × (y.parent ≡ s.parent)) → ((b : BranchId) → v.advice b ≡ (g_at t hs).advice b) → GivesAt t whole (hs ++ h ∷ [])
     same_gives g tr v facts trail given still said told advice =
         gives_at t whole hs h
         (subst (λ f. Gives (births_of (so_far t (hs ++ h ∷ []))) f (trail_after t.places (f_at t hs) (tr_at t hs) h) (given_after t.places (f_at t hs) (tr_at t hs) h (g_at t hs))) refl (record {
           lives = λ n j up l live. one n j (still n j (subst (λ f. node_at f n ≡ Some j) facts up) l live) l live;
           said = said;
-          calls = λ n j up l live. calls n j (still n j (subst (λ f. node_at f n ≡ Some j) facts up) l live) l live;
           unseen = λ b none. ap (λ (w : Given). w.advice b) given ∙ (advice b ∙ now.unseen b (before b (subst (λ x. seen_at x b ≡ None) trail none)));
         }))
       where
-        told_so : (b : BranchId) (s : Seen) → seen_at (tr_at t hs) b ≡ Some s → (y : Seen) × (seen_at (trail_after t.places (f_at t hs) (tr_at t hs) h) b ≡ Some y) × (y.root ≡ s.root) × (y.taken ≡ s.taken) × (y.parent ≡ s.parent)
-        told_so b s at = let it = told b s at in (it.0, subst (λ x. seen_at x b ≡ Some it.0) (sym trail) it.1, it.2, it.3, it.4)
+        told_so : (b : BranchId) (s : Seen) → seen_at (tr_at t hs) b ≡ Some s → (y : Seen) × (seen_at (trail_after t.places (f_at t hs) (tr_at t hs) h) b ≡ Some y) × (y.root ≡ s.root) × (y.parent ≡ s.parent)
+        told_so b s at = let it = told b s at in (it.0, subst (λ x. seen_at x b ≡ Some it.0) (sym trail) it.1, it.2, it.3)
 
         one : (n : ℕ) (j : NodeState) → node_at (f_at t hs) n ≡ Some j → (l : Live) → live_at j l.me ≡ Some l → LiveGot (trail_after t.places (f_at t hs) (tr_at t hs) h) (given_after t.places (f_at t hs) (tr_at t hs) h (g_at t hs)) l
         one n j up l live =
             let was : LiveGot (tr_at t hs) (g_at t hs) l = now.lives n j up l live in
             let it = told_so l.me was.told.0 was.told.1 in
             record {
-              told = (it.0, it.1, it.2 ∙ was.told.2, it.4 ∙ was.told.3);
+              told = (it.0, it.1, it.2 ∙ was.told.2, it.3 ∙ was.told.3);
               advice = was.advice ∙ sym (ap (λ (w : Given). w.advice l.me) given ∙ advice l.me);
               top = was.top;
               comment = λ busy. planned_after t.places (f_at t hs) (tr_at t hs) (g_at t hs) h l.root l.comment (was.comment busy);
             }
-
-        calls : (n : ℕ) (j : NodeState) → node_at (f_at t hs) n ≡ Some j → (l : Live) → live_at j l.me ≡ Some l → taken_of (seen_at (trail_after t.places (f_at t hs) (tr_at t hs) h) l.me) ≡ last_of j l.me
-        calls n j up l live =
-            let was = (now.lives n j up l live).told in
-            let it = told_so l.me was.0 was.1 in
-            ap taken_of it.1 ∙ (it.3 ∙ (sym (ap taken_of was.1) ∙ now.calls n j up l live))
 
         before : (b : BranchId) → seen_at tr b ≡ None → seen_at (tr_at t hs) b ≡ None
         before b none = by (seen_at (tr_at t hs) b) refl
@@ -187,12 +168,12 @@ module _ (t : History) (whole : IsLawfulRun t) where
     old_said : AllByRecursion (λ x. PrepareGot (births_of (so_far t (hs ++ h ∷ []))) (trail_after t.places (f_at t hs) (tr_at t hs) h) (given_after t.places (f_at t hs) (tr_at t hs) h (g_at t hs)) x.msg.to x.msg.kind) (f_at t hs).net.packets
     old_said = all_weaker _ _ (λ x got. prepare_on t whole hs h rest is x.msg.to x.msg.kind got) (f_at t hs).net.packets now.said
 
-  stopped_told : (n : ℕ) (s : Seen) → ((stopped_by n s).root ≡ s.root) × ((stopped_by n s).taken ≡ s.taken) × ((stopped_by n s).parent ≡ s.parent)
+  stopped_told : (n : ℕ) (s : Seen) → ((stopped_by n s).root ≡ s.root) × ((stopped_by n s).parent ≡ s.parent)
   stopped_told n s = by (is_live_at n s)
     where
-      by : (q : Bool) → ((if q then record s { exit = Some Dropped } else s).root ≡ s.root) × ((if q then record s { exit = Some Dropped } else s).taken ≡ s.taken) × ((if q then record s { exit = Some Dropped } else s).parent ≡ s.parent)
-      by true = (refl, refl, refl)
-      by false = (refl, refl, refl)
+      by : (q : Bool) → ((if q then record s { exit = Some Dropped } else s).root ≡ s.root) × ((if q then record s { exit = Some Dropped } else s).parent ≡ s.parent)
+      by true = (refl, refl)
+      by false = (refl, refl)
 
   abbrev PreparesSo : List Happening → Happening → Msg → Type 0
   PreparesSo hs h m = PrepareGot (births_of (so_far t (hs ++ h ∷ []))) (trail_after t.places (f_at t hs) (tr_at t hs) h) (given_after t.places (f_at t hs) (tr_at t hs) h (g_at t hs)) m.to m.kind
@@ -203,7 +184,7 @@ module _ (t : History) (whole : IsLawfulRun t) where
   gives_on hs (happenings.Stopped n) rest is now =
       same_gives hs (happenings.Stopped n) rest is now _ _ _ refl refl refl (λ m j up l live. stop_still t whole (f_at t hs) n m j up)
       (sent_after (PreparesSo hs (happenings.Stopped n)) t.places t.commands (f_at t hs) (happenings.Stopped n) tt (old_said hs (happenings.Stopped n) rest is now))
-      (λ b s at. (let it = stopped_told n s in (stopped_by n s, item_mapped seen_id (stopped_by n) (stopped_me n) (tr_at t hs).seen b s at, it.0, it.1, it.2))) (λ b. refl)
+      (λ b s at. (let it = stopped_told n s in (stopped_by n s, item_mapped seen_id (stopped_by n) (stopped_me n) (tr_at t hs).seen b s at, it.0, it.1))) (λ b. refl)
   gives_on hs (happenings.Started n boot) rest is now =
       same_gives hs (happenings.Started n boot) rest is now _ _ _ refl refl refl
       (λ m j up l live. elim (set_or_before (f_at t hs).nodes n m (Some (start_of (with_boot (f_at t hs) n boot)))) [
@@ -211,23 +192,23 @@ module _ (t : History) (whole : IsLawfulRun t) where
         | inr new ↦ absurd (started_none (f_at t hs) n boot m j l new.1 up live)
       ])
       (sent_after (PreparesSo hs (happenings.Started n boot)) t.places t.commands (f_at t hs) (happenings.Started n boot) tt (old_said hs (happenings.Started n boot) rest is now))
-      (λ b s at. (s, at, refl, refl, refl)) (λ b. refl)
+      (λ b s at. (s, at, refl, refl)) (λ b. refl)
   gives_on hs (happenings.Begun c) rest is now =
       same_gives hs (happenings.Begun c) rest is now _ _ _ refl refl refl (λ m j up l live. up)
-      (sent_after (PreparesSo hs (happenings.Begun c)) t.places t.commands (f_at t hs) (happenings.Begun c) tt (old_said hs (happenings.Begun c) rest is now)) (λ b s at. (s, at, refl, refl, refl)) (λ b. refl)
+      (sent_after (PreparesSo hs (happenings.Begun c)) t.places t.commands (f_at t hs) (happenings.Begun c) tt (old_said hs (happenings.Begun c) rest is now)) (λ b s at. (s, at, refl, refl)) (λ b. refl)
   gives_on hs (happenings.Cut x y) rest is now =
       same_gives hs (happenings.Cut x y) rest is now _ _ _ refl refl refl (λ m j up l live. up)
-      (sent_after (PreparesSo hs (happenings.Cut x y)) t.places t.commands (f_at t hs) (happenings.Cut x y) tt (old_said hs (happenings.Cut x y) rest is now)) (λ b s at. (s, at, refl, refl, refl)) (λ b. refl)
+      (sent_after (PreparesSo hs (happenings.Cut x y)) t.places t.commands (f_at t hs) (happenings.Cut x y) tt (old_said hs (happenings.Cut x y) rest is now)) (λ b s at. (s, at, refl, refl)) (λ b. refl)
   gives_on hs (happenings.Join x y) rest is now =
       same_gives hs (happenings.Join x y) rest is now _ _ _ refl refl refl (λ m j up l live. up)
-      (sent_after (PreparesSo hs (happenings.Join x y)) t.places t.commands (f_at t hs) (happenings.Join x y) tt (old_said hs (happenings.Join x y) rest is now)) (λ b s at. (s, at, refl, refl, refl)) (λ b. refl)
+      (sent_after (PreparesSo hs (happenings.Join x y)) t.places t.commands (f_at t hs) (happenings.Join x y) tt (old_said hs (happenings.Join x y) rest is now)) (λ b s at. (s, at, refl, refl)) (λ b. refl)
   gives_on hs (happenings.Lost x) rest is now =
       same_gives hs (happenings.Lost x) rest is now _ _ _ refl refl refl (λ m j up l live. up)
-      (sent_after (PreparesSo hs (happenings.Lost x)) t.places t.commands (f_at t hs) (happenings.Lost x) tt (old_said hs (happenings.Lost x) rest is now)) (λ b s at. (s, at, refl, refl, refl)) (λ b. refl)
+      (sent_after (PreparesSo hs (happenings.Lost x)) t.places t.commands (f_at t hs) (happenings.Lost x) tt (old_said hs (happenings.Lost x) rest is now)) (λ b s at. (s, at, refl, refl)) (λ b. refl)
 
   first_gives : GivesAt t whole []
   unfolding facts_of trail_of start_of
-  first_gives = record { lives = λ n k up l live. absurd (none_made t.places n k l up live); said = tt; calls = λ n k up l live. absurd (none_made t.places n k l up live); unseen = λ b none. refl }
+  first_gives = record { lives = λ n k up l live. absurd (none_made t.places n k l up live); said = tt; unseen = λ b none. refl }
 
   pub all_given : (hs : List Happening) → Part t whole hs → GivesAt t whole hs
   all_given hs part = keep_on t whole (GivesAt t whole) gives_on [] hs part first_gives

@@ -54,6 +54,7 @@ kept_of d (records.Forced b o given) = refl
 kept_of d (records.Met b o mixed) = refl
 kept_of d (records.Forgot b) = refl
 kept_of d (records.Hidden b) = refl
+kept_of d (records.Image i) = refl
 
 -- the rows of these records are those that they say
 abbrev pub SaysRows : List RedoRecord → Type 0

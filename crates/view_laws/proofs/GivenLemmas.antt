@@ -7,6 +7,7 @@ use Rattle.node_rules.specs.Data.{Advice, BranchId, Input, Kind, Place, Stmt}
 use Rattle.node_rules.specs.Data.inputs
 use Rattle.node_rules.specs.Data.kinds
 use Rattle.node_rules.specs.Data.stmts
+use Rattle.node_rules.specs.Data.tasks
 use Rattle.node_rules.specs.Inputs.{Came, IsCall}
 use Rattle.node_rules.specs.Words.{same}
 use Rattle.run_rules.specs.Branches.{CommitPlan, Seen, Trail, no_trail, plan_at, seen_at}
@@ -38,13 +39,13 @@ module _ (t : History) where
 
 -- ---- advice
 
--- an Exec comes to a branch, or none
+-- an Exec that runs a statement comes to a branch, or none
 pub exec_or_none : (b : BranchId) (input : Input) → (ExecCame input b → ⊥) ⊎ ExecCame input b
 exec_or_none b (inputs.Message m) = by (same m.to b) refl m.kind refl
   where
     by : (q : Bool) → same m.to b ≡ q → (kind : Kind) → m.kind ≡ kind → (ExecCame (inputs.Message m) b → ⊥) ⊎ ExecCame (inputs.Message m) b
     by false other kind is = inl (λ exec. (let both = exec.5.is in let to : m.to ≡ b = cc in let here : same m.to b ≡ true = same_from_equal m.to b to in cc (here, other)))
-    by true here (kinds.Exec call given advice s) is =
+    by true here (kinds.Exec call (tasks.Run given advice s)) is =
         let to : m.to ≡ b = equal_from_same m.to b here in
         inr (
           m.from,
@@ -54,10 +55,11 @@ exec_or_none b (inputs.Message m) = by (same m.to b) refl m.kind refl
           s,
           record { scn = m.scn; is = ap (λ c. inputs.Message (record { from = m.from; to = c; scn = m.scn; kind = m.kind })) to ∙ ap (λ kind. inputs.Message (record { from = m.from; to = b; scn = m.scn; kind = kind })) is },
         )
-    by true here _ is = inl (λ exec. (let both = exec.5.is in let kind : m.kind ≡ kinds.Exec exec.1 exec.2 exec.3 exec.4 = cc in cc (kind, is)))
+    by true here _ is = inl (λ exec. (let both = exec.5.is in let kind : m.kind ≡ kinds.Exec exec.1 (tasks.Run exec.2 exec.3 exec.4) = cc in cc (kind, is)))
 exec_or_none b (inputs.Call n s) = inl (λ exec. (let is = exec.5.is in cc))
 exec_or_none b (inputs.GiveUp n) = inl (λ exec. (let is = exec.5.is in cc))
 exec_or_none b inputs.Reco = inl (λ exec. (let is = exec.5.is in cc))
+exec_or_none b inputs.Checkpoint = inl (λ exec. (let is = exec.5.is in cc))
 
 -- a statement that comes to a branch, if it takes it
 abbrev asks_if : Seen → Stmt → Bool → Option Asking
@@ -69,7 +71,7 @@ module _ (tr : Trail) (b : BranchId) (now : Option Advice) where
     where
       by : (q : Bool) → same m.to b ≡ q → (kind : Kind) → m.kind ≡ kind → (if q && is_some (asks_by tr m.to kind) then advice_brought kind else now) ≡ now
       by false other kind is = refl
-      by true here (kinds.Exec call given advice s) is =
+      by true here (kinds.Exec call (tasks.Run given advice s)) is =
           absurd (not (
             m.from,
             call,
@@ -82,13 +84,14 @@ module _ (tr : Trail) (b : BranchId) (now : Option Advice) where
   none_gives (inputs.Call n s) not = refl
   none_gives (inputs.GiveUp n) not = refl
   none_gives inputs.Reco not = refl
+  none_gives inputs.Checkpoint not = refl
 
   -- an Exec to a live branch
-  pub exec_gives : (input : Input) (from : BranchId) (call given : ℕ) (advice : Option Advice) (s : Stmt) → Came input from b (kinds.Exec call given advice s) → (seen : Seen) → seen_at tr b ≡ Some seen → seen.exit ≡ None
+  pub exec_gives : (input : Input) (from : BranchId) (call given : ℕ) (advice : Option Advice) (s : Stmt) → Came input from b (kinds.Exec call (tasks.Run given advice s)) → (seen : Seen) → seen_at tr b ≡ Some seen → seen.exit ≡ None
       → advice_after tr b now input ≡ (if nat_lt seen.taken call then advice else now)
   exec_gives input from call given advice s came seen at live =
       ap (advice_after tr b now) came.is
-      ∙ (ap (λ q. if q && is_some (asks_by tr b (kinds.Exec call given advice s)) then advice else now) (same_from_equal b b refl)
+      ∙ (ap (λ q. if q && is_some (asks_by tr b (kinds.Exec call (tasks.Run given advice s))) then advice else now) (same_from_equal b b refl)
       ∙ (ap (λ o. if is_some (asks_branch call s o) then advice else now) at
       ∙ (ap (λ o. if is_some (asks_if seen s (is_none o && nat_lt seen.taken call)) then advice else now) live ∙ by (nat_lt seen.taken call))))
     where
@@ -102,12 +105,13 @@ module _ (tr : Trail) (b : BranchId) (now : Option Advice) where
     where
       by : (q : Bool) → same m.to b ≡ q → (kind : Kind) → (if q && is_some (asks_by tr m.to kind) then advice_brought kind else now) ≡ now
       by false other kind = refl
-      by true here (kinds.Exec call given advice s) =
+      by true here (kinds.Exec call (tasks.Run given advice s)) =
           let unseen : seen_at tr m.to ≡ None = ap (seen_at tr) (equal_from_same m.to b here) ∙ none in ap (λ o. if is_some (asks_branch call s o) then advice else now) unseen
       by true here _ = refl
   unseen_gives (inputs.Call n s) none = refl
   unseen_gives (inputs.GiveUp n) none = refl
   unseen_gives inputs.Reco none = refl
+  unseen_gives inputs.Checkpoint none = refl
 
 -- ---- comments
 

@@ -156,6 +156,7 @@ module _ (n : ℕ) where
   arms_same t k (inputs.Message m) = itself t
   arms_same t k (inputs.GiveUp session) = itself t
   arms_same t k inputs.Reco = itself t
+  arms_same t k inputs.Checkpoint = itself t
 
   appends_same : (t : RunReport) (input : Input) (k : Option NodeState) (o : Option TurnOutput) → Same t (turn_appends t n input k o)
   appends_same t input (Some k) (Some o) = same_on (cut_same t _ (cut_by t n k input o)) (arms_same _ k input)
@@ -187,6 +188,7 @@ input_lasts running t node (inputs.Call session statement) = pending_lasts runni
 input_lasts running t node (inputs.Message m) = same_lasts t t refl refl
 input_lasts running t node (inputs.GiveUp session) = same_lasts t t refl refl
 input_lasts running t node inputs.Reco = same_lasts t t refl refl
+input_lasts running t node inputs.Checkpoint = same_lasts t t refl refl
 
 -- a call that is found is of such a command
 found_below : (m : ℕ) (q : Call → Bool) (cs : List Call) (c : Call) → find q cs ≡ Some c → AreBelow m cs → c.command < m
@@ -230,6 +232,7 @@ module _ (running : ℕ) (k : Option NodeState) (t : RunReport) (u : Turn) (o : 
     not_waiting w less (inputs.Message m) = stays w
     not_waiting w less (inputs.GiveUp session) = stays w
     not_waiting w less inputs.Reco = stays w
+    not_waiting w less inputs.Checkpoint = stays w
 
     ends_grow : (cut : Bool) (x : Option TurnOutput) → Grows v (ends_calls running v u cut x)
     ends_grow true x = stays v

@@ -84,6 +84,7 @@ says_one b (records.Table t) = refl
 says_one b (records.Link l) = refl
 says_one b (records.Synonym y) = refl
 says_one b (records.Param p) = refl
+says_one b (records.Image i) = refl
 
 pub one_of_none : (r : RedoRecord) → one false r ≡ nothing_said
 one_of_none (records.Sealed r) = refl
@@ -100,6 +101,7 @@ one_of_none (records.Table t) = refl
 one_of_none (records.Link l) = refl
 one_of_none (records.Synonym y) = refl
 one_of_none (records.Param p) = refl
+one_of_none (records.Image i) = refl
 
 pub says_more : (rs : List RedoRecord) (r : RedoRecord) (b : BranchId) → says (rs ++ r ∷ []) b ≡ plus (says rs b) (one (about b r) r)
 says_more rs r b = says_on b (r ∷ []) rs ∙ ap (plus (says rs b)) (says_one b r)
@@ -216,6 +218,7 @@ module _ (b : BranchId) (ks : List KeptRow) where
   untouched (records.Link l) other = refl
   untouched (records.Synonym y) other = refl
   untouched (records.Param p) other = refl
+  untouched (records.Image i) other = refl
 
   module _ (s : Says) (now : row_at ks ≡ row_with s) (single : count_of kept_row_id b ks ≤ 1) where
     own_row : (r : RedoRecord) → about b r ≡ true → Fits s r → row_at (kept_after ks r) ≡ row_with (plus s (one true r))

@@ -93,6 +93,7 @@ stood_now e n (records.Table t) may untaught shown = tt
 stood_now e n (records.Link l) may untaught shown = tt
 stood_now e n (records.Synonym y) may untaught shown = tt
 stood_now e n (records.Param p) may untaught shown = tt
+stood_now e n (records.Image i) may untaught shown = tt
 
 -- ---- what is not said
 
@@ -117,6 +118,7 @@ module _ (e : List Event) (b : BranchId) where
       out (records.Link l) so is = cc
       out (records.Synonym y) so is = cc
       out (records.Param p) so is = cc
+      out (records.Image i) so is = cc
 
       by : (q : Bool) → about b r ≡ q → q ≡ false
       by true is = absurd (out r so is)
@@ -237,6 +239,7 @@ fits_so e rs all (records.Table t) may b here = tt
 fits_so e rs all (records.Link l) may b here = tt
 fits_so e rs all (records.Synonym y) may b here = tt
 fits_so e rs all (records.Param p) may b here = tt
+fits_so e rs all (records.Image i) may b here = tt
 
 -- ---- what is said of a commit
 

@@ -6,6 +6,7 @@ use Rattle.node_rules.specs.Data.{Advice, BranchId, Kind, Input, Place}
 use Rattle.node_rules.specs.Data.kinds
 use Rattle.node_rules.specs.Data.inputs
 use Rattle.node_rules.specs.Data.stmts
+use Rattle.node_rules.specs.Data.tasks
 use Rattle.node_rules.specs.Words.{same}
 use Rattle.run_rules.specs.Branches.{Trail, no_trail, plan_at}
 use Rattle.run_rules.specs.Data.{Command, Turn, Happening}
@@ -27,12 +28,12 @@ nothing_given = record { advice = λ b. None; advised = λ n session. None; comm
 
 -- ---- advice
 
--- the advice that an Exec brings
+-- the advice that an Exec brings which runs a statement
 abbrev pub advice_brought : Kind → Option Advice
-advice_brought (kinds.Exec call given advice s) = advice
+advice_brought (kinds.Exec call (tasks.Run given advice s)) = advice
 advice_brought _ = None
 
--- a branch has the advice of the last Exec that it took, which is one whose number comes to it for the first time
+-- a branch has the advice of the last statement that it took, with an Exec whose number comes to it for the first time
 abbrev pub advice_after : Trail → BranchId → Option Advice → Input → Option Advice
 advice_after tr b now (inputs.Message m) = if same m.to b && is_some (asks_by tr m.to m.kind) then advice_brought m.kind else now
 advice_after tr b now _ = now

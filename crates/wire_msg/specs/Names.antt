@@ -1,16 +1,19 @@
 -- The names of the kinds of messages, and how a script spells them. The messages are dtx's own; they carry the three
 -- phases of the Database Administrator's Guide, "Distributed Transactions Concepts".
-use Rattle.std.specs.Prelude.{ℕ, ◌==◌, Bool, List, codes}
+use Rattle.std.specs.Prelude.{ℕ, ◌==◌, Bool, List, Some, None, codes}
 use Rattle.wire_msg.specs.declared.kind.Kind.{Kind}
 use Rattle.wire_msg.specs.declared.kind.Kind.TheVariants as kinds
+use Rattle.wire_msg.specs.declared.task.Task.TheVariants as tasks
 use Rattle.wire_msg.specs.declared.kind.KindName.{KindName}
 use Rattle.wire_msg.specs.declared.kind.KindName.TheVariants as kind_names
 
--- the name of a message's kind
+-- the name of a message's kind: an Open tells the SCN of a READ ONLY transaction or no SCN, an Exec runs a statement or goes back
 abbrev pub name_of_kind : Kind → KindName
-name_of_kind (kinds.Open edge root depth) = kind_names.Open
+name_of_kind (kinds.Open edge root depth None) = kind_names.Open
+name_of_kind (kinds.Open edge root depth (Some scn)) = kind_names.OpenAt
 name_of_kind (kinds.Opened edge strength) = kind_names.Opened
-name_of_kind (kinds.Exec call given advice s) = kind_names.Exec
+name_of_kind (kinds.Exec call (tasks.Run given advice s)) = kind_names.Exec
+name_of_kind (kinds.Exec call (tasks.GoBack keep)) = kind_names.Back
 name_of_kind (kinds.Reply call weight count result) = kind_names.Reply
 name_of_kind (kinds.Prepare site_below comment) = kind_names.Prepare
 name_of_kind kinds.Prepared = kind_names.Prepared
@@ -45,6 +48,8 @@ place_of_kind kind_names.Ack = 14
 place_of_kind kind_names.Forgotten = 15
 place_of_kind kind_names.Rollback = 16
 place_of_kind kind_names.Ask = 17
+place_of_kind kind_names.OpenAt = 18
+place_of_kind kind_names.Back = 19
 
 -- whether two names are the same
 abbrev pub same_kind : KindName → KindName → Bool
@@ -69,3 +74,5 @@ kind_text kind_names.Ack = codes "ACK"
 kind_text kind_names.Forgotten = codes "FORGOTTEN"
 kind_text kind_names.Rollback = codes "ROLLBACK"
 kind_text kind_names.Ask = codes "ASK"
+kind_text kind_names.OpenAt = codes "OPENAT"
+kind_text kind_names.Back = codes "BACK"

@@ -24,6 +24,8 @@ pub enum Input {
     Message(Msg),
     /// The recoverer process RECO is called: the node asks about its branches in doubt.
     Reco,
+    /// A checkpoint: the node writes an image of what it stores.
+    Checkpoint,
 }
 
 impl Drop for Input {
@@ -36,6 +38,7 @@ impl Drop for Input {
             Input::GiveUp { session: _session } => {}
             Input::Message(msg) => drop(msg),
             Input::Reco => {}
+            Input::Checkpoint => {}
         }
     }
 }
@@ -53,6 +56,7 @@ impl Duplicate for Input {
             Input::GiveUp { session } => Ok(Input::GiveUp { session: *session }),
             Input::Message(msg) => Ok(Input::Message(msg.copy(alloc)?)),
             Input::Reco => Ok(Input::Reco),
+            Input::Checkpoint => Ok(Input::Checkpoint),
         }
     }
 }

@@ -2,8 +2,8 @@
 ghost use Rattle.std.specs.Prelude.{◌≡◌};
 ghost use Rattle.wire_msg.specs.Names.{kind_text, name_of_kind, place_of_kind, same_kind};
 
-use dtx_values::{Advice, Answer, Bytes, Duplicate};
-use sql_statement::Stmt;
+use crate::task::Task;
+use dtx_values::{Answer, Bytes, Duplicate};
 use std::alloc::{AllocError, Global};
 use tran_ids::BranchId;
 
@@ -17,6 +17,8 @@ pub enum Kind {
         root: BranchId,
         /// The depth of the new branch: 2 for a child of the root.
         depth: u8,
+        /// The SCN at which a READ ONLY transaction reads, and nothing of any other transaction.
+        read_at: Option<u64>,
     },
     /// The child is there: the answer to Open.
     Opened {
@@ -25,16 +27,12 @@ pub enum Kind {
         /// The commit point strength of the child's node.
         strength: u8,
     },
-    /// A statement for a child.
+    /// A call of a child.
     Exec {
         /// The number of the call on its edge, from 1.
         call: u32,
-        /// How many branches the session tree may still get.
-        room: u16,
-        /// The advice of the client's session, which DBA_2PC_PENDING shows at the child's node.
-        advice: Option<Advice>,
-        /// The statement. Its table is named as the child's node knows it.
-        statement: Stmt,
+        /// What the child is to do.
+        task: Task,
     },
     /// The answer to Exec.
     Reply {
@@ -90,17 +88,13 @@ impl Drop for Kind {
                 edge: _edge,
                 root: _root,
                 depth: _depth,
+                read_at: _read_at,
             } => {}
             Kind::Opened {
                 edge: _edge,
                 strength: _strength,
             } => {}
-            Kind::Exec {
-                call: _call,
-                room: _room,
-                advice: _advice,
-                statement,
-            } => drop(statement),
+            Kind::Exec { call: _call, task } => drop(task),
             Kind::Reply {
                 call: _call,
                 weight: _weight,
@@ -149,6 +143,8 @@ impl KindName {
             KindName::Forgotten => 15,
             KindName::Rollback => 16,
             KindName::Ask => 17,
+            KindName::OpenAt => 18,
+            KindName::Back => 19,
         }
     }
 
@@ -174,6 +170,8 @@ impl KindName {
             KindName::Forgotten => b"FORGOTTEN",
             KindName::Rollback => b"ROLLBACK",
             KindName::Ask => b"ASK",
+            KindName::OpenAt => b"OPENAT",
+            KindName::Back => b"BACK",
         }
     }
 }
@@ -181,28 +179,24 @@ impl KindName {
 impl Duplicate for Kind {
     fn copy(&self, alloc: Global) -> Result<Kind, AllocError> {
         match self {
-            Kind::Open { edge, root, depth } => Ok(Kind::Open {
+            Kind::Open {
+                edge,
+                root,
+                depth,
+                read_at,
+            } => Ok(Kind::Open {
                 edge: *edge,
                 root: *root,
                 depth: *depth,
+                read_at: *read_at,
             }),
             Kind::Opened { edge, strength } => Ok(Kind::Opened {
                 edge: *edge,
                 strength: *strength,
             }),
-            Kind::Exec {
-                call,
-                room,
-                advice,
-                statement,
-            } => {
-                let statement = statement.copy(alloc)?;
-                Ok(Kind::Exec {
-                    call: *call,
-                    room: *room,
-                    advice: *advice,
-                    statement,
-                })
+            Kind::Exec { call, task } => {
+                let task = task.copy(alloc)?;
+                Ok(Kind::Exec { call: *call, task })
             }
             Kind::Reply {
                 call,
@@ -244,7 +238,8 @@ impl Duplicate for Kind {
     }
 }
 
-/// The name of a kind of messages, as LOSE NEXT and SHOW NET use it. The kinds are described at [`Kind`].
+/// The name of a kind of messages, as LOSE NEXT and SHOW NET use it. The kinds are described at [`Kind`]. An Open of a READ
+/// ONLY transaction and an Exec that goes back have names of their own, OPENAT and BACK.
 #[derive(Clone, Copy, Debug, PartialEq, Eq)]
 pub enum KindName {
     Open,
@@ -264,6 +259,8 @@ pub enum KindName {
     Forgotten,
     Rollback,
     Ask,
+    OpenAt,
+    Back,
 }
 
 impl Duplicate for KindName {
@@ -278,9 +275,20 @@ impl Kind {
         ensures { result ≡ name_of_kind self.now }
     {
         match self {
-            Kind::Open { .. } => KindName::Open,
+            Kind::Open { read_at: None, .. } => KindName::Open,
+            Kind::Open {
+                read_at: Some(_scn),
+                ..
+            } => KindName::OpenAt,
             Kind::Opened { .. } => KindName::Opened,
-            Kind::Exec { .. } => KindName::Exec,
+            Kind::Exec {
+                task: Task::Run { .. },
+                ..
+            } => KindName::Exec,
+            Kind::Exec {
+                task: Task::GoBack { .. },
+                ..
+            } => KindName::Back,
             Kind::Reply { .. } => KindName::Reply,
             Kind::Prepare { .. } => KindName::Prepare,
             Kind::Prepared => KindName::Prepared,

@@ -64,6 +64,7 @@ caller_read k incoming (inputs.Call session statement) s read caller = by incomi
 caller_read k incoming (inputs.GiveUp session) s read caller = tt
 caller_read k incoming (inputs.Message m) s read caller = tt
 caller_read k incoming inputs.Reco s read caller = tt
+caller_read k incoming inputs.Checkpoint s read caller = tt
 
 module _ (w : World) (n : ℕ) (incoming : Incoming) (linked : IsLinked w) (laws : DueTurnsCanBeTaken) (coming : IsComingDue incoming n w) where
   abbrev p : Past

@@ -268,6 +268,7 @@ caller_of k (inputs.Call x y) s is session statement same = let at : x ≡ sessi
 caller_of k (inputs.GiveUp x) s is session statement same = absurd cc
 caller_of k (inputs.Message m) s is session statement same = absurd cc
 caller_of k inputs.Reco s is session statement same = absurd cc
+caller_of k inputs.Checkpoint s is session statement same = absurd cc
 
 -- messages with their bytes, and without them
 pub without_bytes : (ms : List Msg) → map (λ (x : Mailed). x.msg) (map mailed ms) ≡ ms

@@ -61,6 +61,7 @@ fn no_session() -> Session {
         seq: 0,
         root: None,
         advice: None,
+        calls: 0,
         code: None,
         call: PendingCall::NoCall,
     }

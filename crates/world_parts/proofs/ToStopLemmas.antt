@@ -78,6 +78,7 @@ module _ (o : Option ℕ) (d : List DiskOrders) (ls : List AnswerLine) where
   input_keeps running t node (inputs.GiveUp session) has = has
   input_keeps running t node (inputs.Message m) has = has
   input_keeps running t node inputs.Reco has = has
+  input_keeps running t node inputs.Checkpoint has = has
 
   -- the points
   point_keeps : (t : RunReport) (root : Option BranchId) (c : Option Call) (number : Option ℕ) → Has t → Has (arms_point t root c number)
@@ -95,6 +96,7 @@ module _ (o : Option ℕ) (d : List DiskOrders) (ls : List AnswerLine) where
   arms_keep t n k (inputs.GiveUp session) has = has
   arms_keep t n k (inputs.Message m) has = has
   arms_keep t n k inputs.Reco has = has
+  arms_keep t n k inputs.Checkpoint has = has
 
   took_keeps : (t : RunReport) (took : Option Took) → Has t → Has (delivered_more t took)
   took_keeps t None has = has

@@ -36,6 +36,6 @@ returns-in_ok-draft-in-Ok-add_edge-clause-gives c =
     let m = c.args.memory.now in
     let b = c.args.to.now in
     let g = (work_of m.works b).going in
-    opened_so (kept_in m) b c.in-Some.live.now (sym c.in-Some.ensures.live) c.args.from c.args.edge c.args.strength c.in-Some-2.waited c.new_edge.result c.one_less.result _ _ _ _
-    (sym (ap (λ n. waited_for c.args.edge n g) c.next_edge-next.ensures) ∙ sym c.in_ok-waited.ensures ∙ c.in-Some-2.is) c.new_edge.ensures c.one_less.ensures c.in-Ok.ensures.ok c.in-Ok-add_edge.ensures.ok
+    opened_so (kept_in m) b c.in-Some.live.now (sym c.in-Some.ensures.live) c.args.from c.args.edge c.args.strength c.in-Some-2.waited c.new_edge.result _ _ _ _
+    (sym (ap (λ n. waited_for c.args.edge n g) c.next_edge-next.ensures) ∙ sym c.in_ok-waited.ensures ∙ c.in-Some-2.is) c.new_edge.ensures c.in-Ok.ensures.ok c.in-Ok-add_edge.ensures.ok
     c.in_ok-draft-in-Ok-add_edge.ensures.gives

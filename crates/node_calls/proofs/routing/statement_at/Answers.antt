@@ -8,7 +8,8 @@ use Rattle.node_rules.specs.Statement.{makes_changes}
 use Rattle.node_state.specs.Lives.{changed_by}
 use Rattle.node_memory.specs.Parts.{kept_in, stored_in}
 use Rattle.node_calls.proofs.BranchLaws.{few_changed}
-use Rattle.node_calls.proofs.GroundLaws.{at_store, ran_here}
+use Rattle.sql_eval.specs.Laws.{AreRowsOf}
+use Rattle.node_calls.proofs.GroundLaws.{at_store, ran_here, seen_newest}
 use Rattle.node_calls.proofs.WayLaws.{depth_there, over_so, refused_so, through_so, way_deep}
 use Rattle.node_calls.proofs.TableLaws.{has_key, rows_kept, rows_seen}
 use Rattle.node_calls.proofs.routing.statement_at.Goals as goal
@@ -31,21 +32,24 @@ pub run_over-requires-clause-rows : goal.run_over-requires-clause-rows
 run_over-requires-clause-rows c =
     let m = c.args.memory.now in
     let way = sym (c.in-RunsHere.ensures (stored_in m).durable refl) in
-    rows_seen m.place (kept_in m) c.in-Some.live.now c.args.given c.args.statement.now c.in-RunsHere.table.now c.requires.rows way c.args.branch.now
+    let t = c.in-RunsHere.table.now in
+    subst (AreRowsOf t) (sym (seen_newest m c.args.branch.now c.in-Some.live.now t.name (sym c.in-Some.ensures.live) c.in_ok-reads_newest-in-RunsHere.ensures))
+    (rows_seen m.place (kept_in m) c.in-Some.live.now c.args.given c.args.statement.now t c.requires.rows way c.args.branch.now)
 
 pub answer-requires : goal.answer-requires
 answer-requires c =
     let m = c.args.memory.now in
     let b = c.args.branch.now in
-    let changes = makes_changes (at_store m m.own_undo b c.args.statement.now c.in-RunsHere.table.now) in
+    let changes = makes_changes (at_store m b c.args.statement.now c.in-RunsHere.table.now) in
     subst (λ (ls : List Live). IfSome (item_at live_id ls b) (λ l. count l < 2 ^ 16)) (sym c.in_ok-told-in-RunsHere.ensures.lives) (few_changed (changed_by changes) (λ l. refl) (λ l. refl) m.lives b c.requires.few)
 
 pub returns-in_ok-told-in-RunsHere-clause-gives : goal.returns-in_ok-told-in-RunsHere-clause-gives
 returns-in_ok-told-in-RunsHere-clause-gives c =
     let m = c.args.memory.now in
     let way = sym (c.in-RunsHere.ensures (stored_in m).durable refl) in
-    ran_here m m.own_undo c.args.branch.now c.args.statement.now c.in-RunsHere.table.now c.in-Some.live.now c.args.given c.in_ok-told-in-RunsHere.told _ _ _ (kept_in c.answer.new.memory) c.answer.result (sym c.in-Some.ensures.live) way
-    c.in_ok-told-in-RunsHere.ensures.answer c.in_ok-told-in-RunsHere.ensures.store c.in_ok-told-in-RunsHere.ensures.locks c.in_ok-told-in-RunsHere.ensures.lives c.answer.ensures.gives
+    ran_here m m.own_undo c.args.branch.now c.args.statement.now c.in-RunsHere.table.now c.in-Some.live.now c.args.given c.step_of-step.result c.in_ok-told-in-RunsHere.told _ _ _ _ (kept_in c.answer.new.memory) c.answer.result (sym c.in-Some.ensures.live)
+    c.in_ok-reads_newest-in-RunsHere.ensures way c.step_of-step.ensures c.in_ok-told-in-RunsHere.ensures.answer c.in_ok-told-in-RunsHere.ensures.store c.in_ok-told-in-RunsHere.ensures.locks c.in_ok-told-in-RunsHere.ensures.lives
+    c.in_ok-told-in-RunsHere.ensures.works c.answer.ensures.gives
 
 -- ---- it is refused
 

@@ -27,7 +27,7 @@ write_all-requires c =
     let name = c.args.table.now.name in
     let taken = c.in_ok-take_all.ensures.ok ∙ ap (take_keys ls b name false) c.as_slice.ensures in
     subst (λ (keys : List Value). All (IsHeld c.take_all.new.locks name) keys) (sym c.as_slice-in-Ok-None.ensures)
-    (subst (λ (xs : List Lock). All (IsHeld xs name) c.args.keys) (sym taken) (all_held b name ls c.args.keys false))
+    (subst (λ (xs : List Lock). All (IsHeld xs name) c.args.keys.now) (sym taken) (all_held b name ls c.args.keys.now false))
 
 pub overflow_cast-count : goal.overflow_cast-count
 overflow_cast-count c =
@@ -39,12 +39,12 @@ pub returns-in-Ok-None-clause-answer : goal.returns-in-Ok-None-clause-answer
 returns-in-Ok-None-clause-answer c =
     ap (λ (cs : List Change). answers.Did c.args.done (length cs)) c.as_slice-many.ensures
     ∙ ap answer_of_run
-    (sym (ran_as_told c.args.store.now c.args.locks.now c.args.branch.now c.args.table.now c.args.done c.args.changes c.args.keys None c.requires.changes (sym c.in-Ok-None.field-0-is ∙ c.in-Ok-None.ensures.refusal)))
+    (sym (ran_as_told c.args.store.now c.args.locks.now c.args.branch.now c.args.table.now c.args.done c.args.changes c.args.keys.now None c.requires.changes (sym c.in-Ok-None.field-0-is ∙ c.in-Ok-None.ensures.refusal)))
 
 pub returns-in-Ok-None-clause-store : goal.returns-in-Ok-None-clause-store
 returns-in-Ok-None-clause-store c =
     c.in-Ok-None.ensures.store
-    ∙ store_as_told c.args.store.now c.args.locks.now c.args.branch.now c.args.table.now c.args.done c.args.changes c.args.keys _ c.requires.changes c.in-Ok-None.ensures.refusal
+    ∙ store_as_told c.args.store.now c.args.locks.now c.args.branch.now c.args.table.now c.args.done c.args.changes c.args.keys.now _ c.requires.changes c.in-Ok-None.ensures.refusal
 
 pub returns-in-Ok-None-clause-locks : goal.returns-in-Ok-None-clause-locks
 returns-in-Ok-None-clause-locks c =
@@ -52,21 +52,21 @@ returns-in-Ok-None-clause-locks c =
     let b = c.args.branch.now in
     let name = c.args.table.now.name in
     let taken = c.in_ok-take_all.ensures.ok ∙ ap (take_keys ls b name false) c.as_slice.ensures in
-    c.write_all.ensures ∙ (λ i. take_keys (taken i) b name true (c.as_slice-in-Ok-None.ensures i)) ∙ written_then b name c.args.keys ls
+    c.write_all.ensures ∙ (λ i. take_keys (taken i) b name true (c.as_slice-in-Ok-None.ensures i)) ∙ written_then b name c.args.keys.now ls
     ∙ ap (locks_after ls b c.args.table.now)
-    (sym (ran_as_told c.args.store.now ls b c.args.table.now c.args.done c.args.changes c.args.keys None c.requires.changes (sym c.in-Ok-None.field-0-is ∙ c.in-Ok-None.ensures.refusal)))
+    (sym (ran_as_told c.args.store.now ls b c.args.table.now c.args.done c.args.changes c.args.keys.now None c.requires.changes (sym c.in-Ok-None.field-0-is ∙ c.in-Ok-None.ensures.refusal)))
 
 -- ---- they are refused
 
 pub returns-in-Ok-Some-clause-answer : goal.returns-in-Ok-Some-clause-answer
 returns-in-Ok-Some-clause-answer c =
     ap answer_of_run
-    (sym (ran_as_told c.args.store.now c.args.locks.now c.args.branch.now c.args.table.now c.args.done c.args.changes c.args.keys _ c.requires.changes (sym c.in-Ok-Some.field-0-is ∙ c.in-Ok-Some.ensures.refusal)))
+    (sym (ran_as_told c.args.store.now c.args.locks.now c.args.branch.now c.args.table.now c.args.done c.args.changes c.args.keys.now _ c.requires.changes (sym c.in-Ok-Some.field-0-is ∙ c.in-Ok-Some.ensures.refusal)))
 
 pub returns-in-Ok-Some-clause-store : goal.returns-in-Ok-Some-clause-store
 returns-in-Ok-Some-clause-store c =
     c.in-Ok-Some.ensures.store
-    ∙ store_as_told c.args.store.now c.args.locks.now c.args.branch.now c.args.table.now c.args.done c.args.changes c.args.keys _ c.requires.changes c.in-Ok-Some.ensures.refusal
+    ∙ store_as_told c.args.store.now c.args.locks.now c.args.branch.now c.args.table.now c.args.done c.args.changes c.args.keys.now _ c.requires.changes c.in-Ok-Some.ensures.refusal
 
 pub returns-in-Ok-Some-clause-locks : goal.returns-in-Ok-Some-clause-locks
 returns-in-Ok-Some-clause-locks c =
@@ -74,16 +74,16 @@ returns-in-Ok-Some-clause-locks c =
     let b = c.args.branch.now in
     let name = c.args.table.now.name in
     let taken = c.in_ok-take_all.ensures.ok ∙ ap (take_keys ls b name false) c.as_slice.ensures in
-    c.keep_first.ensures ∙ (λ i. take (c.len-before.ensures i) (taken i)) ∙ stay_first b name c.args.keys ls
+    c.keep_first.ensures ∙ (λ i. take (c.len-before.ensures i) (taken i)) ∙ stay_first b name c.args.keys.now ls
     ∙ ap (locks_after ls b c.args.table.now)
-    (sym (ran_as_told c.args.store.now ls b c.args.table.now c.args.done c.args.changes c.args.keys _ c.requires.changes (sym c.in-Ok-Some.field-0-is ∙ c.in-Ok-Some.ensures.refusal)))
+    (sym (ran_as_told c.args.store.now ls b c.args.table.now c.args.done c.args.changes c.args.keys.now _ c.requires.changes (sym c.in-Ok-Some.field-0-is ∙ c.in-Ok-Some.ensures.refusal)))
 
 -- ---- memory runs out
 
-pub returns-clause-err_locks : goal.returns-clause-err_locks
-returns-clause-err_locks c =
+pub returns-in-Err-clause-err_locks : goal.returns-in-Err-clause-err_locks
+returns-in-Err-clause-err_locks c =
     let ls = c.args.locks.now in
     let b = c.args.branch.now in
     let name = c.args.table.now.name in
     let taken = c.in_ok-take_all.ensures.ok ∙ ap (take_keys ls b name false) c.as_slice.ensures in
-    c.keep_first-in-Err.ensures ∙ (λ i. take (c.len-before.ensures i) (taken i)) ∙ stay_first b name c.args.keys ls
+    c.keep_first-in-Err.ensures ∙ (λ i. take (c.len-before.ensures i) (taken i)) ∙ stay_first b name c.args.keys.now ls

@@ -1,7 +1,8 @@
 use Rattle.std.proofs.Common.{◌≡◌, max, sym, ap, subst, ◌∙◌, rules}
 use Rattle.std.specs.Prelude.{fold}
 use Rattle.node_rules.specs.NodeState.{NodeState}
-use Rattle.node_rules.specs.Records.{nothing_stored, stored_by}
+use Rattle.read_only_tx.specs.Versions.{versions_from}
+use Rattle.node_rules.specs.Records.{nothing_stored, stored_by, versions_in}
 use Rattle.node_rules.specs.Turn.{with_doubt_of, kept_by}
 use Rattle.node_memory.specs.Parts.{kept_in}
 use Rattle.node_memory.specs.After.{with_stored}
@@ -25,8 +26,8 @@ pub returns-clause-kept : goal.returns-clause-kept
 returns-clause-kept c =
     let rs = c.args.records.now in
     let m = kept_in c.replay.new.self in
-    let is : m ≡ with_stored (kept_by nothing_stored) (stored_by nothing_stored rs) =
-    c.in_ok-replay.ensures.kept ∙ ap (λ (k : NodeState). with_stored k (stored_by k.stored rs)) c.requires.none in
+    let is : m ≡ with_stored (kept_by nothing_stored (versions_from 0)) (stored_by nothing_stored rs) (versions_in nothing_stored (versions_from 0) rs) =
+    c.in_ok-replay.ensures.kept ∙ ap (λ (k : NodeState). with_stored k (stored_by k.stored rs) (versions_in k.stored k.versions rs)) c.requires.none in
     let doubts : c.as_slice.result.now ≡ c.in_ok-doubts.doubts.items = search rules in
     let keys = c.in_ok-hold_all.ensures
     ∙ ap (λ ds. fold (λ held r. with_keys_of held r.now) m.locks ds) doubts

@@ -1,6 +1,6 @@
-use Rattle.std.proofs.Common.{◌≡◌, ◌<◌, Option, None, Some, is_some, position, length, sym, ap, subst, ◌∙◌, refl}
+use Rattle.std.proofs.Common.{◌≡◌, ◌<◌, Option, Some, length, sym, ap, subst, ◌∙◌, refl}
 use Rattle.std.specs.Prelude.{IfSome, OnErr, Result, Ok, Err}
-use Rattle.std.specs.Map.{lookup, keys_of, values_of}
+use Rattle.std.specs.Map.{values_of}
 use Rattle.indexmap.specs.Layout.{set_value_at}
 use Rattle.dtx_values.specs.Limits.{branch_limit}
 use Rattle.tran_ids.specs.Listed.{item_at}
@@ -10,7 +10,7 @@ use Rattle.node_rules.specs.NodeState.{live_id}
 use Rattle.node_state.specs.ByBranch.{KeysAreBranches}
 use Rattle.node_state.specs.Changed.{change_item}
 use Rattle.node_state.specs.Lives.{HasRoom}
-use Rattle.node_state.proofs.BranchLaws.{found_as, found, still_keyed, same_set, changed_is, unchanged_is, none_there}
+use Rattle.node_state.proofs.BranchLaws.{found, still_keyed, same_set, changed_is, unchanged_is}
 use Rattle.node_state.proofs.LiveLaws.{room_added}
 use Rattle.node_state.proofs.lives.Lives.add_edge.Goals as goal
 

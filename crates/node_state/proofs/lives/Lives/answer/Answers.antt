@@ -1,6 +1,5 @@
-use Rattle.std.proofs.Common.{◌≡◌, Option, None, Some, is_some, position, sym, ap, subst, ◌∙◌}
+use Rattle.std.proofs.Common.{◌≡◌, None, Some, sym, ap, subst, ◌∙◌}
 use Rattle.std.specs.Option.{option_map}
-use Rattle.std.specs.Map.{lookup, keys_of, values_of}
 use Rattle.tran_ids.specs.Listed.{item_at}
 use Rattle.session_tree.specs.declared.live.Live.{Live}
 use Rattle.node_rules.specs.NodeState.{live_id}
@@ -8,7 +7,7 @@ use Rattle.prepare_phase.specs.Acts.{heard_act, after_answer}
 use Rattle.node_state.proofs.LiveLaws.{has_room, answered_keeps}
 use Rattle.node_state.specs.Changed.{change_item}
 use Rattle.node_state.specs.Lives.{HasRoom}
-use Rattle.node_state.proofs.BranchLaws.{found_as, found, still_keyed, holds_there, changed_is, unchanged_is, none_there}
+use Rattle.node_state.proofs.BranchLaws.{found, still_keyed, holds_there, changed_is, unchanged_is, none_there}
 use Rattle.node_state.proofs.lives.Lives.answer.Goals as goal
 
 pub on_answer-act-requires : goal.on_answer-act-requires

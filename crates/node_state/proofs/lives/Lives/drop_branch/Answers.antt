@@ -1,5 +1,5 @@
-use Rattle.std.proofs.Common.{◌≡◌, None, sym, ap, subst, ◌∙◌}
-use Rattle.std.specs.Map.{lookup, values_of, remove_entry}
+use Rattle.std.proofs.Common.{sym, ap, subst, ◌∙◌}
+use Rattle.std.specs.Map.{lookup, values_of}
 use Rattle.tran_ids.specs.Listed.{drop_item}
 use Rattle.node_rules.specs.NodeState.{live_id}
 use Rattle.node_state.specs.ByBranch.{KeysAreBranches}

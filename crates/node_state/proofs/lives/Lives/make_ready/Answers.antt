@@ -1,12 +1,10 @@
-use Rattle.std.proofs.Common.{◌≡◌, ◌||◌, Option, None, Some, is_some, position, sym, ap, subst, ◌∙◌, refl}
-use Rattle.std.specs.Map.{lookup, keys_of}
+use Rattle.std.proofs.Common.{sym, ap, subst, ◌∙◌}
 use Rattle.node_rules.specs.NodeState.{live_id}
-use Rattle.session_tree.specs.declared.live.Live.{Live}
 use Rattle.node_rules.specs.Prepare.{ready}
 use Rattle.node_state.proofs.LiveLaws.{has_room, still_ready}
 use Rattle.node_state.specs.Changed.{change_item}
 use Rattle.node_state.specs.Lives.{HasRoom}
-use Rattle.node_state.proofs.BranchLaws.{found_as, found, still_keyed, holds_there, changed_is, unchanged_is, none_there}
+use Rattle.node_state.proofs.BranchLaws.{still_keyed, holds_there, changed_is, unchanged_is}
 use Rattle.node_state.proofs.lives.Lives.make_ready.Goals as goal
 
 pub invariant_of-self : goal.invariant_of-self

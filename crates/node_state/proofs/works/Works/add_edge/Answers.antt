@@ -1,12 +1,12 @@
-use Rattle.std.proofs.Common.{◌≡◌, ◌++◌, ◌∷◌, [], None, Some, is_some, position, sym, ap, subst, ◌∙◌, refl}
-use Rattle.std.specs.Map.{lookup, keys_of, values_of}
+use Rattle.std.proofs.Common.{◌≡◌, None, Some, sym, ap, subst, ◌∙◌}
+use Rattle.std.specs.Map.{values_of}
 use Rattle.indexmap.specs.Layout.{set_value_at}
 use Rattle.tran_ids.specs.Listed.{item_at, put_item}
 use Rattle.tran_ids.proofs.ListedLemmas.{item_is}
 use Rattle.node_rules.specs.NodeState.{work_id, work_or}
 use Rattle.node_state.specs.ByBranch.{KeysAreBranches}
-use Rattle.node_state.specs.Works.{AnyWork, work_of, change_work, with_child}
-use Rattle.node_state.proofs.BranchLaws.{found_as, found, still_keyed, same_set, keyed_placed, none_there}
+use Rattle.node_state.specs.Works.{AnyWork, change_work, with_child}
+use Rattle.node_state.proofs.BranchLaws.{found, still_keyed, same_set, keyed_placed, none_there}
 use Rattle.node_state.proofs.WorkLaws.{on_err}
 use Rattle.node_state.proofs.works.Works.add_edge.Goals as goal
 

@@ -1,9 +1,8 @@
 use Rattle.std.proofs.Common.{ap, ◌∙◌}
-use Rattle.std.specs.Map.{lookup}
 use Rattle.tran_ids.specs.Listed.{item_at}
 use Rattle.node_rules.specs.NodeState.{work_id}
 use Rattle.node_state.specs.Works.{AnyWork}
-use Rattle.node_state.proofs.BranchLaws.{found_as, found}
+use Rattle.node_state.proofs.BranchLaws.{found}
 use Rattle.node_state.proofs.works.Works.get.Goals as goal
 
 pub returns : goal.returns

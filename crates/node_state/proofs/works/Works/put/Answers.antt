@@ -1,11 +1,10 @@
-use Rattle.std.proofs.Common.{◌≡◌, None, sym, ap, subst, ◌∙◌}
-use Rattle.std.specs.Map.{lookup, values_of}
-use Rattle.indexmap.specs.IndexMap.{insert_entry}
+use Rattle.std.proofs.Common.{sym, ap, subst, ◌∙◌}
+use Rattle.std.specs.Map.{values_of}
 use Rattle.tran_ids.specs.Listed.{item_at, put_item}
 use Rattle.node_rules.specs.NodeState.{work_id}
 use Rattle.node_state.specs.ByBranch.{KeysAreBranches}
 use Rattle.node_state.specs.Works.{AnyWork}
-use Rattle.node_state.proofs.BranchLaws.{found_as, found, put_is, keyed_put}
+use Rattle.node_state.proofs.BranchLaws.{found, put_is, keyed_put}
 use Rattle.node_state.proofs.WorkLaws.{on_err}
 use Rattle.node_state.proofs.works.Works.put.Goals as goal
 

@@ -1,7 +1,7 @@
-use Rattle.std.proofs.Common.{◌≡◌, None, sym, ap, subst, ◌∙◌}
+use Rattle.std.proofs.Common.{◌≡◌, None, ap, subst, ◌∙◌}
 use Rattle.tran_ids.specs.Listed.{item_at, put_item}
 use Rattle.node_rules.specs.NodeState.{work_id}
-use Rattle.node_state.specs.Works.{work_of, with_call_taken}
+use Rattle.node_state.specs.Works.{with_call_taken}
 use Rattle.node_state.proofs.WorkLaws.{on_err, work_branch}
 use Rattle.node_state.proofs.works.Works.take_call.Goals as goal
 

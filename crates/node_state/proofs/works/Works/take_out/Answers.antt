@@ -1,10 +1,10 @@
-use Rattle.std.proofs.Common.{◌≡◌, Option, None, Some, is_some, position, sym, ap, subst, ◌∙◌}
-use Rattle.std.specs.Map.{lookup, keys_of, values_of}
+use Rattle.std.proofs.Common.{◌≡◌, None, Some, sym, ap, ◌∙◌}
+use Rattle.std.specs.Map.{values_of}
 use Rattle.tran_ids.specs.Listed.{item_at, put_item}
 use Rattle.tran_ids.proofs.ListedLemmas.{item_is}
 use Rattle.node_rules.specs.NodeState.{work_id, work_or}
 use Rattle.node_state.specs.Works.{AnyWork}
-use Rattle.node_state.proofs.BranchLaws.{found_as, found, still_keyed, none_there, placed_there, placed_twice}
+use Rattle.node_state.proofs.BranchLaws.{found, still_keyed, none_there, placed_there, placed_twice}
 use Rattle.node_state.proofs.works.Works.take_out.Goals as goal
 
 pub invariant_of-self : goal.invariant_of-self

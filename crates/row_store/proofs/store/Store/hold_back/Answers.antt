@@ -1,11 +1,12 @@
-use Rattle.std.proofs.Common.{◌-◌, ◌≤◌, List, [], ◌∷◌, ◌++◌, sym, ap, subst, ◌∙◌}
+use Rattle.std.proofs.Common.{◌-◌, ◌≤◌, List, sym, ap, subst, ◌∙◌}
 use Rattle.dtx_values.specs.declared.row.Change.{Change}
 use Rattle.row_store.specs.declared.pending.Doubt.{Doubt}
 use Rattle.row_store.specs.Own.{changes_length, extents}
 use Rattle.row_store.specs.Pending.{undo_over}
 use Rattle.row_store.specs.AllPlaced.{ArePlaced}
 use Rattle.row_store.specs.TablePlaces.{rows_in}
-use Rattle.row_store.specs.Store.{Contents, extents_free, used_extents, held_from}
+use Rattle.tran_ids.specs.Branch.{put_by_branch}
+use Rattle.row_store.specs.Store.{Contents, doubt_id, extents_free, used_extents, held_from}
 use Rattle.row_store.proofs.ResultLaws.{by_result, on_ok}
 use Rattle.row_store.proofs.HeldLaws.{HaveFor, contents_of, still_for, doubt_for}
 use Rattle.row_store.proofs.store.Store.hold_back.Goals as goal
@@ -40,5 +41,5 @@ returns-clause-ok c =
     (λ now.
     (λ i. contents_of (c.in_ok-make_places.ensures.rows i) (now i))
     ∙ (λ i. let d : Doubt = record { branch = b; changes = changes i; undo = c.in_ok-made.ensures.undo i } in
-    let t : Contents = record old { doubts = s.doubts ++ d ∷ [] } in t)
+    let t : Contents = record old { doubts = put_by_branch doubt_id s.doubts d } in t)
     ∙ ap (λ (t : Contents). held_from t b c.args.changes) c.self.view_is)

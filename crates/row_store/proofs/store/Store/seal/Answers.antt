@@ -1,9 +1,10 @@
-use Rattle.std.proofs.Common.{◌≡◌, List, [], ◌∷◌, ◌++◌, sym, ap, subst, ◌∙◌}
+use Rattle.std.proofs.Common.{◌≡◌, List, sym, ap, subst, ◌∙◌}
+use Rattle.tran_ids.specs.Branch.{put_by_branch}
 use Rattle.tran_ids.specs.Listed.{drop_item}
 use Rattle.dtx_values.specs.declared.row.Change.{Change}
 use Rattle.row_store.specs.Pending.{undo_of, undo_over}
 use Rattle.row_store.specs.TablePlaces.{rows_in}
-use Rattle.row_store.specs.Store.{Contents, own_id, own_changes, sets_at, sealed_doubt}
+use Rattle.row_store.specs.Store.{Contents, own_id, doubt_id, own_changes, sets_at, sealed_doubt}
 use Rattle.row_store.proofs.ResultLaws.{by_result, on_ok}
 use Rattle.row_store.proofs.HeldLaws.{HaveFor, contents_of, seal_for}
 use Rattle.row_store.proofs.store.Store.seal.Goals as goal
@@ -24,5 +25,5 @@ returns-clause-ok c =
     on_ok c.seal.result c.seal.ensures.ok
     (λ now.
     ap (contents_of rows) now
-    ∙ ap (λ (t : Contents). record t { owns = drop_item own_id t.owns b; doubts = t.doubts ++ sealed_doubt t.owns b ∷ [] }) c.self.view_is
-    ∙ ap (λ (us : List Change). record s { owns = drop_item own_id s.owns b; doubts = s.doubts ++ (record { branch = b; changes = own_changes s b; undo = us }) ∷ [] }) undo)
+    ∙ ap (λ (t : Contents). record t { owns = drop_item own_id t.owns b; doubts = put_by_branch doubt_id t.doubts (sealed_doubt t.owns b) }) c.self.view_is
+    ∙ ap (λ (us : List Change). record s { owns = drop_item own_id s.owns b; doubts = put_by_branch doubt_id s.doubts (record { branch = b; changes = own_changes s b; undo = us }) }) undo)
