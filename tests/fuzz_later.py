@@ -36,8 +36,6 @@ class LaterForms:
     # ---- statements
 
     def manager(self):
-        if self.has("strength", 0.3):
-            return f"ALTER SYSTEM SET COMMIT_POINT_STRENGTH = {self.pick([0, 1, 7, 100, 255, 256])}"
         if self.has("format", 0.2):
             return f"COMMIT FORCE '{self.id()}', {self.pick(LARGE)}"
         return super().manager()

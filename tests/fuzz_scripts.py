@@ -165,6 +165,7 @@ class Writer:
                 f"EXECUTE DBMS_TRANSACTION.PURGE_LOST_DB_ENTRY('{self.id()}')",
                 f"ALTER SESSION ADVISE {self.pick(['COMMIT', 'ROLLBACK', 'NOTHING'])}",
                 f"ALTER SYSTEM {self.pick(['ENABLE', 'DISABLE'])} DISTRIBUTED RECOVERY",
+                f"ALTER SYSTEM SET COMMIT_POINT_STRENGTH = {self.pick([0, 1, 7, 100, 255, 256])}",
             ]
         )
 

@@ -8,8 +8,7 @@ from messages import GONE, Back, Exec, Open, Reply
 from savepoints import calls_since, note_calls, take_step, undo_after
 from tables import Refused
 
-MOST_BRANCHES, MOST_DEPTH = 64, 8
-MOST_IN_LARGER_TREES = 256  # where the strength is a parameter
+MOST_BRANCHES, MOST_DEPTH = 256, 8
 WENT_BACK = [b"Rollback complete."]
 
 
@@ -100,9 +99,8 @@ def finish(turn, live, result):
     turn.end(session, result)
 
 
-def room_at_root(node, live):
-    most = MOST_IN_LARGER_TREES if "strength" in node.have else MOST_BRANCHES
-    return max(0, most - live.count())
+def room_at_root(live):
+    return max(0, MOST_BRANCHES - live.count())
 
 
 def on_open(turn, message):

@@ -72,7 +72,7 @@ def is_write(statement):
 def carry_out(turn, session, statement):
     if isinstance(statement, OnTable):
         live = next_step(turn, session)
-        begin(turn, live, statement, room_at_root(turn.node, live))
+        begin(turn, live, statement, room_at_root(live))
     elif isinstance(statement, Create):
         create(turn, session, statement)
     elif isinstance(statement, Commit):

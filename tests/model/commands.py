@@ -3,7 +3,7 @@
 import re
 from dataclasses import dataclass
 
-from features import NONE
+from features import STANDING
 
 BLANKS = b" \t\r\n"
 LIMIT = 2**32 - 1
@@ -174,7 +174,7 @@ def options(have):
     return OPTIONS | {word: of for feature in LATER_OPTIONS.keys() & have for word, of in LATER_OPTIONS[feature].items()}
 
 
-def of_form(form, found, have=NONE):
+def of_form(form, found, have=STANDING):
     """The arguments of tokens of a form: a node as a name in a list of its own."""
     need(len(form) == len(found))
     arguments = []
@@ -219,7 +219,7 @@ def is_statement(text):
     return not rest or (len(rest) == 2 and rest[0] == "COMMENT" and isinstance(rest[1], tuple))
 
 
-def command(text, have=NONE):
+def command(text, have=STANDING):
     """A command as a list: its words, and its arguments."""
     head, colon, behind = text.partition(b":")
     if colon:
@@ -251,7 +251,7 @@ def begins_with_node(text):
     return re.match(rb"[ \t\r\n]*NODE(?![A-Za-z0-9_$#.])", text, re.IGNORECASE) is not None
 
 
-def read(script, have=NONE):
+def read(script, have=STANDING):
     """The commands of a script, each node by its number from 1 on."""
     found, nodes, only_nodes = [], [], True
     for piece in pieces(script):
@@ -288,7 +288,7 @@ def shown(part):
     return str(list(part)) if isinstance(part, bytes) else str(part)
 
 
-def printed(script, have=NONE):
+def printed(script, have=STANDING):
     """The exit status of print_script, and what it prints."""
     try:
         lines = [" ".join(map(shown, command)) for command in read(script, have)]

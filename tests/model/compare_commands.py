@@ -8,7 +8,7 @@ first. A script on which the two differ is written to differs_SEED.dtx. What was
 bad. The last line is `N scripts, M differ`; the exit status is 1 where one differs, or where a kind is missing.
 
 The second reader is commands.py; random_commands.py makes the scripts, with --have also of later forms that PROGRAM reads:
-those of readonly, savepoint, settle, checkpoint and format, or of all by `all`.
+those of settle, checkpoint and format, or of all by `all`.
 """
 
 import collections

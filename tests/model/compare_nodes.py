@@ -14,8 +14,8 @@ pairs cut, nodes stopped in the middle of disk writes and by comments, branches 
 With --small-pools random_pools.py makes them: nodes have one to three extents of undo, many branches are in doubt, forced or
 over a stop and a start, and SHOW UNDO is compared with them, and where ORA-30036 comes and for how many extents.
 
-With --have they have later forms too (random_later.py), those that PROGRAM has: strength, readonly, savepoint, settle,
-checkpoint, format, or all of them by `all`.
+With --have they have later forms too (random_later.py), those that PROGRAM has: settle, checkpoint,
+format, or all of them by `all`.
 """
 
 import functools

@@ -3,7 +3,7 @@
 
     tests/model/dtx_model.py [--have F,F..] [--book] < SCRIPT
 
-With --have it has later forms too: strength, readonly, savepoint, settle, checkpoint, format, or all of them by `all`.
+With --have it has later forms too: settle, checkpoint, format, or all of them by `all`.
 """
 
 import sys

@@ -2,7 +2,7 @@
 
 import random
 
-from features import NONE
+from features import STANDING
 
 KINDS = "Open Exec PREPARE ready CommitPoint ACK forgotten ASK OPENED Reply Prepared READONLY Abort committed InDoubt".split()
 NAMES = ["A", "b", "HQ.Acme", "a.b", "U0$#_", "x" * 30, "C", "D1", "WAREHOUSE.ACME.COM"]
@@ -23,7 +23,7 @@ LATER_FIXED = ["SETTLE A;", "SETTLE SETTLE;", "CHECKPOINT;", "FAULT A SPARE 1;",
 
 
 class Writer:
-    def __init__(self, seed, have=NONE):
+    def __init__(self, seed, have=STANDING):
         self.have = have
         self.random = random.Random(seed)
         self.nodes = []

@@ -6,7 +6,6 @@ from random_nodes import Writer as OfNodes
 READERS_FIRST = 11  # sessions that read only, while those of other transactions commit
 WRITER = 6  # a session that commits while others read
 OVER_THE_LIMIT = 66  # so many commits leave behind the rows of the first
-MORE_SYNONYMS = 5  # of each node, over links of which many are new, where a tree is to grow full
 LARGE = [2**48 - 1, 2**48, 2**48 + 1, 2**63, 2**64 - 1, 2**64]  # SCNs that a user may give
 SAVEPOINTS = ["A", "A", "b", "SAVEPOINT", "SPARE"]
 NEW_KINDS = {"readonly": "OpenAt", "savepoint": "Back"}
@@ -27,12 +26,6 @@ class Writer(OfNodes):
 
     def options(self):
         return super().options() + (f" FORMAT {self.pick([1, 1, 2])}" if self.has("format", 0.5) else "")
-
-    def alter(self):
-        if self.has("strength", 0.5):
-            form = self.pick(["ALTER SYSTEM SET COMMIT_POINT_STRENGTH = {}", "alter system set commit_point_strength={}"])
-            return form.format(self.pick([0, 1, 5, 100, 200, 255, "007", 256]))
-        return super().alter()
 
     def given_scn(self):
         return self.pick(LARGE) if self.has("format", 0.4) else super().given_scn()
@@ -69,23 +62,8 @@ class Writer(OfNodes):
 
     # ---- READ ONLY transactions
 
-    def grow(self):
-        """One transaction over each link of a node to each name behind it: its tree may grow full."""
-        for name in [name for name in self.names if self.links[name]] * MORE_SYNONYMS:
-            self.make_synonym(name)
-        node = self.node()
-        session, links = self.free_session(node), self.links[node.name]
-        refs = [f"{name}@{link}" for link in links for name in ["T", *self.synonyms[links[link]]]]
-        for ref in self.random.sample(refs, len(refs)):
-            if self.is_stuck(node, session):
-                break
-            self.at(node, session, self.pick([f"SELECT COUNT(*) FROM {ref}", f"DELETE {ref}"]))
-        self.at(node, session, self.pick(["COMMIT", "ROLLBACK"]))
-
     def work(self):
-        if self.is_wide and not self.world.holds and self.has("strength", 0.1):
-            self.grow()
-        elif self.has("readonly", 0.25):
+        if self.has("readonly", 0.25):
             self.read()
         else:
             super().work()
@@ -147,8 +125,6 @@ class Writer(OfNodes):
             self.checkpoint()
         elif self.has("settle", 0.15):
             self.give(self.pick(["SETTLE", "SHOW BLOCKED"]))
-        elif self.has("strength", 0.15):
-            self.at(self.node(), 9, self.alter())
         else:
             super().disturb()
 

@@ -7,10 +7,11 @@ that are down more often than by chance.
 from dataclasses import dataclass
 
 from commands import KINDS
-from features import NONE
+from features import STANDING
 from random_running import Running
 from records import global_text
 
+MORE_SYNONYMS = 5  # of each node, over links of which many are new, where a tree is to grow full
 OF_COMMITS = set(KINDS.values()) - {"Open", "Opened", "Exec", "Reply"}
 # what a write may leave: gates that are open, shut or odd, and lengths
 LEFT = ["00", "01", "02", "ff", "0100", "01" * 9, "0000000b", "ff" * 40]
@@ -45,7 +46,7 @@ BENTS = [
 
 
 class Writer(Running):
-    def __init__(self, seed, have=NONE):
+    def __init__(self, seed, have=STANDING):
         super().__init__(seed, have)
         self.bent = self.pick(BENTS)
 
@@ -110,6 +111,9 @@ class Writer(Running):
 
     def work(self):
         """Statements of one transaction at one node, mostly over several links."""
+        if self.is_wide and not self.world.holds and self.chance(0.05):
+            self.grow()
+            return
         node = self.node()
         session, only_inserts = self.free_session(node), self.chance(0.5)
         if self.chance(0.1):
@@ -125,6 +129,19 @@ class Writer(Running):
             self.at(node, session, self.commit(self.bent.comments))
         elif self.chance(0.2):
             self.at(node, session, self.pick(["ROLLBACK", self.create()]))
+
+    def grow(self):
+        """One transaction over each link of a node to each name behind it: its tree may grow full."""
+        for name in [name for name in self.names if self.links[name]] * MORE_SYNONYMS:
+            self.make_synonym(name)
+        node = self.node()
+        session, links = self.free_session(node), self.links[node.name]
+        refs = [f"{name}@{link}" for link in links for name in ["T", *self.synonyms[links[link]]]]
+        for ref in self.random.sample(refs, len(refs)):
+            if self.is_stuck(node, session):
+                break
+            self.at(node, session, self.pick([f"SELECT COUNT(*) FROM {ref}", f"DELETE {ref}"]))
+        self.at(node, session, self.pick(["COMMIT", "ROLLBACK"]))
 
     def before_commit(self):
         """What the commit is to meet."""

@@ -1,7 +1,7 @@
 """Scripts that run while they are written, and the nodes, tables and links with which they begin."""
 
 from commands import read
-from features import NONE
+from features import STANDING
 from random_statements import TABLES, WIDE, Statements
 from world import World
 
@@ -11,7 +11,7 @@ STRENGTHS = [0, 1, 2, 5, 5, 100, 200, 255]
 
 
 class Running(Statements):
-    def __init__(self, seed, have=NONE):
+    def __init__(self, seed, have=STANDING):
         super().__init__(seed)
         self.world = World(have)
         self.asked = []

@@ -152,6 +152,9 @@ class Statements:
         return self.pick(forms)
 
     def alter(self):
+        if self.chance(0.25):
+            form = self.pick(["ALTER SYSTEM SET COMMIT_POINT_STRENGTH = {}", "alter system set commit_point_strength={}"])
+            return form.format(self.pick([0, 1, 5, 100, 200, 255, "007", 256]))
         advice = f"ALTER SESSION ADVISE {self.pick(['COMMIT', 'ROLLBACK', 'NOTHING'])}"
         system = f"ALTER SYSTEM {self.pick(['ENABLE', 'ENABLE', 'DISABLE'])} DISTRIBUTED RECOVERY"
         return self.pick([advice, system if self.chance(0.3) else advice])

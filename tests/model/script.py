@@ -1,13 +1,13 @@
 """A run of a script, and what is printed of it."""
 
 from commands import Bad, pieces, read
-from features import NONE
+from features import STANDING
 from world import World
 
 MOST_BYTES = 1_048_576
 
 
-def play(script, with_book=False, have=NONE):
+def play(script, with_book=False, have=STANDING):
     """The exit status of a script, and what is printed of it, by a program that has these later features."""
     if len(script) > MOST_BYTES:
         return 6, b""

@@ -22,7 +22,7 @@ from statements import (
     Strength,
     Update,
 )
-from features import NONE
+from features import STANDING
 from tokens import Outside, Tokens, is_name
 
 LEAST, MOST = -(2**63), 2**63 - 1
@@ -240,7 +240,7 @@ class Reader(Tokens):
         if self.one_of("SESSION", "SYSTEM") == "SESSION":
             self.words("ADVISE")
             return Advise(ADVICE[self.one_of(*ADVICE)])
-        if "strength" in self.have and self.may("word", "SET"):
+        if self.may("word", "SET"):
             return self.strength()
         is_on = self.one_of("ENABLE", "DISABLE") == "ENABLE"
         self.words("DISTRIBUTED", "RECOVERY")
@@ -272,7 +272,7 @@ def check_distinct(names):
         raise Outside
 
 
-def read(text, have=NONE):
+def read(text, have=STANDING):
     """The statement of a text."""
     reader = Reader(text, have)
     forms = {

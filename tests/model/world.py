@@ -4,7 +4,7 @@ from asked import of_gone, on_ask_of_live, prepared_again, recover, told
 from across import on_back, on_exec, on_open, on_opened, on_reply
 from client import call, carry_out, give_up
 from disk import Crash, Struck
-from features import NONE
+from features import STANDING
 from forced import neighbors, pending
 from here import extents
 from messages import Network
@@ -72,7 +72,7 @@ def ignore(_turn, _branch, _message):
 
 
 class World:
-    def __init__(self, have=NONE):
+    def __init__(self, have=STANDING):
         self.have = have
         self.nodes = []
         self.names = []

@@ -13,6 +13,7 @@ HIGHEST = (
     "tree_cover_laws",
     "answer_laws",
     "answer_once_laws",
+    "back_laws",
     "commit_answer_laws",
     "commit_course_laws",
     "settle_laws",

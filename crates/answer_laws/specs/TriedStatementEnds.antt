@@ -62,7 +62,7 @@ ends_with a = Some ((record { session = 1; answer = a }) ∷ [])
 -- The count waits for its own Reply alone: the other one changes nothing, and each of the causes ends it.
 pub record TheTriedStatementEnds : Type 0 where
   pub waits : its_call (after 27) ≡ Some pending.Statement
-  pub sent : last_sent_down root None (said_in (after 27)) ≡ Some (record { from = root; to = child; kind = kinds.Exec 2 (tasks.Run 61 None (count (codes "U"))) })
+  pub sent : last_sent_down root None (said_in (after 27)) ≡ Some (record { from = root; to = child; kind = kinds.Exec 2 (tasks.Run 253 None (count (codes "U"))) })
   pub still : its_call (after 28) ≡ Some pending.Statement  -- the first Reply has come once more
   pub old : would_end (reply 1 (answers.Did dones.Created 1)) ≡ Some []
   pub answered : would_end (reply 2 (answers.Did dones.Created 1)) ≡ ends_with (answers.Did dones.Created 1)

@@ -1,10 +1,10 @@
 -- The orders of a disk in memory after a call, as a plan, are the plan after it; and a write leaves what the plan says.
-use Rattle.std.proofs.Common.{◌≡◌, ◌+◌, ◌==◌, ◌||◌, ◌∷◌, [], ◌++◌, Bool, true, false, if◌then◌else◌, ℕ, List, length, take, drop, Option, Some, None, Result, Ok, Err, OnErr, refl, sym, ap, subst, ◌∙◌, arith, take-append-drop}
+use Rattle.std.proofs.Common.{◌≡◌, ◌+◌, ◌==◌, ◌||◌, ◌∷◌, [], ◌++◌, Bool, true, false, if◌then◌else◌, ℕ, List, take, drop, Option, Some, None, Result, Ok, Err, OnErr, refl, sym, ap, subst, ◌∙◌, arith, take-append-drop}
 use Rattle.std.proofs.lemmas.List.{append-nil}
 use Rattle.block_disk.specs.Images.{IsWritten}
 use Rattle.block_disk.specs.Happenings.{Happening, content_of, wrote}
 use Rattle.block_disk.specs.MemDisk.{DiskState, after_write}
-use Rattle.block_disk.specs.Plan.{FaultPlan, strikes, after_call, is_next, counted_down, write_of, stop_counted_down, left_of, left_by_stop, left_by_plan, GoesByPlan, IsLeftByPlan}
+use Rattle.block_disk.specs.Plan.{strikes, after_call, is_next, counted_down, write_of, stop_counted_down, left_of, left_by_stop, left_by_plan, GoesByPlan, IsLeftByPlan}
 use Rattle.block_disk.specs.Orders.{plan_of, after_orders, fault_strike, strike_by, strike_of, left_by}
 use Rattle.block_disk.specs.declared.fault.How.{How}
 use Rattle.block_disk.specs.declared.fault.Stop.{Stop}

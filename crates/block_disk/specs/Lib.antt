@@ -1,5 +1,6 @@
 pub mod Images
 pub mod Counts
+pub mod Spare
 pub mod Plan
 pub mod Happenings
 pub mod ImageLaws

@@ -1,8 +1,9 @@
 -- A disk in memory as its callers see it, and what its calls do to it.
-use Rattle.std.specs.Prelude.{ℕ, ◌-◌, List, [], length, max, Bool, true, false, None}
+use Rattle.std.specs.Prelude.{ℕ, List, [], Bool, true, false, None}
 use Rattle.dtx_ports.specs.Causes.{risen}
 use Rattle.block_disk.specs.Images.{MayBeTorn}
 use Rattle.block_disk.specs.Counts.{next_count}
+use Rattle.block_disk.specs.Spare.{Spare, no_spare, with_room, spent_on}
 use Rattle.block_disk.specs.Plan.{strikes}
 use Rattle.block_disk.specs.Happenings.{Happening, wrote, synced}
 use Rattle.block_disk.specs.declared.fault.DiskFault.{DiskFault}
@@ -12,7 +13,7 @@ use Rattle.block_disk.specs.Orders.{plan_of, after_order, powered, after_orders,
 -- A disk in memory.
 pub record DiskState : Type 0 where
   pub happenings : List Happening  -- its writes and syncs, newest first
-  pub spare : ℕ  -- how many bytes may still be written without more memory
+  pub spare : Spare  -- what may still be written without more memory
   pub faults : ℕ  -- how many calls failed, at most 2^64 - 1
   pub calls : ℕ  -- how many counted calls were made, modulo 2^64
   pub writes : ℕ  -- how many of them were writes, modulo 2^64
@@ -20,7 +21,7 @@ pub record DiskState : Type 0 where
 
 -- an empty disk that was not called yet, with no order
 abbrev pub blank : DiskState
-blank = record { happenings = []; spare = 0; faults = 0; calls = 0; writes = 0; orders = record { stopped = false; stop = None; fault = None } }
+blank = record { happenings = []; spare = no_spare; faults = 0; calls = 0; writes = 0; orders = record { stopped = false; stop = None; fault = None } }
 
 -- the count of faults after a call that an order strikes, or not
 abbrev pub faults_after : ℕ → Bool → ℕ
@@ -39,15 +40,15 @@ after_look disk = record disk {
   orders = after_orders disk.orders false;
 }
 
--- with room for this many bytes
-abbrev pub after_room : DiskState → ℕ → DiskState
-after_room disk more = record disk { spare = max disk.spare more }
+-- with room for this many bytes in this many writes
+abbrev pub after_room : DiskState → ℕ → ℕ → DiskState
+after_room disk bytes writes = record disk { spare = with_room bytes writes disk.spare }
 
 -- after a write
 abbrev pub after_write : DiskState → ℕ → List ℕ → DiskState
 after_write disk at bytes = record {
   happenings = wrote at (left_by (strike_of disk.orders) bytes) disk.happenings;
-  spare = disk.spare - length (left_by (strike_of disk.orders) bytes);
+  spare = spent_on (left_by (strike_of disk.orders) bytes) disk.spare;
   faults = faults_after disk.faults (strikes (plan_of disk.orders) true);
   calls = next_count disk.calls;
   writes = next_count disk.writes;

@@ -1,8 +1,9 @@
 //! The trait of disks.
-ghost use Rattle.std.specs.Prelude.{◌≡◌, ◌+◌, ◌-◌, ◌≤◌, ◌<◌, ℕ, List, Option, Bool, true, false, length, take, drop, IfOk, OnOk, OnErr};
+ghost use Rattle.std.specs.Prelude.{◌≡◌, ◌+◌, ◌≤◌, ◌<◌, ℕ, List, Option, Bool, true, false, length, take, drop, IfOk, OnOk, OnErr};
 ghost use Rattle.dtx_ports.specs.Causes.{HasCause};
 ghost use Rattle.block_disk.specs.Images.{IsWritten, TearsOnly, AddsNone, IsOnly, GoesOn};
 ghost use Rattle.block_disk.specs.Counts.{next_count};
+ghost use Rattle.block_disk.specs.Spare.{Spare, HasRoom, spent};
 ghost use Rattle.block_disk.specs.Plan.{FaultPlan, GoesByPlan, IsLeftByPlan};
 
 use dtx_ports::Failed;
@@ -23,9 +24,9 @@ pub trait Disk {
     /// The contents that a crash at this moment or a later one, up to now, might have left.
     ghost images_since: { Self → ℕ → List ℕ → Type 0 };
 
-    /// How many bytes may still be written without more memory, for the content and for what the disk keeps of each
-    /// write.
-    ghost spare: { Self → ℕ };
+    /// How many bytes may still be written, and in how many writes, without more memory for the content and for what
+    /// the disk keeps of each write.
+    ghost spare: { Self → Spare };
 
     /// How often it has failed: a `u64` that never falls and stays at 2^64 - 1 once it is there.
     ghost faults: { Self → ℕ };
@@ -51,13 +52,14 @@ pub trait Disk {
         ensures writes { writes self.new ≡ writes self.old }
         ensures plan { GoesByPlan (plan self.old) (plan self.new) false result };
 
-    /// Makes room for this many bytes to be written. It is not a counted call. Fails where memory runs out.
-    fn room(&mut self, more: u64) -> Result<(), AllocError>
-        ensures room { OnOk result (more ≤ spare self.new) }
+    /// Makes room for this many bytes to be written, in so many writes. It is not a counted call. Fails where memory
+    /// runs out.
+    fn room(&mut self, bytes: u64, times: u64) -> Result<(), AllocError>
+        ensures room { OnOk result (HasRoom bytes times (spare self.new)) }
         ensures content { content self.new ≡ content self.old }
         ensures images { AddsNone (images self.old) (images self.new) }
         ensures time { GoesOn (moment self.old) (moment self.new) (images_since self.old) (images_since self.new) (images self.new) }
-        ensures spare { spare self.old ≤ spare self.new }
+        ensures spare { HasRoom (spare self.old).bytes (spare self.old).writes (spare self.new) }
         ensures faults { faults self.new ≡ faults self.old }
         ensures calls { calls self.new ≡ calls self.old }
         ensures writes { writes self.new ≡ writes self.old }
@@ -83,11 +85,11 @@ pub trait Disk {
     fn write_at(&mut self, at: u64, bytes: &[u8]) -> Result<(), Failed>
         requires within { at ≤ length (content self.old) }
         requires some { 0 < length bytes.now }
-        requires room { length bytes.now ≤ spare self.old }
+        requires room { HasRoom (length bytes.now) 1 (spare self.old) }
         ensures written { OnOk result (IsWritten (content self.old) at bytes.now (content self.new)) }
         ensures images { TearsOnly at (length bytes.now) (images self.old) (images self.new) }
         ensures time { GoesOn (moment self.old) (moment self.new) (images_since self.old) (images_since self.new) (images self.new) }
-        ensures spare { OnOk result (spare self.new ≡ spare self.old - length bytes.now) }
+        ensures spare { OnOk result (spare self.new ≡ spent (length bytes.now) (spare self.old)) }
         ensures cause { HasCause (faults self.old) (faults self.new) result }
         ensures calls { calls self.new ≡ next_count (calls self.old) }
         ensures writes { writes self.new ≡ next_count (writes self.old) }

@@ -1,9 +1,10 @@
 //! A disk in memory that takes orders to stop or to fail.
-ghost use Rattle.std.specs.Prelude.{◌≡◌, ◌+◌, ◌-◌, ◌≤◌, ◌<◌, [], ◌∷◌, Some, true, false, length, take, drop, IfOk, IsErr, OnOk, OnErr};
+ghost use Rattle.std.specs.Prelude.{◌≡◌, ◌+◌, ◌≤◌, ◌<◌, [], ◌∷◌, Some, true, false, length, take, drop, IfOk, IsErr, OnOk, OnErr};
 ghost use Rattle.dtx_ports.specs.Causes.{HasCause};
 ghost use Rattle.block_disk.specs.Plan.{free, GoesByPlan};
 ghost use Rattle.block_disk.specs.Happenings.{Wrote, content_of, IsImage, IsImageSince};
 ghost use Rattle.block_disk.specs.MemDisk.{blank, after_fault, after_look, after_room, after_write, after_sync, after_arm, after_power_on, RisksEach};
+ghost use Rattle.block_disk.specs.Spare.{HasRoom, spent};
 ghost use Rattle.block_disk.specs.Orders.{plan_of};
 ghost use Rattle.block_disk.specs.ImageLaws.{IsImage-content_of, IsImageSince-now, IsImageSince-length};
 
@@ -131,11 +132,11 @@ impl Disk for MemDisk {
         }
     }
 
-    fn room(&mut self, more: u64) -> Result<(), AllocError>
-        ensures ok { OnOk result (self.new ≡ after_room self.old more) }
+    fn room(&mut self, bytes: u64, times: u64) -> Result<(), AllocError>
+        ensures ok { OnOk result (self.new ≡ after_room self.old bytes times) }
         ensures err { OnErr result (self.new ≡ self.old) }
     {
-        self.surface.reserve(more as usize)
+        self.surface.reserve(bytes as usize, times as usize)
     }
 
     fn read(&mut self, at: u64, buffer: &mut [u8]) -> Result<(), Failed>
@@ -159,9 +160,9 @@ impl Disk for MemDisk {
     fn write_at(&mut self, at: u64, bytes: &[u8]) -> Result<(), Failed>
         requires within { at ≤ length (content_of self.old.happenings) }
         requires some { 0 < length bytes.now }
-        requires room { length bytes.now ≤ self.old.spare }
+        requires room { HasRoom (length bytes.now) 1 self.old.spare }
         ensures ok { OnOk result (self.new.happenings ≡ Wrote at bytes.now ∷ self.old.happenings) }
-        ensures spare { OnOk result (self.new.spare ≡ self.old.spare - length bytes.now) }
+        ensures spare { OnOk result (self.new.spare ≡ spent (length bytes.now) self.old.spare) }
         ensures state { self.new ≡ after_write self.old at bytes.now }
         ensures cause { HasCause self.old.faults self.new.faults result }
         ensures plan { GoesByPlan (Some (plan_of self.old.orders)) (Some (plan_of self.new.orders)) true result }

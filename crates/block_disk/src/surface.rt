@@ -1,6 +1,7 @@
 //! What a disk in memory is written on: its bytes, and its past.
-ghost use Rattle.std.specs.Prelude.{◌≡◌, ◌+◌, ◌-◌, ◌≤◌, ◌<◌, [], ◌∷◌, ◌++◌, max, length, take, drop, vec_len, vec_capacity, OnOk, OnErr};
+ghost use Rattle.std.specs.Prelude.{◌≡◌, ◌+◌, ◌≤◌, ◌<◌, [], ◌∷◌, ◌++◌, max, length, take, drop, vec_len, vec_capacity, OnOk, OnErr};
 ghost use Rattle.block_disk.specs.Happenings.{Wrote, content_of, wrote, synced};
+ghost use Rattle.block_disk.specs.Spare.{no_spare, HasRoom, with_room, spent, spent_on};
 
 use crate::past::Past;
 use std::alloc::{AllocError, Global};
@@ -25,14 +26,14 @@ impl Model for Surface {
     // The bytes are what was written to an empty disk, and there is room for what may still be written.
     ghost invariant = { λ disk.
         (disk.bytes.items ≡ content_of disk.past.happenings)
-        × (vec_len disk.bytes + disk.past.spare ≤ vec_capacity disk.bytes) };
+        × (vec_len disk.bytes + disk.past.spare.bytes ≤ vec_capacity disk.bytes) };
 }
 
 impl Surface {
     /// No bytes, and nothing can be written before `reserve`.
     pub fn new(alloc: Global) -> Surface
         ensures happenings { result.happenings ≡ [] }
-        ensures spare { result.spare ≡ 0 }
+        ensures spare { result.spare ≡ no_spare }
     {
         Surface {
             bytes: Vec::new(alloc),
@@ -47,24 +48,24 @@ impl Surface {
         self.bytes.as_slice()
     }
 
-    /// Makes room for this many bytes to be written. Fails where memory runs out, and has changed nothing then that
+    /// Makes room for this many bytes to be written, in this many writes. Fails where memory runs out, and has changed nothing then that
     /// contracts see.
-    pub fn reserve(&mut self, more: usize) -> Result<(), AllocError>
+    pub fn reserve(&mut self, bytes: usize, writes: usize) -> Result<(), AllocError>
         ensures happenings { self.new.happenings ≡ self.old.happenings }
-        ensures spare { OnOk result (self.new.spare ≡ max self.old.spare more) }
+        ensures spare { OnOk result (self.new.spare ≡ with_room bytes writes self.old.spare) }
         ensures err { OnErr result (self.new.spare ≡ self.old.spare) }
     {
-        self.bytes.reserve(more)?;
-        self.past.reserve(more)
+        self.bytes.reserve(bytes)?;
+        self.past.reserve(bytes, writes)
     }
 
     /// Writes bytes at a place within the length or at the end.
     pub fn write(&mut self, at: u64, bytes: &[u8])
         requires within { at ≤ length (content_of self.old.happenings) }
         requires some { 0 < length bytes.now }
-        requires room { length bytes.now ≤ self.old.spare }
+        requires room { HasRoom (length bytes.now) 1 self.old.spare }
         ensures happenings { self.new.happenings ≡ Wrote at bytes.now ∷ self.old.happenings }
-        ensures spare { self.new.spare ≡ self.old.spare - length bytes.now }
+        ensures spare { self.new.spare ≡ spent (length bytes.now) self.old.spare }
     {
         overwrite(&mut self.bytes, at as usize, bytes);
         self.past.push_write(at, bytes);
@@ -73,9 +74,9 @@ impl Surface {
     /// Writes what a write leaves that was cut short, which may be nothing.
     pub fn write_part(&mut self, at: u64, bytes: &[u8])
         requires within { at ≤ length (content_of self.old.happenings) }
-        requires room { length bytes.now ≤ self.old.spare }
+        requires room { HasRoom (length bytes.now) 1 self.old.spare }
         ensures happenings { self.new.happenings ≡ wrote at bytes.now self.old.happenings }
-        ensures spare { self.new.spare ≡ self.old.spare - length bytes.now }
+        ensures spare { self.new.spare ≡ spent_on bytes.now self.old.spare }
     {
         if !bytes.is_empty() {
             self.write(at, bytes);

@@ -121,7 +121,7 @@ map_filtered f p (x ∷ xs) = by (p (f x)) (map_filtered f p xs)
 -- ---- one entry more
 
 module _ (n : ℕ) (es : List Entry) (e : Entry) where
-  abbrev more : List Entry
+  abbrev pub more : List Entry
   more = es ++ e ∷ []
 
   -- an entry that ends nobody
@@ -133,13 +133,13 @@ module _ (n : ℕ) (es : List Entry) (e : Entry) where
   doubt_same endless (entries.Forced b d) = refl
   doubt_same endless (entries.Met b d mixed) = refl
 
-  doubts_more : ((b : BranchId) → is_end_of b e ≡ false) → in_doubt more n ≡ in_doubt es n ++ doubt_in more n e
+  pub doubts_more : ((b : BranchId) → is_end_of b e ≡ false) → in_doubt more n ≡ in_doubt es n ++ doubt_in more n e
   unfolding in_doubt
   doubts_more endless = flat_last (doubt_in more n) es e ∙ ap (λ bs. bs ++ doubt_in more n e) (same_flat (doubt_in more n) (doubt_in es n) es (λ x there. doubt_same endless x))
 
   -- one that ends this branch
   module _ (c : BranchId) (ends : (b : BranchId) → is_end_of b e ≡ same c b) (seals_none : doubt_in more n e ≡ []) where
-    abbrev others : BranchId → Bool
+    abbrev pub others : BranchId → Bool
     others b = not (same b c)
 
     doubt_less : (x : Entry) → doubt_in more n x ≡ filter others (doubt_in es n x)
@@ -156,7 +156,7 @@ module _ (n : ℕ) (es : List Entry) (e : Entry) where
     doubt_less (entries.Forced b d) = refl
     doubt_less (entries.Met b d mixed) = refl
 
-    doubts_less : in_doubt more n ≡ filter others (in_doubt es n)
+    pub doubts_less : in_doubt more n ≡ filter others (in_doubt es n)
     unfolding in_doubt
     doubts_less =
         flat_last (doubt_in more n) es e
@@ -253,7 +253,7 @@ module _ (n : ℕ) where
   same_stands : {es : List Entry} {ds : List Doubt} → DoubtsStand n es ds → DoubtsStand n (es ++ []) ds
   same_stands {es} {ds} now = subst (λ xs. DoubtsStand n xs ds) (sym (append-nil es)) now
 
-  record_stands : (es : List Entry) (s : Stored) (r : RedoRecord) → RecordComes es r → DoubtsStand n es s.doubts → DoubtsStand n (es ++ entry_of n r) (applied s r).doubts
+  pub record_stands : (es : List Entry) (s : Stored) (r : RedoRecord) → RecordComes es r → DoubtsStand n es s.doubts → DoubtsStand n (es ++ entry_of n r) (applied s r).doubts
   unfolding applied
   record_stands es s (records.Table t) comes now = stands_on n es s.doubts now (entries.Made n t) tt (λ b. refl) refl
   record_stands es s (records.Sealed r) comes now = stands_sealed n es s.doubts now r.me r.root r.changes r.scn (doubt_over s.rows r) comes.0 comes.1 refl refl

@@ -81,7 +81,7 @@ pub seal_found : (book : List Entry) (b g : BranchId) (cs : List Change) (scn : 
 seal_found book b g cs scn there = finds (is_sealed_of b) (entries.Sealed b g cs scn) book there (same_from_equal b b refl)
 
 -- the transaction of a sealed branch
-global_stays : (b g : BranchId) (xs ys : List Entry) → global_in b xs ≡ Some g → global_in b (xs ++ ys) ≡ Some g
+pub global_stays : (b g : BranchId) (xs ys : List Entry) → global_in b xs ≡ Some g → global_in b (xs ++ ys) ≡ Some g
 global_stays b g [] ys is = absurd cc
 global_stays b g (entries.Sealed c h cs n ∷ xs) ys is = by (same c b) is (global_stays b g xs ys)
   where

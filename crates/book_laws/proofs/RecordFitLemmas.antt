@@ -52,7 +52,7 @@ abbrev pub HasChangesIn : List Table → RedoRecord → Type 0
 HasChangesIn ts r = AreChangesIn ts (changes_by r)
 
 -- a record leaves the tables, or makes one more
-stay : (s : Stored) (r : RedoRecord) (cs : List Change) → AreChangesIn s.durable.tables cs → AreChangesIn (applied s r).durable.tables cs
+pub stay : (s : Stored) (r : RedoRecord) (cs : List Change) → AreChangesIn s.durable.tables cs → AreChangesIn (applied s r).durable.tables cs
 unfolding applied durable_after
 stay s (records.Table t) cs all = changes_stay s.durable.tables t cs all
 stay s (records.Param (params.Recovery on)) cs all = all
@@ -78,7 +78,7 @@ back_unwritten : (P : RedoRecord → Type 0) (k : NodeState) (x : Branch) (step 
 back_unwritten P k x step = backs_unwritten P (node_back k x step) (branch_back k x step) step (next_back (branch_back k x step).work step 1)
 
 -- the record of a step has changes of tables of its node
-step_changes : (p : Place) (input : Input) {k : NodeState} {d : TurnDraft} → Step p input k d → LiveChangesFit k.stored.durable.tables k.owns → IfSome d.wrote (HasChangesIn k.stored.durable.tables)
+pub step_changes : (p : Place) (input : Input) {k : NodeState} {d : TurnDraft} → Step p input k d → LiveChangesFit k.stored.durable.tables k.owns → IfSome d.wrote (HasChangesIn k.stored.durable.tables)
 step_changes p input (steps.Begins n s read_at call begins fit none step) own = step_changes p input step own
 step_changes p input (steps.Counts_call n s call counts step) own = step_changes p input step own
 step_changes p input (steps.Goes_back {k = k} x step goes next) own = back_unwritten (HasChangesIn k.stored.durable.tables) k x step
@@ -99,7 +99,7 @@ step_changes p input _ own = tt
 abbrev pub ChangesFit : List RedoRecord → Type 0
 ChangesFit rs = AreWhole rs → AllByRecursion (HasChangesIn (stored_by nothing_stored rs).durable.tables) rs
 
-before : (rs : List RedoRecord) (w : Option RedoRecord) → AreWhole (rs ++ option_to_list w) → AreWhole rs
+pub before : (rs : List RedoRecord) (w : Option RedoRecord) → AreWhole (rs ++ option_to_list w) → AreWhole rs
 before [] w all = tt
 before (x ∷ rs) w all = (all.0, before rs w all.1)
 

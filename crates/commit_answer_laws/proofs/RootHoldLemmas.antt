@@ -31,7 +31,7 @@ use Rattle.node_rules.specs.Statement.{ran, after_run}
 use Rattle.node_rules.specs.Words.{same, item_at, put_item, drop_item}
 use Rattle.node_rules.proofs.StepLemmas.{branch_found, acting_live, acting_so}
 use Rattle.node_rules.proofs.Steps as steps
-use Rattle.node_rules.proofs.Steps.{Step, Acting, BeginsBy, Collected, Doing, IsCounted, Makes}
+use Rattle.node_rules.proofs.Steps.{Step, Acting, BeginsBy, Collected, Doing, Makes}
 use Rattle.run_base_laws.proofs.BeginLemmas.{MayBegin, may_begin}
 use Rattle.run_base_laws.proofs.RootLemmas.{SessionsFit, session_or_before, root_alone, begun_so, counted_so, back_so, counted_session, pends_so}
 use Rattle.run_branch_laws.proofs.QuietLemmas.{NoRows, acting_apart, came_apart}

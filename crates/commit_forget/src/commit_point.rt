@@ -1,6 +1,6 @@
 //! What a live branch does about CommitPoint.
 ghost use Rattle.std.specs.Prelude.{◌≡◌, ◌≤◌, length};
-ghost use Rattle.dtx_values.specs.Limits.{branch_limit};
+ghost use Rattle.dtx_values.specs.Limits.{link_limit};
 ghost use Rattle.commit_forget.specs.Next.{commit_point_act, pointed_act};
 
 use session_tree::{Act, Live, Phase, Walk, step};
@@ -9,7 +9,7 @@ use session_tree::{Act, Live, Phase, Walk, step};
 /// another branch becomes sealed and passes it on down the walk.
 #[tactic(auto, unfolding(crate::specs::Next::pointed_act))]
 pub fn on_commit_point(live: &Live) -> Act
-    requires { length live.now.edges ≤ branch_limit }
+    requires { length live.now.edges ≤ link_limit }
     ensures { result ≡ pointed_act live.now }
 {
     match live.phase {

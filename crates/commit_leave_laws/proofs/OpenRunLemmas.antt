@@ -16,7 +16,7 @@ use Rattle.node_rules.specs.Sessions.{session_at}
 use Rattle.node_rules.specs.Turn.{turn_of, draft_of, heard}
 use Rattle.node_rules.proofs.StandLemmas.{live_so}
 use Rattle.node_rules.proofs.Steps as steps
-use Rattle.node_rules.proofs.Steps.{HasRoot, IsOfRows}
+use Rattle.node_rules.proofs.Steps.{HasRoot}
 use Rattle.run_rules.specs.Births.{born_at}
 use Rattle.run_base_laws.specs.BirthLaws.{Began, GoesSo, IsChild}
 use Rattle.run_base_laws.specs.CallLaws.{ComesAtRest}

@@ -5,7 +5,8 @@ use Rattle.std.specs.List.{AllByRecursion, list_any}
 use Rattle.tran_ids.proofs.BranchLemmas.{equal_from_same}
 use Rattle.tran_ids.proofs.ListedLemmas.{item_is}
 use Rattle.agreement.specs.Events.{Exit, Sealed, Decided, Dropped, exit, learned}
-use Rattle.node_rules.specs.Data.{BranchId, Decision, Live, Phase, KeptRow}
+use Rattle.commit_forget.specs.Beyond.{all_acked}
+use Rattle.node_rules.specs.Data.{BranchId, Decision, Kind, Live, Phase, KeptRow}
 use Rattle.node_rules.specs.Data.decisions
 use Rattle.node_rules.specs.Data.phases
 use Rattle.node_rules.specs.Data.stmts
@@ -41,20 +42,19 @@ use Rattle.run_claims.specs.Undisturbed.{Commit}
 use Rattle.commit_spread_laws.proofs.FirstLemmas.{commits_come_first}
 use Rattle.tree_laws.proofs.MoreLemmas.{inv_at}
 use Rattle.commit_length_laws.specs.FewLaws.{Flows}
-use Rattle.commit_length_laws.proofs.TotalLemmas.{total}
-use Rattle.commit_length_laws.proofs.WorthLemmas.{phase_worth, known_worth, neighbors, worth, live_worth, row_worth, node_worth}
-use Rattle.commit_length_laws.proofs.FlightLemmas.{flight, net_worth, kept_worth, AllFly}
-use Rattle.commit_length_laws.proofs.TreeLemmas.{far, Course}
+use Rattle.commit_length_laws.proofs.FlightLemmas.{AllFly}
+use Rattle.commit_length_laws.proofs.TreeLemmas.{Course}
 use Rattle.tree_laws.proofs.AtPart.{at_part}
 use Rattle.commit_laws.proofs.StillLemmas.{none_placed}
+use Rattle.commit_length_laws.specs.Worth.{total, flight, net_weight, kept_weight, nodes_weight, neighbors, phase_worth, known_worth, live_worth, row_worth, node_worth}
 
 -- ---- sums of nothing
 
-total_none : {A : Type 0} (f : A → ℕ) (xs : List A) → AllByRecursion (λ x. f x ≡ 0) xs → total f xs ≡ 0
+pub total_none : {A : Type 0} (f : A → ℕ) (xs : List A) → AllByRecursion (λ x. f x ≡ 0) xs → total f xs ≡ 0
 total_none f [] all = refl
 total_none f (x ∷ xs) all = (let here = all.0 in let rest = total_none f xs all.1 in omega (arith, here, rest))
 
-total_each : {A : Type 0} (f : A → ℕ) (xs : List A) → ((n : ℕ) (x : A) → numbered xs n ≡ Some x → f x ≡ 0) → total f xs ≡ 0
+pub total_each : {A : Type 0} (f : A → ℕ) (xs : List A) → ((n : ℕ) (x : A) → numbered xs n ≡ Some x → f x ≡ 0) → total f xs ≡ 0
 total_each f [] each = refl
 total_each f (x ∷ xs) each = (let here = each 1 x refl in let rest = total_each f xs (λ n y at. later n y at) in omega (arith, here, rest))
   where
@@ -77,9 +77,6 @@ none_all p (x ∷ xs) is = by (p x) refl is (none_all p xs)
 module _ (t : History) (whole : IsLawfulRun t) (c : Commit t.places t.commands t.trace) (flows : Flows t.places t.commands t.trace c) where
   open c use {before as hs, kept as k, call as v}
   open at_part t hs use {s, f, said, bs}
-
-  abbrev distance : BranchId → ℕ
-  distance b = far t whole c b
 
   pub part : Part t whole hs
   part = part_of t whole hs (happenings.Turn c.call) c.during c.is
@@ -141,7 +138,7 @@ module _ (t : History) (whole : IsLawfulRun t) (c : Commit t.places t.commands t
       by (Some q) up = unasked z began of q up (above.3 q (ap (λ (a : Born). a.parent) it ∙ up))
 
   module _ (n : ℕ) (j : NodeState) (upj : node_at f n ≡ Some j) where
-    live_none : (l : Live) → live_at j l.me ≡ Some l → LiveIs (Began bs) l → live_worth c.root (λ b. 0) distance l ≡ 0
+    live_none : (l : Live) → live_at j l.me ≡ Some l → LiveIs (Began bs) l → live_worth c.root l ≡ 0
     live_none l live placed = if_none (same l.root c.root) (phase_worth l.phase (length l.edges)) (λ of. by_phase (equal_from_same l.root c.root of) l.phase refl)
       where
         y : Branch
@@ -175,8 +172,9 @@ module _ (t : History) (whole : IsLawfulRun t) (c : Commit t.places t.commands t
         by_phase of (phases.Collecting b) is = absurd (busy of (λ working. (let both : phases.Collecting b ≡ phases.Working = sym is ∙ working in absurd cc)) l.parent refl)
         by_phase of phases.Ready is = absurd (busy of (λ working. (let both : phases.Ready ≡ phases.Working = sym is ∙ working in absurd cc)) l.parent refl)
 
-    row_none : (r : KeptRow) → RowIs (e_at t hs) r → KeptIs (Began bs) r → row_worth c.root (λ b. 0) distance r ≡ 0
-    row_none r row placed = if_none (same r.root c.root) (known_worth r.forgot r.decision (neighbors r)) (λ of. absurd (by (equal_from_same r.root c.root of) r.decision row.known))
+    -- no row is of the transaction
+    pub row_other : (r : KeptRow) → RowIs (e_at t hs) r → KeptIs (Began bs) r → same r.root c.root ≡ false
+    row_other r row placed = of (same r.root c.root) refl
       where
         left_so : r.root ≡ c.root → (w : Exit) → w ≢ Dropped → exit (e_at t hs) r.me ≡ Some w → ⊥
         left_so of w other left = not_left placed.born placed.began (placed.is_root ∙ of) w other (subst (λ i. exit (e_at t hs) i ≡ Some w) (sym placed.is_me) left)
@@ -190,30 +188,43 @@ module _ (t : History) (whole : IsLawfulRun t) (c : Commit t.places t.commands t
         by of (Some (decisions.Commit m)) (inr knows) = sealed_so of (decisions.Commit m) knows
         by of (Some decisions.Rollback) is = sealed_so of decisions.Rollback is
 
-    node_none : node_worth c.root (λ b. 0) distance j ≡ 0
+        of : (q : Bool) → same r.root c.root ≡ q → q ≡ false
+        of false is = refl
+        of true is = absurd (by (equal_from_same r.root c.root is) r.decision row.known)
+
+    row_none : (r : KeptRow) → RowIs (e_at t hs) r → KeptIs (Began bs) r → row_worth c.root r ≡ 0
+    row_none r row placed = ap (λ q. if q then known_worth r.decision r.forgot (all_acked r) (neighbors r) else 0) (row_other r row placed)
+
+    -- so it is of each
+    pub rows_other : AllByRecursion (λ (r : KeptRow). same r.root c.root ≡ false) j.stored.durable.kept
+    rows_other =
+        all_weaker (λ (r : KeptRow). RowIs (e_at t hs) r × KeptIs (Began bs) r) (λ r. same r.root c.root ≡ false) (λ r so. row_other r so.0 so.1) j.stored.durable.kept
+        (all_both (RowIs (e_at t hs)) (KeptIs (Began bs)) j.stored.durable.kept (nodes_are_as_events s lawful n j upj).1 (nodes_name_the_born s lawful n j upj).1)
+
+    node_none : node_worth c.root j ≡ 0
     node_none =
         let names = nodes_name_the_born s lawful n j upj in
         let events = nodes_are_as_events s lawful n j upj in
-        let lives : total (live_worth c.root (λ b. 0) distance) j.lives ≡ 0 = total_none (live_worth c.root (λ b. 0) distance) j.lives
-        (all_weaker (λ (l : Live). (item_at live_id j.lives l.me ≡ Some l) × LiveIs (Began bs) l) (λ l. live_worth c.root (λ b. 0) distance l ≡ 0) (λ l so. live_none l so.0 so.1) j.lives
+        let lives : total (live_worth c.root) j.lives ≡ 0 = total_none (live_worth c.root) j.lives
+        (all_weaker (λ (l : Live). (item_at live_id j.lives l.me ≡ Some l) × LiveIs (Began bs) l) (λ l. live_worth c.root l ≡ 0) (λ l so. live_none l so.0 so.1) j.lives
         (all_both (λ (l : Live). item_at live_id j.lives l.me ≡ Some l) (LiveIs (Began bs)) j.lives (lives_found s lawful n j upj) names.0)) in
-        let rows : total (row_worth c.root (λ b. 0) distance) j.stored.durable.kept ≡ 0 = total_none (row_worth c.root (λ b. 0) distance) j.stored.durable.kept
-        (all_weaker (λ (r : KeptRow). RowIs (e_at t hs) r × KeptIs (Began bs) r) (λ r. row_worth c.root (λ b. 0) distance r ≡ 0) (λ r so. row_none r so.0 so.1) j.stored.durable.kept
+        let rows : total (row_worth c.root) j.stored.durable.kept ≡ 0 = total_none (row_worth c.root) j.stored.durable.kept
+        (all_weaker (λ (r : KeptRow). RowIs (e_at t hs) r × KeptIs (Began bs) r) (λ r. row_worth c.root r ≡ 0) (λ r so. row_none r so.0 so.1) j.stored.durable.kept
         (all_both (RowIs (e_at t hs)) (KeptIs (Began bs)) j.stored.durable.kept events.1 names.1)) in
         omega (arith, lives, rows)
 
-  pub nodes_none : total (kept_worth c.root distance) f.nodes ≡ 0
-  nodes_none = total_each (kept_worth c.root distance) f.nodes each
+  pub nodes_none : nodes_weight (node_worth c.root) f ≡ 0
+  nodes_none = total_each (kept_weight (node_worth c.root)) f.nodes each
     where
-      each : (n : ℕ) (o : Option NodeState) → numbered f.nodes n ≡ Some o → kept_worth c.root distance o ≡ 0
+      each : (n : ℕ) (o : Option NodeState) → numbered f.nodes n ≡ Some o → kept_weight (node_worth c.root) o ≡ 0
       each n None at = refl
       each n (Some j) at = node_none n j (ap flat at)
 
   down : AllByRecursion (λ y. flies y ≡ false) f.net.packets
   down = none_all flies f.net.packets (none_placed flies f.net.packets flows.still)
 
-  pub net_none : (ask : BranchId → ℕ) → net_worth c.root distance ask f.net ≡ 0
-  net_none ask = total_none (flight c.root distance ask) f.net.packets (all_weaker (λ (y : Packet). flies y ≡ false) (λ y. flight c.root distance ask y ≡ 0) (λ y is. ap (λ q. if q then worth c.root ask distance y.msg.to y.msg.kind else 0) is) f.net.packets down)
+  pub net_none : (weigh : BranchId → BranchId → Kind → ℕ) → net_weight weigh f.net ≡ 0
+  net_none weigh = total_none (flight weigh) f.net.packets (all_weaker (λ (y : Packet). flies y ≡ false) (λ y. flight weigh y ≡ 0) (λ y is. ap (λ q. if q then weigh y.msg.from y.msg.to y.msg.kind else 0) is) f.net.packets down)
 
   pub none_fly : AllFly (Course t whole c) f.net
   none_fly = all_weaker (λ (y : Packet). flies y ≡ false) (λ y. flies y ≡ true → Course t whole c y.msg) (λ y is flying. absurd (cc (is, flying))) f.net.packets down

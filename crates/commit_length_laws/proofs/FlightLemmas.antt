@@ -1,28 +1,22 @@
--- All that is in flight and kept, and how a delivery lessens it.
-use Rattle.std.proofs.Common.{◌≡◌, ℕ, ◌+◌, ◌≤◌, Bool, true, false, if◌then◌else◌, List, [], ◌∷◌, map, length, Option, Some, None, inl, inr, refl, sym, ap, subst, ◌∙◌, arith}
+-- What is in flight and kept, each message and each branch with a weight, and how a turn changes it.
+use Rattle.std.proofs.Common.{◌≡◌, ℕ, ◌+◌, ◌≤◌, Bool, true, false, if◌then◌else◌, List, [], ◌∷◌, map, Option, Some, None, refl, sym, ap, subst, ◌∙◌, arith}
 use Rattle.std.specs.List.{AllByRecursion}
-use Rattle.node_rules.specs.Data.{BranchId, Kind, Live, Msg, Phase, Place, Post}
-use Rattle.node_rules.specs.Data.kinds
-use Rattle.node_rules.specs.Data.phases
+use Rattle.node_rules.specs.Data.{BranchId, Kind, Msg, Place, Post}
 use Rattle.node_rules.specs.Words.{numbered}
-use Rattle.node_rules.specs.NodeState.{NodeState, TurnDraft, live_at}
+use Rattle.node_rules.specs.NodeState.{NodeState, TurnDraft}
 use Rattle.node_rules.specs.Turn.{stamped, turn_of, draft_of}
-use Rattle.session_tree.specs.Tree.{count}
 use Rattle.net_bag.specs.Net.{Net, packet, packet_at, flies, is_flying, fated, with_fate, first_fate, delivered, sent_on, sent_one}
 use Rattle.run_rules.specs.Data.{Command, Packet, Took, Turn}
 use Rattle.run_rules.specs.Data.fates
 use Rattle.run_rules.specs.Data.happenings
 use Rattle.std.proofs.lemmas.Bool.{cond_both}
 use Rattle.tran_ids.proofs.NumberedLemmas.{set_found}
-use Rattle.run_rules.specs.Facts.{Facts, flat, place_at, node_at, kept_after, outcome_at, served, taken, facts_after}
-use Rattle.run_rules.proofs.AtNodeLemmas.{flat_some, turn_elsewhere}
+use Rattle.run_rules.specs.Facts.{Facts, place_at, node_at, kept_after, outcome_at, served, taken, facts_after, flat}
+use Rattle.run_rules.proofs.AtNodeLemmas.{flat_some}
 use Rattle.run_rules.proofs.ListLemmas.{all_append}
-use Rattle.run_base_laws.proofs.TurnEventLemmas.{cases_nat}
 use Rattle.commit_laws.proofs.NetLemmas.{set_all}
-use Rattle.commit_length_laws.proofs.TotalLemmas.{total, total_append, total_low, set_total}
-use Rattle.commit_length_laws.proofs.WorthLemmas.{worth, says_worth, node_worth}
-use Rattle.commit_length_laws.proofs.SayLemmas.{WorksOn}
-use Rattle.commit_length_laws.proofs.FullLemmas.{full_by, full, live_in, ask_in, ask_two}
+use Rattle.commit_length_laws.proofs.TotalLemmas.{total_append, set_total}
+use Rattle.commit_length_laws.specs.Worth.{total, flight, net_weight, kept_weight, nodes_weight}
 
 if_less : (q : Bool) (n m : ℕ) → n ≤ m → (if q then n else 0) ≤ m
 if_less true n m low = low
@@ -32,154 +26,87 @@ pub if_both : (q : Bool) (n m : ℕ) → n ≤ m → (if q then n else 0) ≤ (i
 if_both true n m low = low
 if_both false n m low = omega arith
 
-module _ (g : BranchId) (far : BranchId → ℕ) where
-  -- what a packet is worth while it is in flight
-  abbrev pub flight : (BranchId → ℕ) → Packet → ℕ
-  flight ask x = if flies x then worth g ask far x.msg.to x.msg.kind else 0
+-- ---- messages
 
-  abbrev pub net_worth : (BranchId → ℕ) → Net → ℕ
-  net_worth ask net = total (flight ask) net.packets
+module _ (weigh : BranchId → BranchId → Kind → ℕ) where
+  abbrev pub posts_weight : List Post → ℕ
+  posts_weight ms = total (λ m. weigh m.from m.to m.kind) ms
 
-  -- what a node keeps, where it is up
-  abbrev pub kept_worth : Option NodeState → ℕ
-  kept_worth None = 0
-  kept_worth (Some k) = node_worth g (λ b. 0) far k
+  abbrev sent_weight : List Msg → ℕ
+  sent_weight ms = total (λ m. weigh m.from m.to m.kind) ms
 
-  -- all of it
-  abbrev pub all_worth : Facts → ℕ
-  all_worth f = net_worth (ask_in f) f.net + total kept_worth f.nodes
+  sent_low : (net : Net) (ms : List Msg) → net_weight weigh (sent_on net ms) ≤ net_weight weigh net + sent_weight ms
+  unfolding sent_on
+  sent_low net [] = omega arith
+  sent_low net (m ∷ ms) =
+      let rest = sent_low (sent_one net m) ms in
+      let one = total_append (flight weigh) net.packets (packet m (first_fate net m) ∷ []) in
+      let low = if_less (is_flying (first_fate net m)) (weigh m.from m.to m.kind) (weigh m.from m.to m.kind) (omega arith) in
+      omega (arith, rest, one, low)
 
-  module _ (ask : BranchId → ℕ) where
-    sent_low : (net : Net) (ms : List Msg) → net_worth ask (sent_on net ms) ≤ net_worth ask net + total (λ m. worth g ask far m.to m.kind) ms
-    unfolding sent_on
-    sent_low net [] = omega arith
-    sent_low net (m ∷ ms) =
-        let rest = sent_low (sent_one net m) ms in
-        let one = total_append (flight ask) net.packets (packet m (first_fate net m) ∷ []) in
-        let low = if_less (is_flying (first_fate net m)) (worth g ask far m.to m.kind) (worth g ask far m.to m.kind) (omega arith) in
-        omega (arith, rest, one, low)
+  stamped_total : (clock : ℕ) (ms : List Post) → sent_weight (map (stamped clock) ms) ≡ posts_weight ms
+  stamped_total clock [] = refl
+  stamped_total clock (m ∷ ms) = (let rest = stamped_total clock ms in omega (arith, rest))
 
-    stamped_total : (clock : ℕ) (ms : List Post) → total (λ (m : Msg). worth g ask far m.to m.kind) (map (stamped clock) ms) ≡ says_worth g ask far ms
-    stamped_total clock [] = refl
-    stamped_total clock (m ∷ ms) = (let rest = stamped_total clock ms in omega (arith, rest))
+  fated_less : (xs : List Packet) (n : ℕ) (o : Option Packet) (x : Packet) → numbered xs n ≡ o → o ≡ Some x → x.fate ≡ fates.InFlight → total (flight weigh) (with_fate xs n fates.Delivered o) + weigh x.msg.from x.msg.to x.msg.kind ≤ total (flight weigh) xs
+  fated_less xs n None x at is flying = absurd cc
+  fated_less xs n (Some y) x at is flying =
+      let both : Some y ≡ Some x = is in
+      let it : y ≡ x = cc in
+      let flew : is_flying y.fate ≡ true = ap (λ (z : Packet). is_flying z.fate) it ∙ ap is_flying flying in
+      let all = set_total (flight weigh) xs n y (fated fates.Delivered y) at in
+      let was : flight weigh y ≡ weigh x.msg.from x.msg.to x.msg.kind = ap (λ q. if q then weigh y.msg.from y.msg.to y.msg.kind else 0) flew ∙ ap (λ (z : Packet). weigh z.msg.from z.msg.to z.msg.kind) it in
+      let now : flight weigh (fated fates.Delivered y) ≡ 0 = ap (λ q. flight weigh (if q then packet y.msg fates.Delivered else y)) flew in
+      omega (arith, all, was, now)
 
-    fated_less : (xs : List Packet) (n : ℕ) (o : Option Packet) (x : Packet) → numbered xs n ≡ o → o ≡ Some x → x.fate ≡ fates.InFlight → total (flight ask) (with_fate xs n fates.Delivered o) + worth g ask far x.msg.to x.msg.kind ≤ total (flight ask) xs
-    fated_less xs n None x at is flying = absurd cc
-    fated_less xs n (Some y) x at is flying =
-        let both : Some y ≡ Some x = is in
-        let it : y ≡ x = cc in
-        let flew : is_flying y.fate ≡ true = ap (λ (z : Packet). is_flying z.fate) it ∙ ap is_flying flying in
-        let all = set_total (flight ask) xs n y (fated fates.Delivered y) at in
-        let was : flight ask y ≡ worth g ask far x.msg.to x.msg.kind = ap (λ q. if q then worth g ask far y.msg.to y.msg.kind else 0) flew ∙ ap (λ (z : Packet). worth g ask far z.msg.to z.msg.kind) it in
-        let now : flight ask (fated fates.Delivered y) ≡ 0 = ap (λ q. flight ask (if q then packet y.msg fates.Delivered else y)) flew in
-        omega (arith, all, was, now)
+  delivered_less : (net : Net) (n : ℕ) (x : Packet) → packet_at net n ≡ Some x → x.fate ≡ fates.InFlight → net_weight weigh (delivered net n) + weigh x.msg.from x.msg.to x.msg.kind ≤ net_weight weigh net
+  unfolding delivered
+  delivered_less net n x at flying = fated_less net.packets n (packet_at net n) x refl at flying
 
-    delivered_less : (net : Net) (n : ℕ) (x : Packet) → packet_at net n ≡ Some x → x.fate ≡ fates.InFlight → net_worth ask (delivered net n) + worth g ask far x.msg.to x.msg.kind ≤ net_worth ask net
-    unfolding delivered
-    delivered_less net n x at flying = fated_less net.packets n (packet_at net n) x refl at flying
+  -- a message that is delivered is in flight no more
+  pub taken_less : (net : Net) (took : Option Took) (n : ℕ) (x : Packet) → took ≡ Some (record { number = n; again = false }) → packet_at net n ≡ Some x → x.fate ≡ fates.InFlight
+      → net_weight weigh (taken net took) + weigh x.msg.from x.msg.to x.msg.kind ≤ net_weight weigh net
+  taken_less net took n x is at flying = subst (λ o. net_weight weigh (taken net o) + weigh x.msg.from x.msg.to x.msg.kind ≤ net_weight weigh net) (sym is) (delivered_less net n x at flying)
 
-    taken_less : (net : Net) (took : Option Took) (n : ℕ) (x : Packet) → took ≡ Some (record { number = n; again = false }) → packet_at net n ≡ Some x → x.fate ≡ fates.InFlight → net_worth ask (taken net took) + worth g ask far x.msg.to x.msg.kind ≤ net_worth ask net
-    taken_less net took n x is at flying = subst (λ o. net_worth ask (taken net o) + worth g ask far x.msg.to x.msg.kind ≤ net_worth ask net) (sym is) (delivered_less net n x at flying)
+-- ---- a whole turn
 
-  worth_low : (ask less : BranchId → ℕ) → ((b : BranchId) → less b ≤ ask b) → (to : BranchId) (kind : Kind) → worth g less far to kind ≤ worth g ask far to kind
-  worth_low ask less low to (kinds.Prepare b c) = low to
-  worth_low ask less low to kinds.Prepared = omega arith
-  worth_low ask less low to kinds.ReadOnly = omega arith
-  worth_low ask less low to kinds.Ready = omega arith
-  worth_low ask less low to kinds.Abort = omega arith
-  worth_low ask less low to kinds.CommitPoint = omega arith
-  worth_low ask less low to (kinds.Committed n) = omega arith
-  worth_low ask less low to kinds.Ack = omega arith
-  worth_low ask less low to kinds.Forgotten = omega arith
-  worth_low ask less low to kinds.Rollback = omega arith
-  worth_low ask less low to kinds.RolledBack = omega arith
-  worth_low ask less low to (kinds.Open i r d a) = omega arith
-  worth_low ask less low to (kinds.Opened i r) = omega arith
-  worth_low ask less low to (kinds.Exec i task) = omega arith
-  worth_low ask less low to (kinds.Reply i r d s) = omega arith
-  worth_low ask less low to kinds.InDoubt = omega arith
-  worth_low ask less low to kinds.Ask = omega arith
+module _ (places : List Place) (asked : List Command) (f : Facts) (u : Turn) (k : NodeState) (up : node_at f u.node ≡ Some k) (uncut : u.cut ≡ false) (sent : u.sent ≡ (turn_of (place_at places u.node) k u.input).sent) where
+  abbrev d : TurnDraft
+  d = draft_of (place_at places u.node) k u.input
 
-  net_low : (ask less : BranchId → ℕ) → ((b : BranchId) → less b ≤ ask b) → (net : Net) → net_worth less net ≤ net_worth ask net
-  net_low ask less low net = total_low (flight less) (flight ask) (λ x. if_both (flies x) _ _ (worth_low ask less low x.msg.to x.msg.kind)) net.packets
+  abbrev after : Facts
+  after = facts_after places asked f (happenings.Turn u)
 
-  -- ---- a whole turn
+  kept_now : kept_after u.cut (outcome_at places f u) ≡ Some d.after
+  unfolding turn_of
+  kept_now = ap (λ q. kept_after q (outcome_at places f u)) uncut ∙ ap (λ o. kept_after false (served (place_at places u.node) u.input o)) up
 
-  module _ (places : List Place) (asked : List Command) (f : Facts) (even : length f.nodes ≡ length f.records) (u : Turn) (k : NodeState) (up : node_at f u.node ≡ Some k) (uncut : u.cut ≡ false)
-      (sent : u.sent ≡ (turn_of (place_at places u.node) k u.input).sent) where
-    abbrev d : TurnDraft
-    d = draft_of (place_at places u.node) k u.input
+  -- what its node keeps then
+  pub here_now : node_at after u.node ≡ Some d.after
+  unfolding facts_after
+  here_now = ap flat_it (set_found f.nodes u.node (Some k) (kept_after u.cut (outcome_at places f u)) (flat_some (numbered f.nodes u.node) k up)) ∙ kept_now
+    where
+      flat_it : Option (Option NodeState) → Option NodeState
+      flat_it o = flat o
 
-    abbrev after : Facts
-    after = facts_after places asked f (happenings.Turn u)
-
-    kept_now : kept_after u.cut (outcome_at places f u) ≡ Some d.after
+  module _ (weigh : BranchId → BranchId → Kind → ℕ) where
+    sent_total : sent_weight weigh u.sent ≡ posts_weight weigh d.says
     unfolding turn_of
-    kept_now = ap (λ q. kept_after q (outcome_at places f u)) uncut ∙ ap (λ o. kept_after false (served (place_at places u.node) u.input o)) up
+    sent_total = ap (sent_weight weigh) sent ∙ stamped_total weigh d.after.clock d.says
 
-    nodes_now : total kept_worth after.nodes + node_worth g (λ b. 0) far k ≡ total kept_worth f.nodes + node_worth g (λ b. 0) far d.after
+    -- its messages are added
+    pub net_now : net_weight weigh after.net ≤ net_weight weigh (taken f.net u.took) + posts_weight weigh d.says
+    unfolding facts_after
+    net_now = (let low = sent_low weigh (taken f.net u.took) u.sent in let is = sent_total in omega (arith, low, is))
+
+  module _ (held : NodeState → ℕ) where
+    -- and its node keeps so much
+    pub nodes_now : nodes_weight held after + held k ≡ nodes_weight held f + held d.after
     unfolding facts_after
     nodes_now =
-        let all = set_total kept_worth f.nodes u.node (Some k) (kept_after u.cut (outcome_at places f u)) (flat_some (numbered f.nodes u.node) k up) in
-        let now : kept_worth (kept_after u.cut (outcome_at places f u)) ≡ node_worth g (λ b. 0) far d.after = ap kept_worth kept_now in
+        let all = set_total (kept_weight held) f.nodes u.node (Some k) (kept_after u.cut (outcome_at places f u)) (flat_some (numbered f.nodes u.node) k up) in
+        let now : kept_weight held (kept_after u.cut (outcome_at places f u)) ≡ held d.after = ap (kept_weight held) kept_now in
         omega (arith, all, now)
-
-    sent_total : (ask : BranchId → ℕ) → total (λ (m : Msg). worth g ask far m.to m.kind) u.sent ≡ says_worth g ask far d.says
-    unfolding turn_of
-    sent_total ask = ap (total (λ (m : Msg). worth g ask far m.to m.kind)) sent ∙ stamped_total ask d.after.clock d.says
-
-    net_now : (ask : BranchId → ℕ) → net_worth ask after.net ≤ net_worth ask (taken f.net u.took) + says_worth g ask far d.says
-    unfolding facts_after
-    net_now ask = (let low = sent_low ask (taken f.net u.took) u.sent in let is = sent_total ask in omega (arith, low, is))
-
-    here_now : node_at after u.node ≡ Some d.after
-    unfolding facts_after
-    here_now = ap flat_it (set_found f.nodes u.node (Some k) (kept_after u.cut (outcome_at places f u)) (flat_some (numbered f.nodes u.node) k up)) ∙ kept_now
-      where
-        flat_it : Option (Option NodeState) → Option NodeState
-        flat_it o = flat o
-
-    -- who may be asked is worth no more
-    asks_less : WorksOn k d.after → (b : BranchId) → ask_in after b ≤ ask_in f b
-    asks_less works b = elim (cases_nat u.node b.node) [
-      | inl here ↦ at_node here
-      | inr other ↦ (let same_node : node_at after b.node ≡ node_at f b.node = (turn_elsewhere places asked f even u b.node other).0 in
-          let is : ask_in after b ≡ ask_in f b = ap (λ o. full (live_in o b)) same_node in
-          omega (arith, is))
-    ]
-      where
-        by_phase : (y : Live) → live_at d.after b ≡ Some y → u.node ≡ b.node → (p : Phase) → y.phase ≡ p → full_by p (count y) ≤ ask_in f b
-        by_phase y live here phases.Working is =
-            let was : live_at k b ≡ Some y = works b y live is in
-            let value : ask_in f b ≡ full_by phases.Working (count y)
-            = ap (λ n. full (live_in (node_at f n) b)) (sym here) ∙ (ap (λ o. full (live_in o b)) up ∙ (ap full was ∙ ap (λ p. full_by p (count y)) is)) in
-            omega (arith, value)
-        by_phase y live here (phases.Collecting c) is = ask_two f b
-        by_phase y live here phases.Ready is = ask_two f b
-
-        by_live : (o : Option Live) → live_at d.after b ≡ o → u.node ≡ b.node → full o ≤ ask_in f b
-        by_live None is here = ask_two f b
-        by_live (Some y) is here = by_phase y is here y.phase refl
-
-        at_node : u.node ≡ b.node → ask_in after b ≤ ask_in f b
-        at_node here =
-            let now : ask_in after b ≡ full (live_at d.after b) = ap (λ n. full (live_in (node_at after n) b)) (sym here) ∙ ap (λ o. full (live_in o b)) here_now in
-            let low = by_live (live_at d.after b) refl here in
-            omega (arith, now, low)
-
-    -- what it comes to
-    pub turned_low : WorksOn k d.after → all_worth after ≤ net_worth (ask_in f) (taken f.net u.took) + says_worth g (ask_in f) far d.says + total kept_worth after.nodes
-    turned_low works =
-        let one = net_low (ask_in f) (ask_in after) (asks_less works) after.net in
-        let two = net_now (ask_in f) in
-        omega (arith, one, two)
-
-    pub turned_nodes : total kept_worth after.nodes + node_worth g (λ b. 0) far k ≡ total kept_worth f.nodes + node_worth g (λ b. 0) far d.after
-    turned_nodes = nodes_now
-
-    pub turn_takes : (n : ℕ) (x : Packet) → u.took ≡ Some (record { number = n; again = false }) → packet_at f.net n ≡ Some x → x.fate ≡ fates.InFlight
-        → net_worth (ask_in f) (taken f.net u.took) + worth g (ask_in f) far x.msg.to x.msg.kind ≤ net_worth (ask_in f) f.net
-    turn_takes n x is at flying = taken_less (ask_in f) f.net u.took n x is at flying
 
 -- ---- what is so of all that is in flight
 

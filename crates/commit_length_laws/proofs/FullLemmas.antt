@@ -1,6 +1,6 @@
 -- What a branch may ask for: a working branch whose Prepare comes knows how many branches stand below it, by the answers of
 -- its children.
-use Rattle.std.proofs.Common.{◌≡◌, ℕ, zero, suc, ◌+◌, ◌-◌, ◌*◌, ◌≤◌, List, [], ◌∷◌, map, length, Option, Some, None, inl, inr, refl, sym, ap, subst, ◌∙◌, arith}
+use Rattle.std.proofs.Common.{◌≡◌, ℕ, zero, suc, ◌+◌, ◌*◌, ◌≤◌, List, [], ◌∷◌, map, length, Option, Some, None, inl, inr, refl, sym, ap, subst, ◌∙◌, arith}
 use Rattle.std.specs.Prelude.{IfSome}
 use Rattle.std.proofs.lemmas.List.Sums.{sum_by-cons}
 use Rattle.tran_ids.proofs.ListedLemmas.{item_is}
@@ -28,32 +28,13 @@ use Rattle.run_ready_laws.proofs.CountLemmas.{counts}
 use Rattle.run_ready_laws.proofs.CountRunLemmas.{CountStand, LiveFits, NodeFits, counts_on, first_counts}
 use Rattle.tree_laws.proofs.ForestLemmas.{same_born}
 use Rattle.tree_laws.proofs.ForestRunLemmas.{run_known}
-use Rattle.commit_length_laws.proofs.TotalLemmas.{total}
 use Rattle.commit_length_laws.proofs.WorthLemmas.{asked_worth}
 use Rattle.tree_laws.proofs.AtPart.{at_end}
+use Rattle.commit_length_laws.specs.Worth.{total, full_by, full, live_in, ask_in}
 
 -- ---- what a Prepare is worth
 
--- to a working branch with so many below it, itself one of them
-abbrev pub full_by : Phase → ℕ → ℕ
-full_by phases.Working n = 45 * n - 21
-full_by (phases.Collecting b) n = 2
-full_by phases.Ready n = 2
-
-abbrev pub full : Option Live → ℕ
-full None = 2
-full (Some l) = full_by l.phase (count l)
-
--- what is live at a node
-abbrev pub live_in : Option NodeState → BranchId → Option Live
-live_in None b = None
-live_in (Some k) b = live_at k b
-
--- to a branch, by what it is now
-abbrev pub ask_in : Facts → BranchId → ℕ
-ask_in f b = full (live_in (node_at f b.node) b)
-
-count_is : (l : Live) → count l ≡ 1 + counts l.edges
+pub count_is : (l : Live) → count l ≡ 1 + counts l.edges
 count_is l = refl
 
 full_two : (o : Option Live) → 2 ≤ full o
@@ -89,6 +70,10 @@ module _ (t : History) (whole : IsLawfulRun t) where
   fits_at : (n : ℕ) (k : NodeState) → node_at f n ≡ Some k → (b : BranchId) (l : Live) → live_at k b ≡ Some l → LiveFits said k l (work_at k b)
   fits_at n k up b l live = (let all : NodeFits said k = subst (λ o. IfSome o (NodeFits said)) up (stand.nodes n) in all.each b l live)
 
+  -- a live branch has no more branches below it than a tree may have
+  pub few : (n : ℕ) (k : NodeState) → node_at f n ≡ Some k → (b : BranchId) (l : Live) → live_at k b ≡ Some l → count l ≤ 256
+  few n k up b l live = (let low = (fits_at n k up b l live).1.few in omega (arith, low))
+
   module _ (n : ℕ) (k : NodeState) (up : node_at f n ≡ Some k) (l : Live) (live : live_at k l.me ≡ Some l) (goes : NeedsNoRollback k l) (free : (work_at k l.me).going ≡ None) where
     abbrev w : Work
     w = work_at k l.me
@@ -104,10 +89,6 @@ module _ (t : History) (whole : IsLawfulRun t) where
 
     no_wait : (i : ℕ) (A : Type 0) → WaitsFor i w.going → A
     no_wait i A waits = absurd (subst (WaitsFor i) free waits)
-
-    -- it has no more branches than a tree may have
-    pub few : count l ≤ 64
-    few = (let low = fits.1.few in omega (arith, low))
 
     told : (i : ℕ) (e : Edge) → numbered l.edges i ≡ Some e → Told said e.peer l.me (call_at w i) e.count
     told i e at = elim (fits.1.held goes i e at) [ inl waits ↦ no_wait i _ waits | inr is ↦ is ]
@@ -153,37 +134,37 @@ module _ (t : History) (whole : IsLawfulRun t) where
                 sym (child.told (λ none. absurd (cc (parent, none))) low rests.1 l.me e.count tells))
           ]
 
-      child_low : ask_in f e.peer + 21 ≤ 45 * e.count
+      child_low : ask_in f e.peer + 4 ≤ 11 * e.count
       child_low = by (node_at f e.peer.node) refl
         where
           some : 1 ≤ e.count
           some = (told_gave said said stand.all e.peer l.me (call_at w i) e.count (told i e at)).0
 
-          phase_low : (p : Phase) (m : ℕ) → (p ≡ phases.Working → m ≡ e.count) → full_by p m + 21 ≤ 45 * e.count
+          phase_low : (p : Phase) (m : ℕ) → (p ≡ phases.Working → m ≡ e.count) → full_by p m + 4 ≤ 11 * e.count
           phase_low phases.Working m is = (let here = is refl in omega (arith, here, some))
           phase_low (phases.Collecting b) m is = omega (arith, some)
           phase_low phases.Ready m is = omega (arith, some)
 
-          by_live : (j : NodeState) → node_at f e.peer.node ≡ Some j → (o : Option Live) → live_at j e.peer ≡ o → full o + 21 ≤ 45 * e.count
+          by_live : (j : NodeState) → node_at f e.peer.node ≡ Some j → (o : Option Live) → live_at j e.peer ≡ o → full o + 4 ≤ 11 * e.count
           by_live j upj None none = omega (arith, some)
           by_live j upj (Some y) found = phase_low y.phase (count y) (child_count j upj y found)
 
-          by : (o : Option NodeState) → node_at f e.peer.node ≡ o → full (live_in o e.peer) + 21 ≤ 45 * e.count
+          by : (o : Option NodeState) → node_at f e.peer.node ≡ o → full (live_in o e.peer) + 4 ≤ 11 * e.count
           by None down = omega (arith, some)
           by (Some j) upj = by_live j upj (live_at j e.peer) refl
 
-    sum_low : (es : List Edge) → ((i : ℕ) (e : Edge) → numbered es i ≡ Some e → ask_in f e.peer + 21 ≤ 45 * e.count) → total (λ e. ask_in f e.peer) es + 21 * length es ≤ 45 * counts es
+    sum_low : (es : List Edge) → ((i : ℕ) (e : Edge) → numbered es i ≡ Some e → ask_in f e.peer + 4 ≤ 11 * e.count) → total (λ e. ask_in f e.peer) es + 4 * length es ≤ 11 * counts es
     sum_low [] low = omega arith
     sum_low (e ∷ es) low =
-        let here : ask_in f e.peer + 21 ≤ 45 * e.count = low 1 e refl in
-        let rest : total (λ y. ask_in f y.peer) es + 21 * length es ≤ 45 * counts es = sum_low es (λ i y at. later i y at) in
+        let here : ask_in f e.peer + 4 ≤ 11 * e.count = low 1 e refl in
+        let rest : total (λ y. ask_in f y.peer) es + 4 * length es ≤ 11 * counts es = sum_low es (λ i y at. later i y at) in
         let is : counts (e ∷ es) ≡ e.count + counts es = sum_by-cons (λ (z : Edge). z.count) e es in
         omega (arith, here, rest, is)
       where
-        later : (i : ℕ) (y : Edge) → numbered es i ≡ Some y → ask_in f y.peer + 21 ≤ 45 * y.count
+        later : (i : ℕ) (y : Edge) → numbered es i ≡ Some y → ask_in f y.peer + 4 ≤ 11 * y.count
         later zero y at = absurd cc
         later (suc i) y at = low (suc (suc i)) y at
 
     -- what its children may ask for, and what it may send itself, is less than it was asked with
-    pub asks_low : (asked_worth l.root (ask_in f) (λ b. 0) l.edges + 21 * length l.edges) + 45 ≤ 45 * count l
+    pub asks_low : (asked_worth (ask_in f) l.edges + 4 * length l.edges) + 11 ≤ 11 * count l
     asks_low = (let all = sum_low l.edges child_low in let is = count_is l in omega (arith, all, is))

@@ -1,14 +1,19 @@
 pub mod TotalLemmas
 pub mod WorthLemmas
+pub mod FlightLemmas
 pub mod ActLemmas
 pub mod KeptLemmas
 pub mod SayLemmas
 pub mod TurnLemmas
-pub mod DepthLemmas
 pub mod FullLemmas
-pub mod FlightLemmas
+pub mod AllLemmas
+pub mod BetweenLemmas
+pub mod BetweenActLemmas
+pub mod BetweenRowLemmas
+pub mod BetweenTurnLemmas
 pub mod TreeLemmas
 pub mod CourseLemmas
 pub mod BeforeLemmas
+pub mod BetweenFirstLemmas
 pub mod FewLemmas
 mod TriedFlowLemmas

@@ -1,6 +1,6 @@
 -- The branches of the transaction of a COMMIT: who is one by the messages of its course, and what nodes keep of them. The message that a
 -- delivery takes.
-use Rattle.std.proofs.Common.{◌≡◌, ℕ, ◌<◌, ◌&&◌, ◌||◌, Bool, true, false, List, [], ◌∷◌, ◌++◌, Option, Some, None, inl, inr, refl, sym, ap, subst, ◌∙◌}
+use Rattle.std.proofs.Common.{◌≡◌, ℕ, ◌&&◌, Bool, true, false, List, [], ◌∷◌, ◌++◌, Option, Some, None, inl, inr, refl, sym, ap, subst, ◌∙◌}
 use Rattle.std.specs.List.{AllByRecursion}
 use Rattle.tran_ids.proofs.ListedLemmas.{item_is}
 use Rattle.node_rules.specs.Data.{BranchId, Input, Kind, Live, Msg, KeptRow}
@@ -17,12 +17,10 @@ use Rattle.run_base_laws.specs.InTurnLaws.{said_in}
 use Rattle.run_rules.specs.Lawful.{Comes, History, IsLawfulRun, facts_at}
 use Rattle.run_base_laws.proofs.BirthRunLemmas.{nodes_name_the_born}
 use Rattle.run_base_laws.proofs.OwnLemmas.{all_found}
-use Rattle.tree_laws.specs.Forests.{forest_of}
 use Rattle.tree_laws.proofs.ForestLemmas as trees
-use Rattle.tree_laws.proofs.ForestRunLemmas.{run_known, runs_have_forests}
+use Rattle.tree_laws.proofs.ForestRunLemmas.{run_known}
 use Rattle.tree_laws.proofs.TimeLemmas.{born_end}
 use Rattle.run_claims.specs.Undisturbed.{Commit}
-use Rattle.tree_laws.proofs.FitRowLemmas.{RowFits, rows_fit}
 use Rattle.commit_length_laws.proofs.SayLemmas.{in_course}
 use Rattle.tree_laws.proofs.AtTurn.{at_happening}
 
@@ -30,10 +28,6 @@ use Rattle.tree_laws.proofs.AtTurn.{at_happening}
 pub mid_all : {A : Type 0} (P : A → Type 0) (pre : List A) (h : A) (post : List A) → AllByRecursion P (pre ++ h ∷ post) → P h
 mid_all P [] h post all = all.0
 mid_all P (p ∷ pre) h post all = mid_all P pre h post all.1
-
-or_right : (p q : Bool) → q ≡ true → (p || q) ≡ true
-or_right true q is = refl
-or_right false q is = is
 
 pub second_false : (p q : Bool) → (p && q) ≡ false → p ≡ true → q ≡ false
 second_false true q is here = is
@@ -75,9 +69,6 @@ take_it f k node number inputs.Checkpoint None comes is = absurd cc
 module _ (t : History) (whole : IsLawfulRun t) (c : Commit t.places t.commands t.trace) where
   abbrev bs : List Born
   bs = births_of t
-
-  abbrev pub far : BranchId → ℕ
-  far b = (forest_of t).far b
 
   known : trees.Known bs (said_in (facts_at t))
   known = run_known t whole
@@ -151,11 +142,10 @@ module _ (t : History) (whole : IsLawfulRun t) (c : Commit t.places t.commands t
         let one : it.born ≡ mine.0 = trees.same_born bs (said_in (facts_at t)) known it.born mine.0 (born_end t whole hs part it.born it.began) mine.1 (it.is_me ∙ (me ∙ sym mine.2)) in
         sym it.is_root ∙ (ap (λ (z : Born). z.root) one ∙ mine.3)
 
-    pub near_of : (n : ℕ) (k : NodeState) → node_at f n ≡ Some k → (b : BranchId) (r : KeptRow) → kept_row_at k b ≡ Some r → (q : BranchId) → r.toward ≡ Some q → far q < far r.me
-    near_of n k up b r found q toward =
-        elim (all_found (λ (y : KeptRow). RowFits (forest_of t) y.me y.toward) kept_row_id k.stored.durable.kept b r (rows_fit t whole hs part n k up) found) [
-          | inl fits ↦ (let both : Some q ≡ Some ((forest_of t).toward r.me) = sym toward ∙ fits.0 in
-              let it : q ≡ (forest_of t).toward r.me = cc in
-              subst (λ b. far b < far r.me) (sym it) ((runs_have_forests t whole).nearer r.me fits.1 fits.2))
-          | inr site ↦ (let none : r.toward ≡ None = site.0 in absurd (cc (toward, none)))
-        ]
+    -- the parent of a live branch is that of which it began
+    pub parent_of : (n : ℕ) (k : NodeState) → node_at f n ≡ Some k → (b : BranchId) (l : Live) → live_at k b ≡ Some l → (q : BranchId) → IsChild (Began (births_of s)) b q → l.parent ≡ Some q
+    parent_of n k up b l live q kid =
+        let me : l.me ≡ b = item_is live_id k.lives b l live in
+        let it : LiveIs (Began (births_of s)) l = all_found (LiveIs (Began (births_of s))) live_id k.lives b l (nodes_name_the_born s lawful n k up).0 live in
+        let one : it.born ≡ kid.0 = trees.same_born bs (said_in (facts_at t)) known it.born kid.0 (born_end t whole hs part it.born it.began) (born_end t whole hs part kid.0 kid.1) (it.is_me ∙ (me ∙ sym kid.2)) in
+        sym it.is_parent ∙ (ap (λ (z : Born). z.parent) one ∙ kid.3)

@@ -1,98 +1,34 @@
 -- What a message in flight is worth, and what a branch of a transaction may still send: in deliveries that it may lead to.
 use Rattle.std.proofs.Common.{◌≡◌, ℕ, suc, ◌+◌, ◌*◌, ◌≤◌, Bool, true, false, if◌then◌else◌, List, [], ◌∷◌, ◌++◌, map, filter, not, length, Option, Some, None, refl, ap, arith}
 use Rattle.std.proofs.lemmas.Bool.{cond_both}
-use Rattle.commit_forget.specs.Beyond.{beyond, parent_beyond, kid_beyond}
+use Rattle.commit_forget.specs.Beyond.{beyond, all_acked, parent_beyond, kid_beyond}
 use Rattle.session_tree.specs.Live.{is_branch}
-use Rattle.node_rules.specs.Data.{BranchId, Decision, Edge, Kind, Kid, Live, Phase, Post, KeptRow, Beyond}
-use Rattle.node_rules.specs.Data.kinds
-use Rattle.node_rules.specs.Data.phases
+use Rattle.node_rules.specs.Data.{BranchId, Decision, Edge, Kind, Kid, Live, Post, KeptRow, Beyond}
 use Rattle.node_rules.specs.Words.{same}
-use Rattle.node_rules.specs.NodeState.{NodeState, to_each, to_one}
+use Rattle.node_rules.specs.NodeState.{to_each, to_one}
 use Rattle.node_rules.specs.Prepare.{prepares, with_prepare_sent}
-use Rattle.commit_length_laws.proofs.TotalLemmas.{total}
+use Rattle.commit_length_laws.specs.Worth.{total, one_of, neighbors, phase_worth, known_worth, live_worth, row_worth, worth}
 
--- a parent counts as one neighbour
-abbrev pub one_of : Option BranchId → ℕ
-one_of None = 0
-one_of (Some q) = 1
+pub known_most : (d : Decision) (forgot acked : Bool) (n : ℕ) → known_worth (Some d) forgot acked n ≤ n + 2
+known_most d true acked n = omega arith
+known_most d false true n = omega arith
+known_most d false false n = omega arith
 
--- by the phase of a branch with so many children
-abbrev pub phase_worth : Phase → ℕ → ℕ
-phase_worth phases.Working n = 0
-phase_worth (phases.Collecting b) n = 23 + 21 * n
-phase_worth phases.Ready n = 22 + 21 * n
-
--- of a row with so many neighbours
-abbrev pub known_worth : Bool → Option Decision → ℕ → ℕ
-known_worth forgot None n = 21 * n
-known_worth true (Some d) n = 0
-known_worth false (Some d) n = n
-
--- the neighbours of a row
-abbrev pub neighbors : KeptRow → ℕ
-neighbors s = one_of s.parent + length s.children
-
-module _ (g : BranchId) (ask far : BranchId → ℕ) where
-  -- a message to a branch: how much a Prepare is worth is given, and how far the branch is from the site
-  abbrev pub worth : BranchId → Kind → ℕ
-  worth to (kinds.Prepare below comment) = ask to
-  worth to kinds.Prepared = 1
-  worth to kinds.ReadOnly = 1
-  worth to kinds.Ready = 1
-  worth to kinds.Abort = 1
-  worth to kinds.CommitPoint = 21
-  worth to (kinds.Committed n) = 20
-  worth to kinds.Ack = 2 + far to
-  worth to kinds.Forgotten = 1
-  worth to _ = 0
-
+module _ (ask : BranchId → ℕ) where
   abbrev pub post_worth : Post → ℕ
-  post_worth m = worth m.to m.kind
+  post_worth m = worth ask m.to m.kind
 
   abbrev pub says_worth : List Post → ℕ
   says_worth ms = total post_worth ms
 
-  -- a live branch of the transaction
-  abbrev pub live_worth : Live → ℕ
-  live_worth l = if same l.root g then phase_worth l.phase (length l.edges) else 0
-
-  abbrev pub row_worth : KeptRow → ℕ
-  row_worth s = if same s.root g then known_worth s.forgot s.decision (neighbors s) else 0
-
-  -- all of them at a node
-  abbrev pub node_worth : NodeState → ℕ
-  node_worth k = total live_worth k.lives + total row_worth k.stored.durable.kept
-
-  pub live_low : (l : Live) → live_worth l ≤ phase_worth l.phase (length l.edges)
-  live_low l = by (same l.root g) (phase_worth l.phase (length l.edges))
-    where
-      by : (q : Bool) (n : ℕ) → (if q then n else 0) ≤ n
-      by true n = omega arith
-      by false n = omega arith
-
-  pub live_is : (l : Live) → same l.root g ≡ true → live_worth l ≡ phase_worth l.phase (length l.edges)
-  live_is l of = ap (λ q. if q then phase_worth l.phase (length l.edges) else 0) of
-
-  pub row_low : (s : KeptRow) → row_worth s ≤ known_worth s.forgot s.decision (neighbors s)
-  row_low s = by (same s.root g) (known_worth s.forgot s.decision (neighbors s))
-    where
-      by : (q : Bool) (n : ℕ) → (if q then n else 0) ≤ n
-      by true n = omega arith
-      by false n = omega arith
-
-  pub row_is : (s : KeptRow) → same s.root g ≡ true → row_worth s ≡ known_worth s.forgot s.decision (neighbors s)
-  row_is s of = ap (λ q. if q then known_worth s.forgot s.decision (neighbors s) else 0) of
-
-  -- ---- messages
-
-  pub each_worth : (me : BranchId) (kind : Kind) (tos : List BranchId) (n : ℕ) → ((to : BranchId) → worth to kind ≡ n) → says_worth (to_each me kind tos) ≡ n * length tos
+  pub each_worth : (me : BranchId) (kind : Kind) (tos : List BranchId) (n : ℕ) → ((to : BranchId) → worth ask to kind ≡ n) → says_worth (to_each me kind tos) ≡ n * length tos
   each_worth me kind [] n is = omega arith
-  each_worth me kind (b ∷ bs) n is = (let here = is b in let rest = each_worth me kind bs n is in more (worth b kind) n (says_worth (to_each me kind bs)) (length bs) here rest)
+  each_worth me kind (b ∷ bs) n is = (let here = is b in let rest = each_worth me kind bs n is in more (worth ask b kind) n (says_worth (to_each me kind bs)) (length bs) here rest)
     where
       more : (w n t m : ℕ) → w ≡ n → t ≡ n * m → w + t ≡ n * suc m
       more w n t m one two = grind (arith, one, two)
 
-  pub one_worth : (me : BranchId) (kind : Kind) (o : Option BranchId) (n : ℕ) → ((to : BranchId) → worth to kind ≤ n) → says_worth (to_one me kind o) ≤ n
+  pub one_worth : (me : BranchId) (kind : Kind) (o : Option BranchId) (n : ℕ) → ((to : BranchId) → worth ask to kind ≤ n) → says_worth (to_one me kind o) ≤ n
   one_worth me kind None n low = omega arith
   one_worth me kind (Some q) n low = (let here = low q in omega (arith, here))
 
@@ -107,6 +43,27 @@ module _ (g : BranchId) (ask far : BranchId → ℕ) where
   pub sent_worth : (es : List Edge) → asked_worth (map with_prepare_sent es) ≡ asked_worth es
   sent_worth [] = refl
   sent_worth (e ∷ es) = (let rest = sent_worth es in omega (arith, rest))
+
+module _ (g : BranchId) where
+  pub live_low : (l : Live) → live_worth g l ≤ phase_worth l.phase (length l.edges)
+  live_low l = by (same l.root g) (phase_worth l.phase (length l.edges))
+    where
+      by : (q : Bool) (n : ℕ) → (if q then n else 0) ≤ n
+      by true n = omega arith
+      by false n = omega arith
+
+  pub live_is : (l : Live) → same l.root g ≡ true → live_worth g l ≡ phase_worth l.phase (length l.edges)
+  live_is l of = ap (λ q. if q then phase_worth l.phase (length l.edges) else 0) of
+
+  pub row_low : (s : KeptRow) → row_worth g s ≤ known_worth s.decision s.forgot (all_acked s) (neighbors s)
+  row_low s = by (same s.root g) (known_worth s.decision s.forgot (all_acked s) (neighbors s))
+    where
+      by : (q : Bool) (n : ℕ) → (if q then n else 0) ≤ n
+      by true n = omega arith
+      by false n = omega arith
+
+  pub row_is : (s : KeptRow) → same s.root g ≡ true → row_worth g s ≡ known_worth s.decision s.forgot (all_acked s) (neighbors s)
+  row_is s of = ap (λ q. if q then known_worth s.decision s.forgot (all_acked s) (neighbors s) else 0) of
 
 -- ---- neighbours
 

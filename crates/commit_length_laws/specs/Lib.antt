@@ -1,2 +1,4 @@
+pub mod Worth
+pub mod Once
 pub mod FewLaws
 pub mod TriedFlow

@@ -1,5 +1,6 @@
 //! A disk in memory by examples: its calls succeed, and a long run of them takes neither much time nor much memory.
-ghost use Rattle.std.specs.Prelude.{◌<◌, ◌≤◌, length};
+ghost use Rattle.std.specs.Prelude.{◌<◌, length};
+ghost use Rattle.block_disk.specs.Spare.{HasRoom};
 
 use block_disk::{Disk, Failed, MemDisk};
 use std::alloc::{AllocError, Global};
@@ -9,7 +10,7 @@ fn put(disk: &mut MemDisk, at: u64, bytes: &[u8]) -> Result<(), Failed> {
     if bytes.is_empty() || (disk.bytes().len() as u64) < at {
         return Err(Failed);
     }
-    match disk.room(bytes.len() as u64) {
+    match disk.room(bytes.len() as u64, 1) {
         Ok(()) => disk.write_at(at, bytes),
         Err(AllocError) => Err(Failed),
     }
@@ -99,7 +100,7 @@ fn a_log_of_a_mebibyte_is_written(rt: HostRuntime) {
 /// Whether there is no room for all bytes that there are, and a byte is written then.
 fn goes_on_without_room(alloc: Global) -> Result<bool, Failed> {
     let mut disk = abcd(alloc)?;
-    let is_refused = disk.room(u64::MAX).is_err();
+    let is_refused = disk.room(u64::MAX, 1).is_err();
     put(&mut disk, 4, b"e")?;
     Ok(is_refused && disk.bytes() == b"abcde".as_slice())
 }
@@ -112,7 +113,7 @@ fn more_room_than_there_is_leaves_the_disk_as_it_was(rt: HostRuntime) {
 /// Writes behind all that a disk holds.
 fn append<D: Disk>(disk: &mut D, bytes: &[u8]) -> Result<(), Failed>
     requires some { 0 < length bytes.now }
-    requires room { length bytes.now ≤ D.spare disk.old }
+    requires room { HasRoom (length bytes.now) 1 (D.spare disk.old) }
 {
     let end = disk.len()?;
     disk.write_at(end, bytes)?;
@@ -121,7 +122,7 @@ fn append<D: Disk>(disk: &mut D, bytes: &[u8]) -> Result<(), Failed>
 
 /// Writes `ef` behind all that a disk in memory holds.
 fn append_ef(disk: &mut MemDisk) -> Result<(), Failed> {
-    match disk.room(2) {
+    match disk.room(2, 1) {
         Ok(()) => append(disk, b"ef"),
         Err(AllocError) => Err(Failed),
     }

@@ -20,4 +20,8 @@ mod record_logs;
 #[cfg(test)]
 mod records;
 #[cfg(test)]
+mod restarts;
+#[cfg(test)]
 mod struck_logs;
+#[cfg(test)]
+mod two_logs;

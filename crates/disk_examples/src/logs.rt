@@ -7,7 +7,7 @@ use redo_log::{Bodies, LoadErr, LoadWhy, Log, LogErr, cell, count};
 use std::alloc::Global;
 
 /// A log of the one body `ab`.
-const ONE_BODY: [u8; 8] = *b"\x01\x00\x00\x00\x02ab\x00";
+pub(crate) const ONE_BODY: [u8; 8] = *b"\x01\x00\x00\x00\x02ab\x00";
 
 /// A disk that holds these bytes.
 pub(crate) fn disk_of(alloc: Global, bytes: &[u8]) -> Result<MemDisk, LoadWhy>
@@ -15,7 +15,7 @@ pub(crate) fn disk_of(alloc: Global, bytes: &[u8]) -> Result<MemDisk, LoadWhy>
     ensures { IfOk result (λ disk. ⟦<MemDisk as Disk>⟧.content disk ≡ bytes.now) }
 {
     let mut disk = MemDisk::new(alloc);
-    disk.room(bytes.len() as u64)?;
+    disk.room(bytes.len() as u64, 1)?;
     disk.write_at(0, bytes)?;
     disk.sync()?;
     Ok(disk)

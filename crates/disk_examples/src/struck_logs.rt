@@ -8,7 +8,7 @@ use redo_log::{LoadErr, Log, LogErr};
 use std::alloc::Global;
 
 /// A log of the one body `ab`, which takes 8 bytes.
-fn one_body(alloc: Global) -> Option<Log<MemDisk>>
+pub(crate) fn one_body(alloc: Global) -> Option<Log<MemDisk>>
     ensures { IfSome result (IsUsable ⟦<MemDisk as Disk>⟧.content ⟦<MemDisk as Disk>⟧.images) }
 {
     let mut log = new_log(alloc)?;

@@ -53,13 +53,13 @@ strength_limit = 255
 abbrev pub usual_links : ℕ
 usual_links = 4
 
--- the most links that a branch may have open, whatever the NODE command says
+-- the most links that a branch may have open, whatever the NODE command says, and so the most children of a branch
 abbrev pub link_limit : ℕ
 link_limit = 64
 
 -- the most branches of a session tree
 abbrev pub branch_limit : ℕ
-branch_limit = 64
+branch_limit = 256
 
 -- the greatest depth of a branch in its session tree, where the root has depth 1
 abbrev pub depth_limit : ℕ

@@ -9,9 +9,13 @@ const RESERVED_WORDS: [&[u8]; 18] = [
     b"NULL", b"INSERT", b"UPDATE", b"DELETE", b"CREATE", b"TABLE", b"SYNONYM", b"ALTER",
 ];
 
+/// The reserved words have two to seven letters, so that most other words are told from them by their length.
 fn is_reserved(word: &[u8]) -> bool
     ensures { result ≡ spec.is_reserved word.now }
 {
+    if word.len() < 2 || word.len() > 7 {
+        return false;
+    }
     RESERVED_WORDS
         .iter()
         .any(|reserved| reserved.eq_ignore_ascii_case(word))

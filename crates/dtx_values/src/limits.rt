@@ -39,11 +39,11 @@ pub const STRENGTH_LIMIT: u8 = 255;
 /// The links that a branch may have open where its node's NODE command names no number.
 pub const USUAL_LINKS: u32 = 4;
 
-/// The most links that a branch may have open, whatever the NODE command says.
+/// The most links that a branch may have open, whatever the NODE command says, and so the most children of a branch.
 pub const LINK_LIMIT: u32 = 64;
 
 /// The most branches of a session tree.
-pub const BRANCH_LIMIT: usize = 64;
+pub const BRANCH_LIMIT: usize = 256;
 
 /// The greatest depth of a branch in its session tree, where the root has depth 1.
 pub const DEPTH_LIMIT: u8 = 8;

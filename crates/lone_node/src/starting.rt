@@ -77,7 +77,7 @@ fn fill(disk: &mut MemDisk, bytes: &[u8]) -> Option<()>
     requires some { 0 < length bytes.now }
     ensures { IfSome result (λ done. bytes_of disk.new ≡ bytes.now) }
 {
-    disk.room(bytes.len() as u64).ok()?;
+    disk.room(bytes.len() as u64, 1).ok()?;
     disk.write_at(0, bytes).ok()?;
     disk.sync().ok()?;
     Some(())

@@ -2,7 +2,9 @@ mod BranchLaws
 mod DraftLaws
 mod OpenedLaws
 mod ReplyLaws
+mod BackLaws
 mod WayLaws
+mod PastLaws
 mod GroundLaws
 mod TableLaws
 mod CallLaws

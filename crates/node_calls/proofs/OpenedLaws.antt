@@ -1,6 +1,6 @@
 -- A branch whose new child is there goes on with what waited for it.
 use Rattle.std.proofs.Common.{◌≡◌, ℕ, zero, suc, ◌+◌, ◌==◌, ◌<◌, ◌^◌, Bool, true, false, if◌then◌else◌, List, [], ◌∷◌, ◌++◌, length, slice_get, unwrap_or, Option, None, Some, IfSome, refl, sym, ap, subst, ◌∙◌, arith}
-use Rattle.dtx_values.specs.Limits.{branch_limit}
+use Rattle.dtx_values.specs.Limits.{link_limit}
 use Rattle.std.proofs.lemmas.Bool.Decides.{nat_tests}
 use Rattle.tran_ids.specs.declared.branch.BranchId.{BranchId}
 use Rattle.tran_ids.specs.Listed.{item_at, put_item}
@@ -69,23 +69,23 @@ pub numbers_with_child : (ws : List Work) (b : BranchId) (i : ℕ) → next_call
 numbers_with_child ws b i low = subst (λ n. n < 2 ^ 32) (sym (ap (λ w. next_call w i) (child_added ws b) ∙ next_same (work_of ws b) i)) low
 
 -- what waits for a child has room for it
-room_of : (children : ℕ) (g : Going) (waits : Waits) (w : Waited) → waits_for g waits ≡ Some w → ChildrenLeaveRoom children waits → children < branch_limit
+room_of : (children : ℕ) (g : Going) (waits : Waits) (w : Waited) → waits_for g waits ≡ Some w → ChildrenLeaveRoom children waits → children < link_limit
 room_of children g (waiting.ForReply i) w found room = absurd cc
 room_of children g (waiting.ForOpened link) w found room = room
 
-room_if : (children : ℕ) (g : Going) (here : Bool) (w : Waited) → (if here then waits_for g g.waits else None) ≡ Some w → ChildrenLeaveRoom children g.waits → children < branch_limit
+room_if : (children : ℕ) (g : Going) (here : Bool) (w : Waited) → (if here then waits_for g g.waits else None) ≡ Some w → ChildrenLeaveRoom children g.waits → children < link_limit
 room_if children g true w found room = room_of children g g.waits w found room
 room_if children g false w found room = absurd cc
 
-room_while : (children edge next : ℕ) (g : Option Going) (w : Waited) → waited_for edge next g ≡ Some w → HasRoomWhile children g → children < branch_limit
+room_while : (children edge next : ℕ) (g : Option Going) (w : Waited) → waited_for edge next g ≡ Some w → HasRoomWhile children g → children < link_limit
 room_while children edge next None w found room = absurd cc
 room_while children edge next (Some g) w found room = room_if children g (edge == next) w found room
 
 pub room_there : (ls : List Live) (b : BranchId) (l : Live) (edge : ℕ) (g : Option Going) (w : Waited) → item_at live_id ls b ≡ Some l → waited_for edge (next_edge l) g ≡ Some w
-    → IfSome (item_at live_id ls b) (λ x. HasRoomWhile (length x.edges) g) → IfSome (item_at live_id ls b) (λ x. length x.edges < branch_limit)
+    → IfSome (item_at live_id ls b) (λ x. HasRoomWhile (length x.edges) g) → IfSome (item_at live_id ls b) (λ x. length x.edges < link_limit)
 room_there ls b l edge g w is found room =
     let there : HasRoomWhile (length l.edges) g = subst (λ o. IfSome o (λ x. HasRoomWhile (length x.edges) g)) is room in
-    subst (λ o. IfSome o (λ x. length x.edges < branch_limit)) (sym is) (room_while (length l.edges) edge (next_edge l) g w found there)
+    subst (λ o. IfSome o (λ x. length x.edges < link_limit)) (sym is) (room_while (length l.edges) edge (next_edge l) g w found there)
 
 -- an errand goes on the same where its branch was put in its place before
 pub calls_twice : (k : NodeState) (x y : Branch) (i : ℕ) (e : Errand) → x.live.me ≡ y.live.me → x.work.branch ≡ y.work.branch → calls_over (with_branch k x) y i e ≡ calls_over k y i e

@@ -1,7 +1,7 @@
 -- A ready node meets the conditions of the calls of this crate.
 use Rattle.std.proofs.Common.{◌≡◌, ℕ, zero, suc, ◌<◌, ◌≤◌, ◌^◌, List, [], ◌∷◌, length, slice_get, slice_set, unwrap_or, Option, None, Some, IfSome, refl, arith}
 use Rattle.std.specs.List.{AllByRecursion}
-use Rattle.dtx_values.specs.Limits.{branch_limit}
+use Rattle.dtx_values.specs.Limits.{link_limit}
 use Rattle.tran_ids.specs.declared.branch.BranchId.{BranchId}
 use Rattle.tran_ids.specs.Listed.{item_at, numbered, set_numbered}
 use Rattle.tran_ids.proofs.NumberedLemmas.{set_length}
@@ -62,7 +62,7 @@ module _ (i : ℕ) (weight : Option ℕ) (n : ℕ) (few : n ≤ count_limit) whe
   told_length es None = refl
   told_length es (Some e) = set_length es i (as_told weight n e)
 
-  heard_few : (l : Live) → length l.edges ≤ branch_limit → AllByRecursion TellsFew l.edges → count (heard i weight n l) < 2 ^ 16
+  heard_few : (l : Live) → length l.edges ≤ link_limit → AllByRecursion TellsFew l.edges → count (heard i weight n l) < 2 ^ 16
   heard_few l room all =
       let sum = sum_few (told i weight n l.edges (numbered l.edges i)) (told_few l.edges (numbered l.edges i) all) in
       let same = told_length l.edges (numbered l.edges i) in
@@ -70,11 +70,11 @@ module _ (i : ℕ) (weight : Option ℕ) (n : ℕ) (few : n ≤ count_limit) whe
 
 -- ---- room for a child
 
-room_for : (links children : ℕ) (waits : Waits) → links ≤ branch_limit → HasRoomForShape links children waits → ChildrenLeaveRoom children waits
+room_for : (links children : ℕ) (waits : Waits) → links ≤ link_limit → HasRoomForShape links children waits → ChildrenLeaveRoom children waits
 room_for links children (waiting.ForOpened link) low room = omega (arith, low, room)
 room_for links children (waiting.ForReply i) low room = tt
 
-room_while : (links children : ℕ) (g : Option Going) → links ≤ branch_limit → HasRoomShape links children g → HasRoomWhile children g
+room_while : (links children : ℕ) (g : Option Going) → links ≤ link_limit → HasRoomShape links children g → HasRoomWhile children g
 room_while links children None low room = tt
 room_while links children (Some g) low room = room_for links children g.waits low room
 

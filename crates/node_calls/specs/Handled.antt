@@ -1,31 +1,43 @@
 -- What a turn makes of a live branch of a node, and what a node needs where a statement comes to one.
 use Rattle.std.specs.Prelude.{◌≡◌, Bool, false, nat_lt, ℕ, List, ◌<◌, ◌≤◌, ◌^◌, ◌==◌, if◌then◌else◌, [], length, Option, Some, None, IfSome}
-use Rattle.dtx_values.specs.Limits.{branch_limit, node_limit}
+use Rattle.dtx_values.specs.Limits.{link_limit, node_limit}
 use Rattle.tran_ids.specs.declared.branch.BranchId.{BranchId}
 use Rattle.tran_ids.specs.Listed.{item_at}
 use Rattle.catalog.specs.Catalog.{is_used}
 use Rattle.session_tree.specs.Live.{new_edge, next_edge}
 use Rattle.session_tree.specs.Tree.{count}
-use Rattle.node_rules.specs.Data.{Answer, Done, Edge, Stmt, Table}
+use Rattle.node_rules.specs.Data.{Answer, Change, Done, Edge, Owned, Stmt, Table}
 use Rattle.node_rules.specs.declared.work.Errand.{Errand}
 use Rattle.node_rules.specs.declared.work.Errand.TheVariants as errands
 use Rattle.node_rules.specs.declared.work.Going.{Going}
 use Rattle.node_rules.specs.declared.work.Waits.{Waits}
 use Rattle.node_rules.specs.Data.answers
 use Rattle.node_rules.specs.declared.work.Waits.TheVariants as waiting
-use Rattle.node_rules.specs.NodeState.{NodeState, Branch, TurnDraft, live_id, nothing}
+use Rattle.node_rules.specs.NodeState.{NodeState, Branch, TurnDraft, live_id, nothing, work_id}
 use Rattle.node_rules.specs.Ids.{decimal}
 use Rattle.node_rules.specs.Words.{one}
 use Rattle.node_rules.specs.Refusals.{ora}
 use Rattle.node_rules.specs.Client.{did, leaves, refuses}
 use Rattle.node_rules.specs.Calls.{calls_over, less_room, next_call, with_edge}
 use Rattle.node_ready_laws.specs.Rows.{HasRows}
-use Rattle.node_state.specs.Lives.{heard}
-use Rattle.node_state.specs.Works.{change_work, run_noted, work_of}
+use Rattle.node_state.specs.Changed.{change_item}
+use Rattle.node_state.specs.Lives.{heard, with_changes}
+use Rattle.node_state.specs.Works.{back_at, change_work, run_noted, work_of}
+use Rattle.row_locks.specs.Back.{gone_back}
+use Rattle.row_store.specs.Pending.{changes_of}
+use Rattle.row_store.specs.Store.{sets_at, without_sets}
 use Rattle.stmt_store.specs.declared.written.Written.{Written}
 use Rattle.stmt_store.specs.Stores.{written_of}
-use Rattle.node_rules.specs.Marks.{keys_of_table}
+use Rattle.node_rules.specs.Marks.{keys_of_table, sets_behind}
 use Rattle.node_rules.specs.Statement.{StmtOutcome}
+use Rattle.read_only_tx.specs.Versions.{Versions, rows_at, is_too_old}
+use Rattle.row_locks.specs.Locks.{Lock}
+use Rattle.row_store.specs.Own.{view_of}
+use Rattle.row_store.specs.Store.{Contents, own_changes, seen_by}
+use Rattle.sql_eval.specs.Laws.{AreRowsOf}
+use Rattle.stmt_run.specs.Run.{StmtContext}
+use Rattle.stmt_run.specs.Stored.{ground_in}
+use Rattle.stmt_store.specs.Past.{past_ground}
 use Rattle.node_rules.specs.declared.work.Work.{Work}
 use Rattle.node_ways.specs.Ways.{has_table}
 use Rattle.node_memory.specs.declared.memory.Memory.{Memory}
@@ -81,7 +93,7 @@ EdgesHaveNumbers m b = (i : ℕ) → next_call (work_of m.works b) i < 2 ^ 32
 
 -- so many children leave room for the one that is waited for
 abbrev pub ChildrenLeaveRoom : ℕ → Waits → Type 0
-ChildrenLeaveRoom children (waiting.ForOpened link) = children < branch_limit
+ChildrenLeaveRoom children (waiting.ForOpened link) = children < link_limit
 ChildrenLeaveRoom children (waiting.ForReply i) = Unit {0}
 
 -- where a statement is under way
@@ -121,6 +133,41 @@ abbrev pub with_written : List Work → BranchId → ℕ → Table → Option Wr
 with_written ws b step t None = ws
 with_written ws b step t (Some w) = change_work (run_noted step w.sets (keys_of_table t.name w.keys)) ws b
 
+-- what a branch meets at a table of the node's store, where it reads the rows at an SCN
+abbrev pub ground_past : Contents → Versions → List Lock → BranchId → Table → ℕ → StmtContext
+ground_past s vs locks b t scn = past_ground (view_of (rows_at s.rows vs scn) (own_changes s b) t.name) (is_too_old vs scn) locks b
+
+-- or the newest rows
+abbrev pub ground_at : Contents → Versions → List Lock → BranchId → Table → Option ℕ → StmtContext
+ground_at s vs locks b t None = ground_in s locks b t
+ground_at s vs locks b t (Some scn) = ground_past s vs locks b t scn
+
+-- a branch that reads the newest rows sees rows of the table
+abbrev pub SeesRows : Contents → BranchId → Table → Option ℕ → Type 0
+SeesRows s b t None = AreRowsOf t (seen_by s b t.name)
+SeesRows s b t (Some scn) = Unit {0}
+
 -- and after a run that came to this
 abbrev pub works_after_run : List Work → BranchId → ℕ → Table → StmtOutcome → List Work
 works_after_run ws b step t r = with_written ws b step t (written_of r)
+
+-- what live branches have changed, once a branch has undone what it did in later steps
+abbrev pub owns_undone : NodeState → BranchId → ℕ → List Owned
+owns_undone k b step = without_sets k.owns b (sets_behind (work_of k.works b).marks step)
+
+-- what is left to the branch
+abbrev pub changes_undone : NodeState → BranchId → ℕ → List Change
+changes_undone k b step = changes_of (sets_at (owns_undone k b step) b)
+
+-- the calls of live branches, once a branch has dropped its later notes
+abbrev pub works_undone : NodeState → BranchId → ℕ → List Work
+works_undone k b step = change_item work_id (back_at step) k.works b
+
+-- the node, once a branch has undone what it did in later steps
+abbrev pub undone_in : NodeState → BranchId → ℕ → NodeState
+undone_in k b step = record k {
+  owns = owns_undone k b step;
+  works = works_undone k b step;
+  locks = gone_back k.locks b (work_of (works_undone k b step) b).marks.notes (changes_undone k b step);
+  lives = change_item live_id (with_changes (nat_lt 0 (length (changes_undone k b step)))) k.lives b;
+}

@@ -1,6 +1,6 @@
 //! An errand goes on: over an edge to a child, or over a link that is used for the first time.
 ghost use Rattle.std.specs.Prelude.{◌≡◌, ◌<◌, ◌≤◌, ◌^◌, ◌+◌, length, IfOk, IfSome};
-ghost use Rattle.dtx_values.specs.Limits.{branch_limit, depth_limit};
+ghost use Rattle.dtx_values.specs.Limits.{link_limit, depth_limit};
 ghost use Rattle.tran_ids.specs.Listed.{item_at};
 ghost use Rattle.session_tree.specs.Live.{peer_of as peer_of_number};
 ghost use Rattle.node_rules.specs.NodeState.{branch_at, live_id, post as post_of};
@@ -155,7 +155,7 @@ fn task_for(
     number: u8,
     errand: &Errand,
 ) -> Result<Task, AllocError>
-    requires { length live.now.edges ≤ branch_limit }
+    requires { length live.now.edges ≤ link_limit }
     ensures { IfOk result (λ task. task ≡ task_for_of sessions.now (branch_with live.now (work_of works.now branch.now)) number errand.now) }
 {
     match errand {
@@ -186,7 +186,7 @@ fn exec_over(
     number: u8,
     errand: &Errand,
 ) -> Result<Posts, AllocError>
-    requires edges { length live.now.edges ≤ branch_limit }
+    requires edges { length live.now.edges ≤ link_limit }
     requires numbers { next_call (work_of works.now branch.now) number < 2 ^ 32 }
     ensures { IfOk result (λ posts. posts ≡ exec_to sessions.now (branch_with live.now (work_of works.now branch.now)) number errand.now (peer_of_number live.now number)) }
 {
@@ -205,7 +205,7 @@ fn exec_over(
 
 // Open to a node, for a child of this branch.
 fn open_says(alloc: Global, live: &Live, node: u8) -> Result<Posts, AllocError>
-    requires edges { length live.now.edges ≤ branch_limit }
+    requires edges { length live.now.edges ≤ link_limit }
     requires depth { live.now.depth < depth_limit }
     ensures { IfOk result (λ posts. posts ≡ post_of live.now.me (nobody_at_node node) (kinds.Open (next_edge live.now) live.now.root (live.now.depth + 1) live.now.read_at)) }
 {

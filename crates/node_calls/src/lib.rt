@@ -22,6 +22,7 @@ mod executing;
 mod giving_up;
 mod going_back;
 mod laws;
+mod looking_back;
 mod marking;
 mod opened;
 mod opening;

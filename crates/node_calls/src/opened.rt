@@ -1,6 +1,6 @@
 //! A parent learns that its new child is there, and what waited for it goes on.
 ghost use Rattle.std.specs.Prelude.{◌≡◌, ◌≤◌, length, IfOk};
-ghost use Rattle.dtx_values.specs.Limits.{branch_limit};
+ghost use Rattle.dtx_values.specs.Limits.{link_limit};
 ghost use Rattle.session_tree.specs.Live.{new_edge as new_edge_of, next_edge as next_edge_of};
 ghost use Rattle.node_rules.specs.NodeState.{branch_at};
 ghost use Rattle.node_rules.specs.Calls.{less_room as less_room_of, on_opened as on_opened_of};
@@ -85,7 +85,7 @@ fn less_room(alloc: Global, errand: &Errand) -> Result<Errand, AllocError>
 
 // The number of the next child.
 fn next_edge(live: &Live) -> u8
-    requires { length live.now.edges ≤ branch_limit }
+    requires { length live.now.edges ≤ link_limit }
     ensures { result ≡ next_edge_of live.now }
 {
     live.edges.as_slice().len() as u8 + 1

@@ -1,5 +1,5 @@
 //! A statement at a live branch: it runs here, is refused, or goes on.
-ghost use Rattle.std.specs.Prelude.{◌≡◌, true, None, IfOk, OnOk};
+ghost use Rattle.std.specs.Prelude.{◌≡◌, true, IfOk, IfSome, OnOk};
 ghost use Rattle.sql_eval.specs.Laws.{has_one_key, AreRowsOf};
 ghost use Rattle.row_store.specs.Store.{has_table, seen_by};
 ghost use Rattle.stmt_run.specs.Run.{answer_of_run, locks_after, ran_over};
@@ -12,20 +12,22 @@ ghost use Rattle.node_state.specs.Changed.{change_item};
 ghost use Rattle.node_state.specs.Lives.{changed_by};
 ghost use Rattle.node_drafts.specs.Gives.{GivesDraft};
 ghost use Rattle.node_memory.specs.Parts.{kept_in};
-ghost use Rattle.node_calls.specs.Handled.{at_live, did_changes, with_written, works_after_run, TakesStatement};
+ghost use Rattle.node_memory.specs.Versions.{versions_as};
+ghost use Rattle.stmt_store.specs.Past.{is_query};
+ghost use Rattle.node_calls.specs.Handled.{at_live, did_changes, ground_at, with_written, works_after_run, SeesRows, TakesStatement};
 
 use crate::answering::answer;
 use crate::calling::{call_over, open_through, step_of};
+use crate::looking_back::read_over;
 use dtx_values::{Answer, Duplicate, Listing, Name, Table, Value};
 use node_drafts::TurnDraft;
-use node_memory::Memory;
+use node_memory::{Memory, Versions};
 use node_rules::Errand;
 use node_state::{Lives, Works};
 use node_ways::{Way, passed_on, way_of};
 use row_locks::Locks;
 use row_store::Store;
 use savepoints::{RowKey, RowKeys};
-use session_tree::Live;
 use sql_statement::Stmt;
 use std::alloc::{AllocError, Global};
 use stmt_store::{Ran, Written, run};
@@ -58,18 +60,20 @@ pub(crate) fn statement_at(
         statement,
     ) {
         Way::RunsHere(table) => {
-            reads_newest(live)?;
             let step = step_of(&memory.sessions, &memory.works, branch, live);
-            let told = run_over(
+            let read_at = live.read_at;
+            let told = run_at(
                 alloc,
                 statement,
                 table,
                 &mut memory.store,
+                &memory.versions,
                 &mut memory.locks,
                 &mut memory.lives,
                 &mut memory.works,
                 branch,
                 step,
+                read_at,
             )?;
             answer(memory, alloc, branch, told)
         }
@@ -95,14 +99,48 @@ pub(crate) fn statement_at(
     }
 }
 
-// A branch reads the newest rows. Rows at an SCN are not read yet, which ends as for lack of memory: no text spells SET
-// TRANSACTION READ ONLY, so no branch of a run reads any.
-fn reads_newest(live: &Live) -> Result<(), AllocError>
-    ensures { OnOk result (live.now.read_at ≡ None) }
+// Runs a statement over a table of the node, a query of a READ ONLY transaction over the rows at its SCN.
+#[tactic(auto, using(crate::proofs::PastLaws::store_stays, crate::proofs::PastLaws::locks_stay, crate::proofs::GroundLaws::changes_is))]
+fn run_at(
+    alloc: Global,
+    statement: &Stmt,
+    table: &Table,
+    store: &mut Store,
+    versions: &Versions,
+    locks: &mut Locks,
+    lives: &mut Lives,
+    works: &mut Works,
+    branch: &BranchId,
+    step: u32,
+    read_at: Option<u64>,
+) -> Result<Answer, AllocError>
+    requires one_key { has_one_key table.now ≡ true }
+    requires table { has_table store.old.rows table.now.name ≡ true }
+    requires rows { SeesRows store.old branch.now table.now read_at }
+    requires query { IfSome read_at (λ scn. is_query statement.now ≡ true) }
+    ensures answer { IfOk result (λ answer.
+        answer ≡ answer_of_run (ran_over (ground_at store.old (versions_as versions.now) locks.old branch.now table.now read_at) statement.now table.now)) }
+    ensures store { OnOk result
+        (store.new ≡ store_after_run store.old branch.now table.now (ran_over (ground_at store.old (versions_as versions.now) locks.old branch.now table.now read_at) statement.now table.now)) }
+    ensures locks { OnOk result
+        (locks.new ≡ locks_after locks.old branch.now table.now (ran_over (ground_at store.old (versions_as versions.now) locks.old branch.now table.now read_at) statement.now table.now)) }
+    ensures lives { OnOk result
+        (lives.new ≡ change_item live_id (changed_by (makes_changes (ran_over (ground_at store.old (versions_as versions.now) locks.old branch.now table.now read_at) statement.now table.now))) lives.old branch.now) }
+    ensures works { OnOk result
+        (works.new ≡ works_after_run works.old branch.now step table.now (ran_over (ground_at store.old (versions_as versions.now) locks.old branch.now table.now read_at) statement.now table.now)) }
+    ensures undo { store.new.extents ≡ store.old.extents }
 {
-    match live.read_at {
-        None => Ok(()),
-        Some(_scn) => Err(AllocError),
+    match read_at {
+        None => run_over(
+            alloc, statement, table, store, locks, lives, works, branch, step,
+        ),
+        Some(scn) => {
+            let answer = read_over(
+                alloc, statement, table, store, versions, locks, works, branch, step, scn,
+            )?;
+            lives.note_changes(branch, has_changed(&answer));
+            Ok(answer)
+        }
     }
 }
 
@@ -145,8 +183,8 @@ fn run_over(
     }
 }
 
-// Notes what an accepted statement wrote.
-fn note(
+/// Notes what an accepted statement wrote.
+pub(crate) fn note(
     alloc: Global,
     works: &mut Works,
     branch: &BranchId,

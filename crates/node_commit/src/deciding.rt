@@ -1,6 +1,6 @@
 //! The commit point site decides.
 ghost use Rattle.std.specs.Prelude.{◌≡◌, ◌+◌, ◌-◌, ◌^◌, ◌<◌, ◌≤◌, length, if◌then◌else◌, [], Some, IfOk, IfSome, OnOk};
-ghost use Rattle.dtx_values.specs.Limits.{branch_limit};
+ghost use Rattle.dtx_values.specs.Limits.{link_limit};
 ghost use Rattle.redo_record.specs.declared.record.RedoRecord.TheVariants as records;
 ghost use Rattle.node_rules.specs.Data.kinds as kinds;
 ghost use Rattle.node_rules.specs.NodeState.{to_each as to_each_of};
@@ -32,7 +32,7 @@ fn decision_record(
     live: &Live,
     scn: u64,
 ) -> Result<RedoRecord, AllocError>
-    requires { length live.now.edges ≤ branch_limit }
+    requires { length live.now.edges ≤ link_limit }
     ensures made { IfOk result (λ redo. redo ≡ records.Decided (decided_of scn live.now (own_changes (kept_in memory.now) live.now.me))) }
     ensures own { IfOk result (λ redo. IsOwnDecision (kept_in memory.now) live.now.me redo) }
 {

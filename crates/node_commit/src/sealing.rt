@@ -1,6 +1,6 @@
 //! A live branch that becomes sealed.
 ghost use Rattle.std.specs.Prelude.{◌≡◌, ◌≤◌, [], length, false, Some, None, IfOk, IfSome, OnOk};
-ghost use Rattle.dtx_values.specs.Limits.{branch_limit};
+ghost use Rattle.dtx_values.specs.Limits.{link_limit};
 ghost use Rattle.row_store.specs.Store.{is_in_doubt};
 ghost use Rattle.session_tree.specs.Live.{peer_of as peer_of_number};
 ghost use Rattle.node_rules.specs.Data.kinds as kinds;
@@ -29,7 +29,7 @@ fn seal_record(
     live: &Live,
     path: Option<u8>,
 ) -> Result<RedoRecord, AllocError>
-    requires { length live.now.edges ≤ branch_limit }
+    requires { length live.now.edges ≤ link_limit }
     ensures made { IfOk result (λ redo. redo ≡ sealed_record_of (kept_in memory.now) live.now path) }
     ensures own { IfOk result (λ redo. IsOwnSeal (kept_in memory.now) live.now.me redo) }
 {
@@ -68,7 +68,7 @@ fn sealing(
     path: Option<u8>,
     says: Posts,
 ) -> Result<TurnDraft, AllocError>
-    requires { length live.now.edges ≤ branch_limit }
+    requires { length live.now.edges ≤ link_limit }
     ensures draft { IfOk result (λ draft. draft ≡ record { wrote = Some (sealed_record_of (kept_in memory.now) live.now path); says = says; ended = [] }) }
     ensures own { IfOk result (λ draft. IfSome draft.wrote (IsOwnSeal (kept_in memory.now) live.now.me)) }
 {

@@ -85,8 +85,8 @@ fn take(memory: &mut Memory, alloc: Global, input: &Input) -> Result<StampedTurn
 
 /// One turn of a node that can take this input. It changes what the node keeps, and tells the record, the messages and the calls
 /// that end. The node is ready again afterwards and keeps its undo, and the record may stand next behind those that it has and fits
-/// beside the branches in doubt. Fails where memory runs out, and for no other reason; nothing is promised then of what the node
-/// keeps, except its place.
+/// beside the branches in doubt. Fails where memory runs out, and also where the turn would write an image, which no
+/// script asks for yet; nothing is promised then of what the node keeps, except its place.
 #[tactic(auto, using(crate::proofs::AbleLaws::ready_again, crate::proofs::AbleLaws::may_follow, crate::proofs::AbleLaws::undo_kept, crate::proofs::AbleLaws::fits_doubts, crate::proofs::AbleLaws::refused_so))]
 pub fn turn(memory: &mut Memory, alloc: Global, input: &Input) -> Result<StampedTurn, AllocError>
     requires { MayTake memory.old.place (kept_in memory.old) input.now }

@@ -1,7 +1,6 @@
 mod ReadLaws
 mod StoreLaws
 mod MomentLaws
-mod PlanLaws
 mod WriteLaws
 mod TurnLaws
 mod StartLaws

@@ -5,7 +5,7 @@ use Rattle.redo_log.specs.Runs.{HasGrown}
 use Rattle.redo_record.specs.declared.record.RedoRecord.{RedoRecord}
 use Rattle.record_log.specs.Calls.{GainsRecord}
 use Rattle.node_disk.specs.Calls.{HasWritten}
-use Rattle.node_disk.proofs.PlanLaws.{none_run}
+use Rattle.redo_log.proofs.PlanLaws.{none_run}
 
 module _ {D : Type 0} (d : Ghosts D) where
   -- a record that was appended is written

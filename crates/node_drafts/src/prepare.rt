@@ -1,6 +1,6 @@
 //! What a live branch says to its children and its parent in the prepare phase and when it rolls back.
 ghost use Rattle.std.specs.Prelude.{◌≡◌, ◌++◌, ◌≤◌, map, length, IfOk, OnOk};
-ghost use Rattle.dtx_values.specs.Limits.{branch_limit};
+ghost use Rattle.dtx_values.specs.Limits.{link_limit};
 ghost use Rattle.session_tree.specs.Tree.{step};
 ghost use Rattle.node_rules.specs.Data.kinds as kinds;
 ghost use Rattle.node_rules.specs.NodeState.{to_each, to_one as to_one_of};
@@ -53,7 +53,7 @@ fn prepare_each(
 /// at most, and to none where it does not come to the branch. Fails where memory runs out.
 #[tactic(auto, unfolding(prepare_phase::specs::Records::asked_by))]
 pub fn prepares(alloc: Global, live: &Live, site_below: bool) -> Result<Posts, AllocError>
-    requires { length live.now.edges ≤ branch_limit }
+    requires { length live.now.edges ≤ link_limit }
     ensures { IfOk result (λ posts. posts ≡ prepares_of live.now.me live.now.comment (path_of site_below (step live.now)) 1 live.now.edges) }
 {
     let children = asked_by(alloc, live, site_below)?;

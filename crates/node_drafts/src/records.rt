@@ -1,6 +1,6 @@
 //! The records of a live branch that becomes sealed or decides.
 ghost use Rattle.std.specs.Prelude.{◌≡◌, ◌≤◌, length, IfOk};
-ghost use Rattle.dtx_values.specs.Limits.{branch_limit};
+ghost use Rattle.dtx_values.specs.Limits.{link_limit};
 ghost use Rattle.redo_record.specs.declared.record.RedoRecord.TheVariants as records;
 ghost use Rattle.node_rules.specs.NodeState.{NodeState};
 ghost use Rattle.node_rules.specs.Prepare.{own_changes, sealed_of as sealed_of_branch, decided_of as decided_of_branch};
@@ -20,7 +20,7 @@ pub fn sealed_record(
     changes: Changes,
     path: Option<u8>,
 ) -> Result<RedoRecord, AllocError>
-    requires { length live.now.edges ≤ branch_limit }
+    requires { length live.now.edges ≤ link_limit }
     ensures { IfOk result (λ redo. redo ≡ records.Sealed (sealed_of_branch scn live.now changes path)) }
 {
     Ok(RedoRecord::Sealed(sealed_of(alloc, scn, live, changes, path)?))
@@ -34,7 +34,7 @@ pub fn decided_record(
     live: &Live,
     changes: Changes,
 ) -> Result<RedoRecord, AllocError>
-    requires { length live.now.edges ≤ branch_limit }
+    requires { length live.now.edges ≤ link_limit }
     ensures { IfOk result (λ redo. redo ≡ records.Decided (decided_of_branch scn live.now changes)) }
 {
     Ok(RedoRecord::Decided(decided_of(alloc, scn, live, changes)?))

@@ -1,7 +1,7 @@
 //! Opened and Replies, and what a Reply makes of the answer.
 ghost use Rattle.std.specs.Prelude.{◌≡◌, ◌≤◌, ◌<◌, ◌^◌, length, IfOk};
 ghost use Rattle.std.specs.Option.{option_copied};
-ghost use Rattle.dtx_values.specs.Limits.{branch_limit};
+ghost use Rattle.dtx_values.specs.Limits.{link_limit};
 ghost use Rattle.session_tree.specs.Tree.{count as count_of};
 ghost use Rattle.node_rules.specs.Calls.{reply_fields as reply_fields_of, replies as replies_of, opened_says as opened_says_of, says_again as says_again_of, gone_reply as gone_reply_of, is_gone as is_gone_of, heard_answer as heard_answer_of};
 ghost use Rattle.node_drafts.specs.Gives.{branch_with};
@@ -20,7 +20,7 @@ use wire_msg::Kind;
 
 /// What a Reply of a live branch says with this answer: the branch's weight, and the branches of its subtree.
 pub fn reply_fields(live: &Live, answer: Answer) -> ReplyFields
-    requires edges { length live.now.edges ≤ branch_limit }
+    requires edges { length live.now.edges ≤ link_limit }
     requires count { count_of live.now < 2 ^ 16 }
     ensures { result ≡ reply_fields_of live.now answer }
 {

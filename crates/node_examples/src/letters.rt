@@ -33,7 +33,7 @@ pub(crate) const CHANGE_STOCK: Letter = (
     1,
     Says::Exec {
         call: 1,
-        room: 62,
+        room: 254,
         text: b"UPDATE STOCK SET N = N - 10 WHERE ITEM = 'BOLT'",
     },
 );
@@ -80,7 +80,7 @@ pub(crate) const CHANGE_LEDGER: Letter = (
     1,
     Says::Exec {
         call: 1,
-        room: 61,
+        room: 253,
         text: b"INSERT INTO LEDGER VALUES (1, 250)",
     },
 );

@@ -1,5 +1,5 @@
 -- The commits that a node keeps, as its memory makes them.
-use Rattle.std.proofs.Common.{◌≡◌, ℕ, true, false, if◌then◌else◌, List, [], ◌∷◌, length, max, slice_index_or, true≢false, Option, Some, None, refl, sym, ap, ◌∙◌, arith}
+use Rattle.std.proofs.Common.{◌≡◌, ℕ, zero, suc, ◌+◌, ◌<◌, drop, true, false, if◌then◌else◌, List, [], ◌∷◌, length, max, slice_index_or, true≢false, Option, Some, None, refl, sym, ap, ◌∙◌, arith}
 use Rattle.std.specs.Prelude.{◌==◌, nat_lt}
 use Rattle.std.specs.List.{remove}
 use Rattle.std.proofs.lemmas.Bool.Decides.{nat_tests}
@@ -7,11 +7,13 @@ use Rattle.dtx_values.specs.Limits.{version_limit}
 use Rattle.dtx_values.specs.declared.row.Change.{Change}
 use Rattle.row_store.specs.declared.pending.Doubt.{Doubt}
 use Rattle.row_store.specs.Tables.{TableRows}
+use Rattle.sql_eval.specs.declared.keyed.Keyed.{Keyed}
+use Rattle.sql_eval.specs.Rows.{apply}
 use Rattle.read_only_tx.specs.Versions.{Version, Versions, versions_from, version_over, newest}
 use Rattle.node_rules.specs.Data.{Image}
 use Rattle.node_rules.specs.Data.records
 use Rattle.node_rules.specs.Records.{Commit, raised_to, versions_by}
-use Rattle.node_memory.specs.Versions.{with_version, version_changing, version_made, versions_read_over}
+use Rattle.node_memory.specs.Versions.{with_version, version_changing, version_made, versions_read_over, undone_in}
 
 version_kept : (rows : List TableRows) (vs : Versions) (scn : ℕ) (cs : List Change) → with_version vs (version_changing rows scn cs) ≡ versions_by rows vs (Some (record { scn = scn; changes = cs }))
 version_kept rows vs scn [] = refl
@@ -55,3 +57,13 @@ pub oldest_gone : (vs : List Version) (v : Version) (floor : ℕ) → v ≡ slic
 oldest_gone [] v floor is many = absurd (true≢false (sym many))
 oldest_gone (x ∷ xs) v floor is many =
     ap (λ (w : Version). newest xs (max floor w.scn)) is ∙ sym (ap (λ more. if more then newest xs (max floor x.scn) else record { kept = x ∷ xs; floor = floor }) many)
+
+-- ---- rows at an SCN
+
+-- the rows before one commit more
+pub one_undone : (table : List ℕ) (rows : List Keyed) (vs : List Version) (i j : ℕ) (v : Version) → j ≡ i + 1 → i < length vs → v ≡ slice_index_or vs i v → undone_in table rows (drop i vs) ≡ apply table (undone_in table rows (drop j vs)) v.before
+one_undone table rows [] i j v next low is = absurd (omega (arith, low))
+one_undone table rows (x ∷ vs) zero j v next low is = ap (λ n. apply table (undone_in table rows (drop n (x ∷ vs))) x.before) (sym next) ∙ ap (λ (y : Version). apply table (undone_in table rows (drop j (x ∷ vs))) y.before) (sym is)
+one_undone table rows (x ∷ vs) (suc i) j v next low is =
+    let at : j ≡ suc (i + 1) = omega (arith, next) in
+    one_undone table rows vs i (i + 1) v refl (omega (arith, low)) is ∙ ap (λ n. apply table (undone_in table rows (drop n (x ∷ vs))) v.before) (sym at)

@@ -1,6 +1,8 @@
 -- The commits that a node keeps, as its memory has them.
-use Rattle.std.specs.Prelude.{ℕ, ◌+◌, ◌≤◌, List, [], ◌∷◌, ◌++◌, vec_len, vec_capacity, Option, Some, None}
+use Rattle.std.specs.Prelude.{ℕ, ◌+◌, ◌≤◌, if◌then◌else◌, List, [], ◌∷◌, ◌++◌, fold, nat_le, vec_len, vec_capacity, Option, Some, None}
 use Rattle.dtx_values.specs.declared.row.Change.{Change}
+use Rattle.sql_eval.specs.declared.keyed.Keyed.{Keyed}
+use Rattle.sql_eval.specs.Rows.{apply}
 use Rattle.row_store.specs.Tables.{TableRows}
 use Rattle.read_only_tx.specs.Versions.{Version, Versions as VersionsByRules, newest, version_over, versions_from}
 use Rattle.row_store.specs.declared.pending.Doubt.{Doubt}
@@ -42,3 +44,18 @@ version_made rows (Some c) = version_changing rows c.scn c.changes
 abbrev pub versions_read_over : List TableRows → List Doubt → VersionsByRules → RedoRecord → VersionsByRules
 versions_read_over rows doubts vs (records.Image i) = versions_from i.top
 versions_read_over rows doubts vs r = versions_by rows vs (commit_of doubts r)
+
+-- ---- rows at an SCN
+
+-- the rows of a table before these commits
+abbrev pub undone_in : List ℕ → List Keyed → List Version → List Keyed
+undone_in table rows [] = rows
+undone_in table rows (v ∷ vs) = apply table (undone_in table rows vs) v.before
+
+-- with a commit, where its SCN is not above this one
+abbrev pub redone_in : List ℕ → ℕ → List Keyed → Version → List Keyed
+redone_in table scn rows v = if nat_le v.scn scn then apply table rows v.changes else rows
+
+-- the rows of a table at an SCN
+abbrev pub looked_back : List ℕ → List Keyed → VersionsByRules → ℕ → List Keyed
+looked_back table rows vs scn = fold (redone_in table scn) (undone_in table rows vs.kept) vs.kept

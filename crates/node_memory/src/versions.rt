@@ -1,19 +1,22 @@
 //! The newest commits of a node, with the rows from before each, behind which READ ONLY transactions look.
-ghost use Rattle.std.specs.Prelude.{◌≡◌, ◌∷◌, [], ◌++◌, map, OnOk, IfOk};
+ghost use Rattle.std.specs.Prelude.{◌≡◌, ◌∷◌, [], ◌++◌, map, fold, OnOk, IfOk};
 ghost use Rattle.std.specs.Option.{option_copied, option_map};
+ghost use Rattle.sql_eval.specs.Rows.{apply};
 ghost use Rattle.row_store.specs.Own.{before};
 ghost use Rattle.row_store.specs.Tables.{rows_of_table};
-ghost use Rattle.read_only_tx.specs.Versions.{newest, versions_from, version_over};
+ghost use Rattle.read_only_tx.specs.Versions.{newest, versions_from, version_over, is_too_old as is_too_old_by};
 ghost use Rattle.tran_ids.specs.Listed.{item_at};
 ghost use Rattle.row_store.specs.Store.{doubt_id};
 ghost use Rattle.node_rules.specs.Records.{commit_of, doubt_commit};
-ghost use Rattle.node_memory.specs.Versions.{versions_as, HasSpare, commit_as, with_version, version_changing as version_changing_by, version_made};
+ghost use Rattle.node_memory.specs.Versions.{versions_as, HasSpare, commit_as, with_version, version_changing as version_changing_by, version_made, undone_in, redone_in, looked_back};
 
-use dtx_values::{Change, Changes, Duplicate, Listing, Row};
+use dtx_values::{Change, Changes, Duplicate, Listing, Name, Row};
 use redo_record::{Decision, RedoRecord};
 use row_store::Store;
+use sql_eval::KeyedRef;
 use std::alloc::{AllocError, Global};
 use std::marker::Model;
+use stmt_store::change_all;
 use tran_ids::BranchId;
 
 // How many commits are kept.
@@ -94,6 +97,27 @@ impl Versions {
             self.kept.push(version).unwrap();
             self.forget_oldest();
         }
+    }
+
+    /// Whether a commit up to this SCN may be one that is not kept any more.
+    pub fn is_too_old(&self, scn: u64) -> bool
+        ensures { result ≡ is_too_old_by (versions_as self.now) scn }
+    {
+        scn < self.floor
+    }
+
+    /// Takes the rows of a table back to an SCN: without the changes of the commits that are kept, and then with those of the
+    /// commits up to it. Fails where memory runs out.
+    pub fn look_back<'r>(
+        &'r self,
+        rows: &mut Vec<KeyedRef<'r>>,
+        table: &Name,
+        scn: u64,
+    ) -> Result<(), AllocError>
+        ensures { OnOk result (rows.new.items ≡ looked_back table.now rows.old.items (versions_as self.now) scn) }
+    {
+        undo_all(rows, table, self.kept.as_slice())?;
+        redo_until(rows, table, self.kept.as_slice(), scn)
     }
 
     // Without the oldest commits that are too many.
@@ -239,4 +263,59 @@ fn copies(alloc: Global, changes: &[Change]) -> Result<Vec<Change>, AllocError>
         copies.push(change.copy(alloc)?)?;
     }
     Ok(copies)
+}
+
+// Puts back the rows from before commits, the newest first.
+fn undo_all<'r>(
+    rows: &mut Vec<KeyedRef<'r>>,
+    table: &Name,
+    kept: &'r [Version],
+) -> Result<(), AllocError>
+    ensures { OnOk result (rows.new.items ≡ undone_in table.now rows.old.items kept.now) }
+{
+    let mut left = kept.len();
+    while 0 < left {
+        left -= 1;
+        undo(rows, table, &kept[left])?;
+    }
+    Ok(())
+}
+
+fn undo<'r>(
+    rows: &mut Vec<KeyedRef<'r>>,
+    table: &Name,
+    version: &'r Version,
+) -> Result<(), AllocError>
+    ensures { OnOk result (rows.new.items ≡ apply table.now rows.old.items version.now.before) }
+{
+    change_all(rows, table, version.before.as_slice())
+}
+
+// Puts the changes of the commits up to an SCN in their places, the oldest first.
+fn redo_until<'r>(
+    rows: &mut Vec<KeyedRef<'r>>,
+    table: &Name,
+    kept: &'r [Version],
+    scn: u64,
+) -> Result<(), AllocError>
+    ensures { OnOk result (rows.new.items ≡ fold (redone_in table.now scn) rows.old.items kept.now) }
+{
+    for version in kept {
+        redo(rows, table, version, scn)?;
+    }
+    Ok(())
+}
+
+fn redo<'r>(
+    rows: &mut Vec<KeyedRef<'r>>,
+    table: &Name,
+    version: &'r Version,
+    scn: u64,
+) -> Result<(), AllocError>
+    ensures { OnOk result (rows.new.items ≡ redone_in table.now scn rows.old.items version.now) }
+{
+    if version.scn <= scn {
+        change_all(rows, table, version.changes.as_slice())?;
+    }
+    Ok(())
 }

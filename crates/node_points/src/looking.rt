@@ -1,7 +1,7 @@
 //! Which places a branch may pass in its next turn.
 ghost use Rattle.std.specs.Prelude.{◌≡◌, ◌≤◌, length, option_map, IfSome, None};
 ghost use Rattle.std.specs.Option.{option_copied};
-ghost use Rattle.dtx_values.specs.Limits.{branch_limit};
+ghost use Rattle.dtx_values.specs.Limits.{link_limit};
 ghost use Rattle.node_rules.specs.Points.{has_edges as has_edges_of, ended_points as ended_points_of, forgot_points as forgot_points_of, ready_points as ready_points_of};
 ghost use Rattle.node_points.specs.Passing.{passes_as, IsAhead};
 
@@ -26,7 +26,7 @@ pub struct Ahead {
 impl Ahead {
     /// What is ahead of a branch that is live, or has a row, or neither.
     pub fn of(live: Option<&Live>, row: Option<&KeptRow>) -> Ahead
-        requires { IfSome live (λ l. length l.now.edges ≤ branch_limit) }
+        requires { IfSome live (λ l. length l.now.edges ≤ link_limit) }
         ensures { IsAhead (option_copied live.entry) (option_copied row.entry) result }
     {
         Ahead {
@@ -60,7 +60,7 @@ fn has_edges(live: Option<&Live>) -> bool
 }
 
 fn ready_points(live: Option<&Live>) -> Option<Passes>
-    requires { IfSome live (λ l. length l.now.edges ≤ branch_limit) }
+    requires { IfSome live (λ l. length l.now.edges ≤ link_limit) }
     ensures { option_map passes_as result ≡ ready_points_of (option_copied live.entry) }
 {
     match live {

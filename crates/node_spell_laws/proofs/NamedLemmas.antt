@@ -24,9 +24,9 @@ use Rattle.sql_parse.specs.Literals.{table_ref, term, step, sum}
 use Rattle.sql_parse.specs.Conditions.{condition, conditions}
 use Rattle.sql_parse.specs.Changes.{column_names, insert, assignment, update, delete, picks, select}
 use Rattle.sql_parse.specs.Catalog.{create_table, create_link, create_synonym, create}
-use Rattle.sql_parse.specs.Transactions.{commit, forced_commit, plain_commit, rollback_of, rollback, advise, recovery, alter, purge, execute}
+use Rattle.sql_parse.specs.Transactions.{commit, forced_commit, plain_commit, rollback_of, plain_rollback, rollback_to, rollback, savepoint, set_transaction, advise, alter_system, alter, purge, execute}
 use Rattle.sql_parse.specs.Statement.{statement_grammar, IsStatement}
-use Rattle.sql_parse.proofs.StatementLaws.{forms_2, forms_3, forms_4, forms_5, forms_6, forms_7, forms_8}
+use Rattle.sql_parse.proofs.StatementLaws.{forms_2, forms_3, forms_4, forms_5, forms_6, forms_7, forms_8, forms_9, forms_10}
 use Rattle.sql_print.specs.Printing.{printed, IsPrintable}
 use Rattle.node_spell_laws.specs.Bytes.{IsTableName}
 use Rattle.node_spell_laws.proofs.TokenLemmas.{IsMade, AreMade, tokens_made, front_made, rest_made, word_is_table}
@@ -247,15 +247,28 @@ none_named (Some id) = tt
 
 names_rollback : Names rollback IsNamed
 unfolding rollback
-names_rollback v ts made s = subst IsNamed (some_is (rollback_of s.0) v s.2) (none_named s.0)
+names_rollback v ts made s = by v s.3.1 s.3.3
+  where
+    by : (w : Stmt) (us : List Token) → (or_else (begins (is_word (codes "TO"))) rollback_to plain_rollback).Spells w us → IsNamed w
+    by w us (inl r) = subst IsNamed (some_is (stmts.RollbackTo r.0) w r.2) tt
+    by w us (inr r) = subst IsNamed (some_is (rollback_of r.0) w r.2) (none_named r.0)
+
+names_savepoint : Names savepoint IsNamed
+unfolding savepoint
+names_savepoint v ts made s = subst IsNamed (some_is (stmts.Savepoint s.0) v s.2) tt
+
+names_set_transaction : Names set_transaction IsNamed
+unfolding set_transaction
+names_set_transaction v ts made s = subst IsNamed (some_is stmts.SetReadOnly v s.2) tt
 
 names_alter : Names alter IsNamed
 unfolding alter
 names_alter v ts made s = by v s.1 s.3
   where
-    by : (w : Stmt) (us : List Token) → (or_else (begins (is_word (codes "SESSION"))) advise recovery).Spells w us → IsNamed w
+    by : (w : Stmt) (us : List Token) → (or_else (begins (is_word (codes "SESSION"))) advise alter_system).Spells w us → IsNamed w
     by w us (inl r) = subst IsNamed (some_is (stmts.Advise r.0) w r.2) tt
-    by w us (inr r) = subst IsNamed (some_is (stmts.Recovery r.0.0) w r.2) tt
+    by w us (inr (front, rest, first, inl r, e)) = subst IsNamed (some_is (stmts.SetStrength r.0) w r.2) tt
+    by w us (inr (front, rest, first, inr r, e)) = subst IsNamed (some_is (stmts.Recovery r.0.0) w r.2) tt
 
 names_execute : Names execute IsNamed
 unfolding execute
@@ -275,7 +288,9 @@ names_statement =
     (names_or_else (begins (is_word (codes "CREATE"))) create forms_6 names_create
     (names_or_else (begins (is_word (codes "COMMIT"))) commit forms_7 names_commit
     (names_or_else (begins (is_word (codes "ROLLBACK"))) rollback forms_8 names_rollback
-    (names_or_else (begins (is_word (codes "ALTER"))) alter execute names_alter names_execute)))))))
+    (names_or_else (begins (is_word (codes "ALTER"))) alter forms_9 names_alter
+    (names_or_else (begins (is_word (codes "SAVEPOINT"))) savepoint forms_10 names_savepoint
+    (names_or_else (begins (is_word (codes "SET"))) set_transaction execute names_set_transaction names_execute)))))))))
 
 -- so are those of a statement that its printed text spells
 pub printable_named : (s : Stmt) → IsPrintable s → IsNamed s

@@ -17,9 +17,9 @@ use Rattle.sql_parse.specs.Literals.{table_ref}
 use Rattle.sql_parse.specs.Conditions.{conditions}
 use Rattle.sql_parse.specs.Changes.{column_names, constants, insert, assignments, update, delete, picks, for_update_part, source, may_lock, select}
 use Rattle.sql_parse.specs.Catalog.{create_table, create_link, create_synonym, create}
-use Rattle.sql_parse.specs.Transactions.{plain_commit, forced_commit, commit, rollback_of, rollback, advise, recovery, alter, purge, is_execute, execute}
+use Rattle.sql_parse.specs.Transactions.{plain_commit, forced_commit, commit, rollback_of, plain_rollback, rollback_to, rollback, savepoint, set_transaction, advise, recovery, set_strength, alter_system, alter, purge, is_execute, execute}
 use Rattle.sql_parse.specs.Statement.{led_by, statement_grammar, IsStatement}
-use Rattle.sql_parse.proofs.StatementLaws.{forms_2, forms_3, forms_4, forms_5, forms_6, forms_7, forms_8}
+use Rattle.sql_parse.proofs.StatementLaws.{forms_2, forms_3, forms_4, forms_5, forms_6, forms_7, forms_8, forms_9, forms_10}
 use Rattle.sql_print.specs.Printing.{printed, IsPrintable}
 use Rattle.sql_print.proofs.RoundTrip.{printed_again}
 use Rattle.node_spell_laws.specs.Bytes.{IsTableName}
@@ -155,9 +155,21 @@ module _ (name : List ℕ) (named : IsTableName name) where
   back None = refl
   back (Some id) = refl
 
+  plain_rollback_form : Turns plain_rollback other
+  plain_rollback_form = stays plain_rollback (λ v ts s. as_it_is (rollback_of s.0) v s.2 (back s.0))
+
+  rollback_to_form : Turns rollback_to other
+  rollback_to_form = stays rollback_to (λ v ts s. as_it_is (stmts.RollbackTo s.0) v s.2 refl)
+
   rollback_turns : Turns rollback other
   unfolding rollback
-  rollback_turns = stays rollback (λ v ts s. as_it_is (rollback_of s.0) v s.2 (back s.0))
+  rollback_turns = turns_after (word (codes "ROLLBACK")) (maybe (codes "WORK") ▹ or_else (begins (is_word (codes "TO"))) rollback_to plain_rollback) other
+      (turns_after (maybe (codes "WORK")) (or_else (begins (is_word (codes "TO"))) rollback_to plain_rollback) other
+      (turns_or_else (begins (is_word (codes "TO"))) rollback_to plain_rollback other rollback_to_form plain_rollback_form))
+
+  savepoint_turns : Turns savepoint other
+  unfolding savepoint
+  savepoint_turns = stays savepoint (λ v ts s. as_it_is (stmts.Savepoint s.0) v s.2 refl)
 
   advise_form : Turns advise other
   advise_form = stays advise (λ v ts s. as_it_is (stmts.Advise s.0) v s.2 refl)
@@ -165,10 +177,21 @@ module _ (name : List ℕ) (named : IsTableName name) where
   recovery_form : Turns recovery other
   recovery_form = stays recovery (λ v ts s. as_it_is (stmts.Recovery s.0.0) v s.2 refl)
 
+  set_transaction_turns : Turns set_transaction other
+  unfolding set_transaction
+  set_transaction_turns = stays set_transaction (λ v ts s. as_it_is stmts.SetReadOnly v s.2 refl)
+
+  set_strength_form : Turns set_strength other
+  set_strength_form = stays set_strength (λ v ts s. as_it_is (stmts.SetStrength s.0) v s.2 refl)
+
+  alter_system_form : Turns alter_system other
+  alter_system_form = turns_after (word (codes "SYSTEM")) (or_else (begins (is_word (codes "SET"))) set_strength recovery) other
+      (turns_or_else (begins (is_word (codes "SET"))) set_strength recovery other set_strength_form recovery_form)
+
   alter_turns : Turns alter other
   unfolding alter
-  alter_turns = turns_after (word (codes "ALTER")) (or_else (begins (is_word (codes "SESSION"))) advise recovery) other
-      (turns_or_else (begins (is_word (codes "SESSION"))) advise recovery other advise_form recovery_form)
+  alter_turns = turns_after (word (codes "ALTER")) (or_else (begins (is_word (codes "SESSION"))) advise alter_system) other
+      (turns_or_else (begins (is_word (codes "SESSION"))) advise alter_system other advise_form alter_system_form)
 
   purge_form : Turns purge other
   purge_form = stays purge by
@@ -194,7 +217,9 @@ module _ (name : List ℕ) (named : IsTableName name) where
       (turns_led (codes "CREATE") create forms_6 create_turns
       (turns_led (codes "COMMIT") commit forms_7 commit_turns
       (turns_led (codes "ROLLBACK") rollback forms_8 rollback_turns
-      (turns_led (codes "ALTER") alter execute alter_turns execute_turns)))))))
+      (turns_led (codes "ALTER") alter forms_9 alter_turns
+      (turns_led (codes "SAVEPOINT") savepoint forms_10 savepoint_turns
+      (turns_led (codes "SET") set_transaction execute set_transaction_turns execute_turns)))))))))
 
   -- a statement that its printed text spells is so with another table
   pub other_is_printable : (s : Stmt) → IsPrintable s → IsPrintable (passed_on s name)

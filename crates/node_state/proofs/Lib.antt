@@ -2,3 +2,4 @@ mod BranchLaws
 mod LiveLaws
 mod WorkLaws
 mod MarkLaws
+mod NextLaws

@@ -1,7 +1,7 @@
 -- What the rules make of a live branch keeps its id and the number of its children.
 use Rattle.std.proofs.Common.{◌≡◌, ℕ, ◌<◌, ◌≤◌, zero, suc, Bool, true, false, if◌then◌else◌, List, [], ◌∷◌, length, length-append, Option, None, Some, sym, subst, ◌∙◌, refl, arith}
 use Rattle.std.proofs.lemmas.List.{length-map, length-set}
-use Rattle.dtx_values.specs.Limits.{branch_limit}
+use Rattle.dtx_values.specs.Limits.{link_limit}
 use Rattle.tran_ids.specs.declared.branch.BranchId.{BranchId}
 use Rattle.tran_ids.specs.Listed.{numbered, set_numbered}
 use Rattle.session_tree.specs.declared.act.Act.{Act}
@@ -15,7 +15,7 @@ use Rattle.session_tree.specs.declared.live.Phase.TheVariants as phases
 use Rattle.prepare_phase.specs.Acts.{after_act, collecting, first_act, with_prepare_sent, after_prepare_in, after_prepare, is_first_answer, has_voted, voted, answer_act, after_answer_in, after_answer}
 use Rattle.dtx_values.specs.declared.advice.Advice.{Advice}
 use Rattle.node_rules.specs.Prepare.{with_comment, ready}
-use Rattle.node_state.specs.Lives.{HasRoom, prepared_in, prepared, changed_by, advised, as_told, told, heard}
+use Rattle.node_state.specs.Lives.{HasRoom, prepared_in, prepared, changed_by, with_changes, advised, as_told, told, heard}
 
 -- a branch is as another in id and number of children
 pub record Keeps (l m : Live) : Type 0 where
@@ -26,7 +26,7 @@ pub still : (l : Live) → Keeps l l
 still l = record { me = refl; children = refl }
 
 pub has_room : (l m : Live) → Keeps l m → HasRoom l → HasRoom m
-has_room l m k room = subst (λ n. n ≤ branch_limit) (sym k.children) room
+has_room l m k room = subst (λ n. n ≤ link_limit) (sym k.children) room
 
 act_keeps : (l : Live) (a : Act) → Keeps l (after_act l a)
 act_keeps l acts.Rest = still l
@@ -97,6 +97,9 @@ heard_keeps l i weight count = record { me = refl; children = told_length l.edge
 pub still_changed : (l : Live) (changes : Bool) → Keeps l (changed_by changes l)
 still_changed l changes = record { me = refl; children = refl }
 
+pub still_with_changes : (l : Live) (changed : Bool) → Keeps l (with_changes changed l)
+still_with_changes l changed = record { me = refl; children = refl }
+
 pub still_advised : (l : Live) (advice : Option Advice) → Keeps l (advised advice l)
 still_advised l advice = record { me = refl; children = refl }
 
@@ -104,5 +107,5 @@ pub still_ready : (l : Live) → Keeps l (ready l)
 still_ready l = record { me = refl; children = refl }
 
 -- one more child
-pub room_added : (l : Live) (e : Edge) → length l.edges < branch_limit → HasRoom (add_edge l e)
+pub room_added : (l : Live) (e : Edge) → length l.edges < link_limit → HasRoom (add_edge l e)
 room_added l e room = let n = length-append l.edges (e ∷ []) in let one : length (e ∷ []) ≡ 1 = refl in omega arith

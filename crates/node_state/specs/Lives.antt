@@ -1,6 +1,6 @@
 -- What the rules make of a live branch.
 use Rattle.std.specs.Prelude.{ℕ, ◌≤◌, ◌||◌, Bool, List, length, Option, None, Some}
-use Rattle.dtx_values.specs.Limits.{branch_limit}
+use Rattle.dtx_values.specs.Limits.{link_limit}
 use Rattle.tran_ids.specs.Listed.{numbered, set_numbered}
 use Rattle.session_tree.specs.declared.edge.Edge.{Edge}
 use Rattle.session_tree.specs.declared.live.Live.{Live}
@@ -12,7 +12,7 @@ use Rattle.node_rules.specs.Prepare.{with_comment}
 
 -- a branch has no more children than a tree has branches
 abbrev pub HasRoom : Live → Type 0
-HasRoom l = length l.edges ≤ branch_limit
+HasRoom l = length l.edges ≤ link_limit
 
 -- only a working branch hears COMMIT or Prepare, with its comment
 abbrev pub prepared_in : Live → Bool → List ℕ → Phase → Live
@@ -26,6 +26,10 @@ prepared site_below comment l = prepared_in l site_below comment l.phase
 -- a branch after a run that made changes, or none
 abbrev pub changed_by : Bool → Live → Live
 changed_by changes l = record l { changed = l.changed || changes }
+
+-- a branch that has made changes from now on, or has not
+abbrev pub with_changes : Bool → Live → Live
+with_changes changed l = record l { changed = changed }
 
 -- a branch that takes a call with this advice
 abbrev pub advised : Option Advice → Live → Live

@@ -2,7 +2,7 @@
 use Rattle.std.specs.Prelude.{ℕ, List, [], ◌∷◌, ◌++◌, Option, None, Some}
 use Rattle.savepoints.specs.declared.marks.RowKey.{RowKey}
 use Rattle.savepoints.specs.declared.marks.Note.{Note}
-use Rattle.savepoints.specs.Marks.{with_note, with_savepoint}
+use Rattle.savepoints.specs.Marks.{with_note, with_savepoint, back_to}
 use Rattle.tran_ids.specs.declared.branch.BranchId.{BranchId}
 use Rattle.tran_ids.specs.Listed.{item_at, put_item}
 use Rattle.sql_statement.specs.declared.statement.Stmt.{Stmt}
@@ -61,6 +61,10 @@ run_noted step sets keys w = record w { marks = with_note w.marks (note_of_run s
 -- a savepoint is set at a step
 abbrev pub with_savepoint_at : List ℕ → ℕ → Work → Work
 with_savepoint_at name step w = record w { marks = with_savepoint w.marks name step }
+
+-- a branch is back at a step: what it noted later is dropped
+abbrev pub back_at : ℕ → Work → Work
+back_at step w = record w { marks = back_to w.marks step }
 
 -- one more child, to which no call was made
 abbrev pub with_child : Work → Work

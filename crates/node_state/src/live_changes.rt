@@ -3,7 +3,7 @@ ghost use Rattle.std.specs.Prelude.{◌≡◌};
 ghost use Rattle.prepare_phase.specs.Acts.{prepare_act};
 ghost use Rattle.node_rules.specs.Prepare.{with_comment, ready};
 ghost use Rattle.tran_ids.specs.Listed.{numbered};
-ghost use Rattle.node_state.specs.Lives.{HasRoom, prepared, changed_by, advised, as_told, told, heard};
+ghost use Rattle.node_state.specs.Lives.{HasRoom, prepared, changed_by, with_changes, advised, as_told, told, heard};
 
 use dtx_values::{Advice, Bytes, Listing};
 use prepare_phase::on_prepare;
@@ -32,6 +32,13 @@ pub(crate) fn note_changes(live: &mut Live, changes: bool)
     ensures { live.new ≡ changed_by changes live.old }
 {
     live.changed = live.changed || changes;
+}
+
+/// From now on it has made changes, or has not.
+pub(crate) fn set_changed(live: &mut Live, changed: bool)
+    ensures { live.new ≡ with_changes changed live.old }
+{
+    live.changed = changed;
 }
 
 /// It takes a call, with the advice that came with it.

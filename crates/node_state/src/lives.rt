@@ -1,7 +1,7 @@
 //! The live branches of a node.
 ghost use Rattle.std.specs.Prelude.{◌≡◌, ◌<◌, ◌++◌, ◌∷◌, [], None, length, IfSome, OnOk, OnErr};
 ghost use Rattle.std.specs.Option.{option_copied, option_map};
-ghost use Rattle.dtx_values.specs.Limits.{branch_limit};
+ghost use Rattle.dtx_values.specs.Limits.{link_limit};
 ghost use Rattle.tran_ids.specs.Listed.{item_at, drop_item};
 ghost use Rattle.session_tree.specs.declared.live.Live.{Live};
 ghost use Rattle.session_tree.specs.Live.{add_edge as add_edge_of};
@@ -9,7 +9,7 @@ ghost use Rattle.prepare_phase.specs.Acts.{prepare_act, heard_act, after_answer}
 ghost use Rattle.node_rules.specs.NodeState.{live_id};
 ghost use Rattle.node_rules.specs.Prepare.{with_comment, ready};
 ghost use Rattle.node_state.specs.Changed.{change_item};
-ghost use Rattle.node_state.specs.Lives.{HasRoom, prepared, changed_by, advised, heard};
+ghost use Rattle.node_state.specs.Lives.{HasRoom, prepared, changed_by, with_changes, advised, heard};
 
 use crate::live_changes;
 use dtx_values::{Advice, Bytes};
@@ -136,6 +136,15 @@ impl Lives {
         }
     }
 
+    /// From now on the branch has made changes here, or has not.
+    pub fn set_changed(&mut self, branch: &BranchId, changed: bool)
+        ensures { self.new ≡ change_item live_id (with_changes changed) self.old branch.now }
+    {
+        if let Some(place) = self.lives.get_index_of(branch) {
+            live_changes::set_changed(&mut self.lives[place], changed);
+        }
+    }
+
     /// The branch takes a call, with the advice that came with it.
     pub fn take_advice(&mut self, branch: &BranchId, advice: Option<Advice>)
         ensures { self.new ≡ change_item live_id (advised advice) self.old branch.now }
@@ -147,7 +156,7 @@ impl Lives {
 
     /// The branch has one more child, behind the others. Fails where memory runs out.
     pub fn add_edge(&mut self, branch: &BranchId, edge: Edge) -> Result<(), AllocError>
-        requires { IfSome (item_at live_id self.old branch.now) (λ live. length live.edges < branch_limit) }
+        requires { IfSome (item_at live_id self.old branch.now) (λ live. length live.edges < link_limit) }
         ensures ok { OnOk result (self.new ≡ change_item live_id (λ live. add_edge_of live edge) self.old branch.now) }
         ensures err { OnErr result (self.new ≡ self.old) }
     {

@@ -1,11 +1,11 @@
 //! What the rules make of the calls of one branch. The branch stays.
-ghost use Rattle.std.specs.Prelude.{◌≡◌, ◌<◌, ◌^◌, not, filter, IfOk, OnOk, OnErr};
+ghost use Rattle.std.specs.Prelude.{◌≡◌, ◌<◌, ◌≤◌, ◌^◌, not, filter, IfOk, IsFalse, IsTrue, OnOk, OnErr};
 ghost use Rattle.link_session.specs.Calls.{admit as admit_of};
 ghost use Rattle.tran_ids.specs.Listed.{set_numbered};
 ghost use Rattle.savepoints.specs.Marks.{has_name, no_marks as no_marks_of};
 ghost use Rattle.node_rules.specs.NodeState.{no_work as no_work_of};
 ghost use Rattle.node_rules.specs.Calls.{calls_with as calls_with_of, next_call as next_call_of};
-ghost use Rattle.node_state.specs.Works.{with_call_taken, call_noted, called_over, waits_for_child, run_noted, with_savepoint_at, with_child, answered_with, given_up};
+ghost use Rattle.node_state.specs.Works.{with_call_taken, call_noted, called_over, waits_for_child, run_noted, with_savepoint_at, back_at, with_child, answered_with, given_up};
 
 use dtx_values::{Listing, Name};
 use link_session::{Admit, Calls, ReplyFields};
@@ -88,6 +88,28 @@ pub(crate) fn next_call(work: &Work, number: u8) -> u32
             Some(last) => *last + 1,
         },
     }
+}
+
+/// Whether 32 bits hold the next call number of an edge.
+pub(crate) fn has_next_call(work: &Work, number: u8) -> bool
+    ensures yes { IsTrue result → next_call_of work.now number < 2 ^ 32 }
+    ensures no { IsFalse result → 2 ^ 32 ≤ next_call_of work.now number }
+{
+    let calls = work.calls.as_slice();
+    match usize::from(number).checked_sub(1) {
+        None => true,
+        Some(place) => match calls.get(place) {
+            None => true,
+            Some(last) => *last < u32::MAX,
+        },
+    }
+}
+
+/// The branch is back at a step.
+pub(crate) fn go_back(alloc: Global, work: &mut Work, step: u32)
+    ensures { work.new ≡ back_at step work.old }
+{
+    work.marks.go_back(alloc, step);
 }
 
 /// A call is taken.

@@ -1,20 +1,21 @@
 //! The calls of the live branches of a node.
-ghost use Rattle.std.specs.Prelude.{◌≡◌, ◌<◌, ◌^◌, [], None, OnOk, OnErr};
+ghost use Rattle.std.specs.Prelude.{◌≡◌, ◌+◌, ◌<◌, ◌≤◌, ◌^◌, [], None, IfOk, IfSome, IsFalse, IsNone, IsTrue, OnOk, OnErr};
 ghost use Rattle.std.specs.Option.{option_copied};
 ghost use Rattle.tran_ids.specs.Listed.{item_at, put_item, drop_item};
 ghost use Rattle.link_session.specs.Calls.{admit as admit_of};
 ghost use Rattle.node_rules.specs.declared.work.Work.{Work};
 ghost use Rattle.node_rules.specs.NodeState.{work_id, no_work};
 ghost use Rattle.node_rules.specs.Calls.{next_call};
-ghost use Rattle.node_rules.specs.Marks.{kept_call, savepoint_at};
-ghost use Rattle.node_state.specs.Works.{work_of, change_work, with_call_taken, called_over, waits_for_child, run_noted, with_savepoint_at, with_child, answered_with, given_up};
+ghost use Rattle.node_rules.specs.Marks.{kept_call, next_back, savepoint_at, sets_behind};
+ghost use Rattle.node_state.specs.Changed.{change_item};
+ghost use Rattle.node_state.specs.Works.{work_of, change_work, with_call_taken, called_over, waits_for_child, run_noted, with_savepoint_at, back_at, with_child, answered_with, given_up};
 
 use crate::{kept_calls, work_changes};
 use dtx_values::Name;
 use indexmap::IndexMap;
 use link_session::{Admit, Calls, ReplyFields};
 use node_rules::{Errand, Work};
-use savepoints::RowKeys;
+use savepoints::{Note, RowKeys};
 use sql_statement::Stmt;
 use std::alloc::{AllocError, Global};
 use std::marker::Model;
@@ -119,6 +120,64 @@ impl Works {
         match self.get(branch) {
             Some(work) => kept_calls::kept_call(&work.marks, step, number),
             None => 0,
+        }
+    }
+
+    /// The notes of a branch, in the order of their steps.
+    pub fn notes(&self, branch: &BranchId) -> &[Note]
+        ensures { result.now ≡ (work_of self.now branch.now).marks.notes }
+    {
+        match self.get(branch) {
+            Some(work) => work.marks.notes.as_slice(),
+            None => &[],
+        }
+    }
+
+    /// How many lists of changes a branch made in later steps. Nothing where 32 bits count no further.
+    pub fn sets_behind(&self, branch: &BranchId, step: u32) -> Option<u32>
+        ensures sets { IfSome result (λ sets. sets ≡ sets_behind (work_of self.now branch.now).marks step) }
+        ensures none { IsNone result → 2 ^ 32 ≤ sets_behind (work_of self.now branch.now).marks step }
+    {
+        match self.get(branch) {
+            Some(work) => work.marks.sets_behind(step),
+            None => Some(0),
+        }
+    }
+
+    /// The child of a branch behind this number, from 1, whose calls went on since a step. A number beyond 255 is answered as
+    /// out of memory.
+    #[tactic(auto, using(crate::proofs::NextLaws::never_called))]
+    pub fn next_back(
+        &self,
+        branch: &BranchId,
+        step: u32,
+        last: u8,
+    ) -> Result<Option<u8>, AllocError>
+        ensures { IfOk result (λ next. next ≡ next_back (work_of self.now branch.now) step (last + 1)) }
+    {
+        match self.get(branch) {
+            Some(work) => kept_calls::next_back(work, step, last),
+            None => Ok(None),
+        }
+    }
+
+    /// Whether 32 bits hold the next call number of the edge to a child.
+    pub fn has_next_call(&self, branch: &BranchId, number: u8) -> bool
+        ensures yes { IsTrue result → next_call (work_of self.now branch.now) number < 2 ^ 32 }
+        ensures no { IsFalse result → 2 ^ 32 ≤ next_call (work_of self.now branch.now) number }
+    {
+        match self.get(branch) {
+            Some(work) => work_changes::has_next_call(work, number),
+            None => true,
+        }
+    }
+
+    /// A branch is back at a step: what it noted later, and later savepoints, are dropped.
+    pub fn go_back(&mut self, alloc: Global, branch: &BranchId, step: u32)
+        ensures { self.new ≡ change_item work_id (back_at step) self.old branch.now }
+    {
+        if let Some(place) = self.works.get_index_of(branch) {
+            work_changes::go_back(alloc, &mut self.works[place], step);
         }
     }
 

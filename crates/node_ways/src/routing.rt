@@ -1,6 +1,6 @@
 //! Where a statement goes from a live branch.
 ghost use Rattle.std.specs.Prelude.{◌≡◌, ◌≤◌, [], false, length};
-ghost use Rattle.dtx_values.specs.Limits.{branch_limit, node_limit};
+ghost use Rattle.dtx_values.specs.Limits.{link_limit, node_limit};
 ghost use Rattle.catalog.specs.Catalog.{is_used};
 ghost use Rattle.session_tree.specs.Live.{edge_by_link as edge_by_link_of};
 ghost use Rattle.sql_check.specs.Refusals.{dtx};
@@ -40,7 +40,7 @@ fn way_new<'a>(
     link: &'a Name,
     table: &'a Name,
 ) -> Way<'a>
-    requires { length live.now.edges ≤ branch_limit }
+    requires { length live.now.edges ≤ link_limit }
     ensures { way_as result ≡ way_new_of place.now live.now given node link.now table.now }
 {
     if DEPTH_LIMIT <= live.depth || room(live, given) == 0 {
@@ -62,7 +62,7 @@ fn way_edge<'a>(
     link: &'a Name,
     table: &'a Name,
 ) -> Way<'a>
-    requires { length live.now.edges ≤ branch_limit }
+    requires { length live.now.edges ≤ link_limit }
     ensures { way_as result ≡ way_edge_of place.now live.now given node link.now table.now (edge_by_link_of live.now link.now) }
 {
     match edge_by_link(live, link) {
@@ -82,7 +82,7 @@ fn way_behind<'a>(
     table: &'a Name,
 ) -> Way<'a>
     requires nodes { length place.now.names ≤ node_limit }
-    requires edges { length live.now.edges ≤ branch_limit }
+    requires edges { length live.now.edges ≤ link_limit }
     ensures { way_as result ≡ way_target_of place.now live.now given link.now table.now (target_of_link place.now (durable_with catalog.now) link.now) }
 {
     match target_of(place, catalog, link) {
@@ -100,7 +100,7 @@ fn way_named<'a>(
     named: Named<'a>,
 ) -> Way<'a>
     requires nodes { length place.now.names ≤ node_limit }
-    requires edges { length live.now.edges ≤ branch_limit }
+    requires edges { length live.now.edges ≤ link_limit }
     ensures { way_as result ≡ way_named_of place.now (durable_with catalog.now) live.now given (named_as named.entry) }
 {
     match named {
@@ -133,7 +133,7 @@ fn way_in<'a>(
     statement: &'a Stmt,
 ) -> Way<'a>
     requires nodes { length place.now.names ≤ node_limit }
-    requires edges { length live.now.edges ≤ branch_limit }
+    requires edges { length live.now.edges ≤ link_limit }
     requires names { has_table statement.now ≡ false → is_used catalog.now [] ≡ false }
     ensures { way_as result ≡ way_of_statement place.now (durable_with catalog.now) live.now given statement.now }
 {
@@ -164,7 +164,7 @@ pub fn way_of<'a>(
     statement: &'a Stmt,
 ) -> Way<'a>
     requires nodes { length place.now.names ≤ node_limit }
-    requires edges { length live.now.edges ≤ branch_limit }
+    requires edges { length live.now.edges ≤ link_limit }
 
     // A statement of a form without a table names the empty name, which nothing has.
     requires names { has_table statement.now ≡ false → is_used catalog.now [] ≡ false }

@@ -1,7 +1,7 @@
 //! Where a link leads: the node of its target, and the child that was opened over it.
 ghost use Rattle.std.specs.Prelude.{◌≡◌, ◌+◌, ◌≤◌, length, position, option_map};
 ghost use Rattle.std.specs.Option.{option_copied};
-ghost use Rattle.dtx_values.specs.Limits.{branch_limit, node_limit};
+ghost use Rattle.dtx_values.specs.Limits.{link_limit, node_limit};
 ghost use Rattle.session_tree.specs.Live.{edge_by_link as edge_by_link_of};
 ghost use Rattle.sql_check.specs.Words.{same_text};
 ghost use Rattle.node_rules.specs.Names.{node_named as node_named_of, target_of as target_of_link};
@@ -42,7 +42,7 @@ fn edge_of(edges: &[Edge], link: &Name) -> Option<usize>
 
 /// The number of the child that a link leads to, where the branch has used it before.
 pub(crate) fn edge_by_link(live: &Live, link: &Name) -> Option<u8>
-    requires { length live.now.edges ≤ branch_limit }
+    requires { length live.now.edges ≤ link_limit }
     ensures { result ≡ edge_by_link_of live.now link.now }
 {
     let place = edge_of(live.edges.as_slice(), link)?;

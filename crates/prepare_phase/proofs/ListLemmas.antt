@@ -4,7 +4,7 @@ use Rattle.std.specs.Prelude.{is_none, is_some, slice_get, option_to_list}
 use Rattle.std.specs.List.{list_any, count_by}
 use Rattle.std.proofs.lemmas.List.{length-take}
 use Rattle.std.proofs.lemmas.List.Sums.{count_by-le-length, length-filter}
-use Rattle.dtx_values.specs.Limits.{branch_limit}
+use Rattle.dtx_values.specs.Limits.{link_limit}
 use Rattle.tran_ids.specs.declared.branch.BranchId.{BranchId}
 use Rattle.session_tree.specs.declared.edge.Edge.{Edge}
 use Rattle.session_tree.specs.declared.live.Live.{Live}
@@ -37,7 +37,7 @@ alone_then l none = sym (ap (λ b. b && not (list_any is_prepared l.edges)) none
 -- ---- how many children answered Prepared
 
 -- those before a child that did, no more than a byte holds
-pub prepared_fits : (path : ℕ) (es : List Edge) → length es ≤ branch_limit → (count_by is_prepared (take (path - 1) es) ≡ prepared_before path es) × (count_by is_prepared (take (path - 1) es) < 256)
+pub prepared_fits : (path : ℕ) (es : List Edge) → length es ≤ link_limit → (count_by is_prepared (take (path - 1) es) ≡ prepared_before path es) × (count_by is_prepared (take (path - 1) es) < 256)
 prepared_fits path es most =
     let within : count_by is_prepared (take (path - 1) es) ≤ length (take (path - 1) es) = count_by-le-length is_prepared (take (path - 1) es) in
     let taken : length (take (path - 1) es) ≡ min (path - 1) (length es) = length-take (path - 1) es in

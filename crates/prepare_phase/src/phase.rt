@@ -1,7 +1,7 @@
 //! What a live branch does next in its prepare phase.
 ghost use Rattle.std.specs.Prelude.{◌≡◌, ◌≤◌, length, map};
 ghost use Rattle.std.specs.List.{list_any};
-ghost use Rattle.dtx_values.specs.Limits.{branch_limit};
+ghost use Rattle.dtx_values.specs.Limits.{link_limit};
 ghost use Rattle.prepare_phase.specs.Acts.{root_act as root_act_of, collected_act, after_act, with_prepare_sent, collecting, first_act as first_act_of, prepare_act, after_prepare, is_awaited as is_awaited_of, all_answered as all_answered_of, answer_act as answer_act_of, answers_first as answers_first_of, is_first_answer as is_first_answer_of, has_voted, voted, heard_act, after_answer};
 
 use dtx_values::Listing;
@@ -15,7 +15,7 @@ use tran_ids::BranchId;
 /// the walk to the commit point site comes to the branch, as it does to every root. No memory is taken.
 #[tactic(auto, unfolding(crate::specs::Acts::prepare_act, crate::specs::Acts::after_prepare))]
 pub fn on_prepare(alloc: Global, live: &mut Live, site_below: bool) -> Act
-    requires { length live.old.edges ≤ branch_limit }
+    requires { length live.old.edges ≤ link_limit }
     ensures act { result ≡ prepare_act live.old site_below }
     ensures after { live.new ≡ after_prepare live.old site_below }
 {
@@ -34,7 +34,7 @@ pub fn on_prepare(alloc: Global, live: &mut Live, site_below: bool) -> Act
 /// any other changes nothing. An Abort ends the collect at once, else the last answer completes it. No memory is taken.
 #[tactic(auto, unfolding(crate::specs::Acts::heard_act, crate::specs::Acts::after_answer))]
 pub fn on_answer(alloc: Global, live: &mut Live, from: &BranchId, vote: Vote) -> Act
-    requires { length live.old.edges ≤ branch_limit }
+    requires { length live.old.edges ≤ link_limit }
     ensures act { result ≡ heard_act live.old from.now vote }
     ensures after { live.new ≡ after_answer live.old from.now vote }
 {
@@ -62,7 +62,7 @@ fn root_act(walk: Walk) -> Act
 
 // All children have answered.
 fn all_collected(live: &Live, site_below: bool) -> Act
-    requires { length live.now.edges ≤ branch_limit }
+    requires { length live.now.edges ≤ link_limit }
     ensures { result ≡ collected_act live.now site_below }
 {
     if site_below {
@@ -113,7 +113,7 @@ fn collect(alloc: Global, live: &mut Live, site_below: bool)
 }
 
 fn first_act(live: &Live, site_below: bool) -> Act
-    requires { length live.now.edges ≤ branch_limit }
+    requires { length live.now.edges ≤ link_limit }
     ensures { result ≡ first_act_of live.now site_below }
 {
     match live.edges.as_slice() {
@@ -145,7 +145,7 @@ fn all_answered(live: &Live) -> bool
 }
 
 fn answer_act(live: &Live, site_below: bool, vote: Vote) -> Act
-    requires { length live.now.edges ≤ branch_limit }
+    requires { length live.now.edges ≤ link_limit }
     ensures { result ≡ answer_act_of live.now site_below vote }
 {
     match vote {

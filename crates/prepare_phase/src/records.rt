@@ -1,7 +1,7 @@
 //! What the record of a branch names that becomes sealed or decides.
 ghost use Rattle.std.specs.Prelude.{◌≡◌, ◌≤◌, ◌-◌, length, take, count_by, IfOk};
 ghost use Rattle.std.specs.List.{list_any};
-ghost use Rattle.dtx_values.specs.Limits.{branch_limit};
+ghost use Rattle.dtx_values.specs.Limits.{link_limit};
 ghost use Rattle.prepare_phase.specs.Records.{is_prepared as is_prepared_edge, peer_record as peer_record_of, named_children as named_children_of, prepared_before as prepared_before_of, toward_in as toward_in_of, sealed_of as sealed_record, decided_of as decided_record, site_neighbors as site_neighbors_of, is_alone as is_alone_of};
 
 use crate::prepares::is_on_path;
@@ -21,7 +21,7 @@ pub fn sealed_of(
     changes: Changes,
     path: Option<u8>,
 ) -> Result<Sealed, AllocError>
-    requires { length live.now.edges ≤ branch_limit }
+    requires { length live.now.edges ≤ link_limit }
     ensures { IfOk result (λ sealed. sealed ≡ sealed_record scn live.now changes path) }
 {
     let (children, comment) = copies(alloc, live, path)?;
@@ -46,7 +46,7 @@ pub fn decided_of(
     live: &Live,
     changes: Changes,
 ) -> Result<Decided, AllocError>
-    requires { length live.now.edges ≤ branch_limit }
+    requires { length live.now.edges ≤ link_limit }
     ensures { IfOk result (λ decided. decided ≡ decided_record scn live.now changes) }
 {
     let (children, comment) = copies(alloc, live, None)?;
@@ -64,7 +64,7 @@ pub fn decided_of(
 
 // The children that a record names, where the walk goes to the child of the number `path`, and the comment.
 fn copies(alloc: Global, live: &Live, path: Option<u8>) -> Result<(Peers, Bytes), AllocError>
-    requires { length live.now.edges ≤ branch_limit }
+    requires { length live.now.edges ≤ link_limit }
     ensures { IfOk result (λ copies. copies ≡ (named_children_of path 1 live.now.edges, live.now.comment)) }
 {
     let children = named_children(alloc, live.edges.as_slice(), path)?;
@@ -120,7 +120,7 @@ fn peer_record(alloc: Global, edge: &Edge) -> Result<Peer, AllocError>
 }
 
 fn named_children(alloc: Global, edges: &[Edge], path: Option<u8>) -> Result<Peers, AllocError>
-    requires { length edges.now ≤ branch_limit }
+    requires { length edges.now ≤ link_limit }
     ensures { IfOk result (λ children. children ≡ named_children_of path 1 edges.now) }
 {
     let mut children = Vec::new(alloc);
@@ -153,14 +153,14 @@ fn before(path: u8, edges: &[Edge]) -> &[Edge]
 // How many children before this one answered Prepared.
 #[tactic(auto, using(crate::proofs::ListLemmas::prepared_fits))]
 fn prepared_before(path: u8, edges: &[Edge]) -> u8
-    requires { length edges.now ≤ branch_limit }
+    requires { length edges.now ≤ link_limit }
     ensures { result ≡ prepared_before_of path edges.now }
 {
     count_prepared(before(path, edges)) as u8
 }
 
 fn toward_in(path: Option<u8>, edges: &[Edge]) -> Toward
-    requires { length edges.now ≤ branch_limit }
+    requires { length edges.now ≤ link_limit }
     ensures { result ≡ toward_in_of path edges.now }
 {
     match path {

@@ -16,7 +16,7 @@ begun (byte ∷ []) short = elim (cases_eq byte 1) [
 ]
 begun (byte ∷ more ∷ bytes) short = absurd (omega arith)
 
-nothing_begun : (image : List ℕ) → image ≡ [] → MayBeBegun image
+pub nothing_begun : (image : List ℕ) → image ≡ [] → MayBeBegun image
 nothing_begun image is = begun image (omega (arith, ap (λ (l : List ℕ). length l) is))
 
 gate_torn : (images images' : List ℕ → Type 0) → IsOnly [] images → TearsOnly 0 1 images images' → (image : List ℕ) → images' image → MayBeBegun image

@@ -12,6 +12,11 @@ use Rattle.redo_log.specs.Stands.{IsStoredIf, with_body_if}
 use Rattle.redo_log.specs.declared.log.Log.{Log}
 use Rattle.redo_log.proofs.Cells.{bodies-closed}
 
+-- a log is not broken and intact
+pub not_both : (broken : Bool) → broken ≡ true → broken ≡ false → ⊥
+not_both true is is_not = cc
+not_both false is is_not = cc
+
 closed_first : (bytes : List ℕ) → IsClosed bytes → IsClosed (take 1 bytes)
 closed_first [] is = is
 closed_first (gate ∷ behind) is = is

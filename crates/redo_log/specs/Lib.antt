@@ -5,3 +5,4 @@ pub mod Plans
 pub mod Runs
 pub mod Calls
 pub mod Stands
+pub mod Restart

@@ -13,6 +13,7 @@ mod load;
 mod log;
 mod make;
 mod plain;
+mod replace;
 
 pub use block_disk::Failed;
 pub use bodies::Bodies;

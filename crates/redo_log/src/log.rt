@@ -2,17 +2,20 @@
 ghost use Rattle.std.specs.Prelude.{◌≡◌, ◌<◌, ◌≤◌, ◌+◌, ◌^◌, ◌↔◌, [], length, IfOk, IfErr, OnOk, OnErr, IsErrOf, MatchResult};
 ghost use Rattle.block_disk.specs.Images.{AtEachMoment, AddsNone, GoesOn, IsOnly};
 ghost use Rattle.block_disk.specs.Orders.{ordered};
+ghost use Rattle.block_disk.specs.Spare.{HasRoom};
 ghost use Rattle.redo_log.specs.declared.err.MakeWhy.{MakeWhy};
 ghost use Rattle.redo_log.specs.Calls.{IsNewLog, LoadsBodies, LoadFails, GrowsByBody, HoldsAsPlanned, GoesOnAfter};
 ghost use Rattle.redo_log.specs.Cells.{body_limit, held};
-ghost use Rattle.redo_log.specs.Log.{disk_of, IsIntact, IsUsable, MayBeBegun, HoldsWithOrWithout, OnRefused, staged, with_gate, MayBeImage};
+ghost use Rattle.redo_log.specs.Log.{disk_of, IsBroken, IsIntact, IsUsable, MayBeBegun, HoldsWithOrWithout, OnRefused, staged, with_gate, MayBeImage};
 ghost use Rattle.redo_log.specs.Plans.{append_calls, begin_calls};
+ghost use Rattle.redo_log.specs.Restart.{HasRestarted, LeavesOldOrNew, HoldsOldOrNew};
 ghost use Rattle.redo_log.specs.Runs.{IsUntouched, HasRun, MetFault, IsOnlyRead, HasGrown, LeavesByPlan};
 ghost use Rattle.redo_log.specs.Stands.{IsStoredByPlan};
 
 use crate::gate::{CLOSED, OPEN};
 use crate::load::read_log;
 use crate::make::lay_gate;
+use crate::replace::replace;
 use crate::{Bodies, LoadErr, LogErr, MakeErr};
 use block_disk::{Armable, Disk, DiskFault, Failed};
 use std::alloc::{AllocError, Global};
@@ -107,18 +110,13 @@ impl<D: Disk> Log<D> {
         ensures too_long { IsErrOf result LogErr.TooLong ↔ (IsIntact self.old × (body_limit < length body.now)) }
         ensures after { GoesOnAfter D.Disk result self.old self.new }
     {
-        if self.broken {
-            return Err(LogErr::Fault);
-        }
-        if body.len() > MAX_BODY {
-            return Err(LogErr::TooLong);
-        }
+        self.check(body)?;
         let size = body.len() as u64 + CELL_HEAD;
         let Some(end) = self.end.checked_add(size) else {
             return Err(LogErr::NoMemory);
         };
         // One byte more than the cell: its gate is there already, written closed, and is written again, open.
-        self.disk.room(size + 1)?;
+        self.disk.room(size + 1, 2)?;
         let behind = stage(self.alloc, body)?;
         match store(&mut self.disk, self.end, &behind) {
             Ok(()) => {
@@ -130,6 +128,58 @@ impl<D: Disk> Log<D> {
                 Err(LogErr::Fault)
             }
         }
+    }
+
+    /// Begins the list anew with this body alone. At Ok it is on the disk: from then on each crash leaves a log of this body.
+    ///
+    /// The list is shut first, and what stood in it counts no more. All memory is taken before that. The errors are those
+    /// of `append`.
+    pub fn restart(&mut self, body: &[u8]) -> Result<(), LogErr>
+        requires usable { IsUsable D.content D.images self.old }
+        requires some { 0 < length body.now }
+
+        ensures acknowledged { OnOk result (HasRestarted D.Disk body.now (disk_of self.old) (disk_of self.new)) }
+
+        // A crash at any moment of the call leaves the bodies from before it, or no body, or this one alone.
+        ensures any_moment { IsIntact self.old → AtEachMoment D.moment D.images_since (disk_of self.old) (disk_of self.new)
+            (HoldsOldOrNew (held (D.content (disk_of self.old))) body.now) }
+
+        ensures failed { IsErrOf result LogErr.Fault → IsIntact self.old → LeavesOldOrNew D.Disk body.now (disk_of self.old) (disk_of self.new) }
+        ensures refused { OnRefused result (IsUntouched D.Disk (disk_of self.old) (disk_of self.new)) }
+        ensures too_long { IsErrOf result LogErr.TooLong ↔ (IsIntact self.old × (body_limit < length body.now)) }
+        ensures after { GoesOnAfter D.Disk result self.old self.new }
+    {
+        self.check(body)?;
+        let size = body.len() as u64 + CELL_HEAD;
+        // The first gate is written closed where the list has bodies, and is written again, open.
+        self.disk.room(size + 2, 3)?;
+        let behind = stage(self.alloc, body)?;
+        match replace(&mut self.disk, self.end, &behind) {
+            Ok(()) => {
+                self.end = size;
+                Ok(())
+            }
+            Err(Failed) => {
+                self.broken = true;
+                Err(LogErr::Fault)
+            }
+        }
+    }
+
+    /// Whether a body can be written on this log: no call has answered `Fault`, and the body is not too long.
+    fn check(&self, body: &[u8]) -> Result<(), LogErr>
+        ensures ok { OnOk result (IsIntact self.now × (length body.now ≤ body_limit)) }
+        ensures fault { IsErrOf result LogErr.Fault → IsBroken self.now }
+        ensures too_long { IsErrOf result LogErr.TooLong → IsIntact self.now × (body_limit < length body.now) }
+        ensures memory { IsErrOf result LogErr.NoMemory → ⊥ }
+    {
+        if self.broken {
+            return Err(LogErr::Fault);
+        }
+        if body.len() > MAX_BODY {
+            return Err(LogErr::TooLong);
+        }
+        Ok(())
     }
 
     /// The disk.
@@ -180,11 +230,11 @@ fn stage(alloc: Global, body: &[u8]) -> Result<Vec<u8>, AllocError>
 }
 
 /// Writes bytes after a gate and then opens it.
-fn store<D: Disk>(disk: &mut D, gate: u64, behind: &[u8]) -> Result<(), Failed>
+pub(crate) fn store<D: Disk>(disk: &mut D, gate: u64, behind: &[u8]) -> Result<(), Failed>
     requires gate { gate < length (D.content disk.old) }
     requires fits { gate + 1 < 2 ^ 64 }
     requires some { 0 < length behind.now }
-    requires room { length behind.now + 1 ≤ D.spare disk.old }
+    requires room { HasRoom (length behind.now + 1) 2 (D.spare disk.old) }
     requires durable { IsOnly (D.content disk.old) (D.images disk.old) }
 
     ensures stored { OnOk result (D.content disk.new ≡ with_gate 1 gate behind.now (D.content disk.old)) }

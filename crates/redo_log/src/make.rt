@@ -19,7 +19,7 @@ pub(crate) fn lay_gate<D: Disk>(disk: &mut D) -> Result<(), MakeWhy>
     ensures failed { IsErrOf result MakeWhy.Fault → MetFault D.Disk begin_calls disk.old disk.new }
     ensures refused { IsErrOf result MakeWhy.NoMemory → IsUntouched D.Disk disk.old disk.new }
 {
-    disk.room(1)?;
+    disk.room(1, 1)?;
     disk.write_at(0, &[CLOSED])?;
     Ok(disk.sync()?)
 }

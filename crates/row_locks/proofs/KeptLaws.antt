@@ -18,7 +18,7 @@ use Rattle.dtx_values.proofs.ValueOrder.{equal_from_same}
 use Rattle.row_locks.specs.declared.held_key.HeldKey.{HeldKey}
 use Rattle.row_locks.specs.declared.lock_key.LockKey.{LockKey}
 use Rattle.row_locks.specs.contracts.lock_key.LockKeyEq.TheImpl.Laws.{laws-law}
-use Rattle.row_locks.specs.Locks.{is_lock_on}
+use Rattle.row_locks.specs.Locks.{Lock, is_lock_on, are_on_one_key}
 use Rattle.row_locks.specs.Numbered.{Numbered, lock_of, is_on, is_number, is_among, number_on, number_at, written, doubtful, is_live_one, changed_at, HasNone, HaveOwnNumbers, AreNumbered}
 use Rattle.row_locks.proofs.NumberLaws.{number_itself, number_flips, own_from_order, insert_last, removed, own_less, own_changed}
 use Rattle.row_locks.proofs.KeyLaws.{none_on}
@@ -157,16 +157,22 @@ some_doubted h n es own there on =
     let one : one_if h.in_doubt ≡ 1 = ap one_if on in
     omega arith
 
--- locks that are written
-pub one_written : (n next doubted : ℕ) (es fs : List Numbered) (ks : List (LockKey × ℕ)) → AreNumbered es ks next doubted → fs ≡ changed_at written (n ∷ []) es → AreNumbered fs ks next doubted
-one_written n next doubted es fs ks are is =
+-- a lock that is changed, on its key, in doubt as before
+pub one_changed : (f : HeldKey → HeldKey) → ((h : HeldKey) (table : List ℕ) (key : Value) → is_lock_on table key (lock_of (f h)) ≡ is_lock_on table key (lock_of h))
+    → ((h : HeldKey) (l : Lock) → are_on_one_key l (lock_of (f h)) ≡ are_on_one_key l (lock_of h)) → ((h : HeldKey) → (f h).in_doubt ≡ h.in_doubt)
+    → (n next doubted : ℕ) (es fs : List Numbered) (ks : List (LockKey × ℕ)) → AreNumbered es ks next doubted → fs ≡ changed_at f (n ∷ []) es → AreNumbered fs ks next doubted
+one_changed f stays alike keeps n next doubted es fs ks are is =
     subst (λ (xs : List Numbered). AreNumbered xs ks next doubted) (sym is)
     (record {
-      apart = record { numbers = own_changed written (n ∷ []) es are.apart.numbers; keys = distinct_changed written (n ∷ []) (λ h t k. refl) (λ h l. refl) es are.apart.keys };
-      below = below_changed written (n ∷ []) (λ h t k. refl) (λ h l. refl) next es are.below;
-      found = λ table key. are.found table key ∙ sym (number_changed written (n ∷ []) (λ h t k. refl) (λ h l. refl) es table key);
-      counted = are.counted ∙ sym (doubts_changed written (n ∷ []) (λ h. refl) es);
+      apart = record { numbers = own_changed f (n ∷ []) es are.apart.numbers; keys = distinct_changed f (n ∷ []) stays alike es are.apart.keys };
+      below = below_changed f (n ∷ []) stays alike next es are.below;
+      found = λ table key. are.found table key ∙ sym (number_changed f (n ∷ []) stays alike es table key);
+      counted = are.counted ∙ sym (doubts_changed f (n ∷ []) keeps es);
     })
+
+-- locks that are written
+pub one_written : (n next doubted : ℕ) (es fs : List Numbered) (ks : List (LockKey × ℕ)) → AreNumbered es ks next doubted → fs ≡ changed_at written (n ∷ []) es → AreNumbered fs ks next doubted
+one_written = one_changed written (λ h t k. refl) (λ h l. refl) (λ h. refl)
 
 live_one : (o : Option HeldKey) → true ≡ is_live_one o → (h : HeldKey) × (o ≡ Some h) × (h.in_doubt ≡ false)
 live_one None h = absurd (true≢false h)

@@ -10,5 +10,6 @@ mod MapLaws
 mod LinkLaws
 mod LastLaws
 mod TakeLaws
+mod BackLaws
 pub mod Held
 pub mod Holders

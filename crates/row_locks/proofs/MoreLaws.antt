@@ -1,5 +1,5 @@
 -- One lock more: the number of the lock on each key, distinct keys, and how many locks are in doubt.
-use Rattle.std.proofs.Common.{◌≡◌, ℕ, ◌+◌, ◌<◌, suc, Bool, true, false, cond, List, [], ◌∷◌, ◌++◌, filter, find, length, None, Some, refl, sym, ap, ◌∙◌, arith}
+use Rattle.std.proofs.Common.{◌≡◌, ℕ, ◌<◌, suc, Bool, true, false, cond, List, [], ◌∷◌, ◌++◌, filter, find, length, None, Some, refl, sym, ap, ◌∙◌, arith}
 use Rattle.std.specs.Cow.{cow_value}
 use Rattle.std.specs.List.{AllByRecursion, IsDistinct}
 use Rattle.std.specs.Map.{lookup}

@@ -9,6 +9,7 @@
 
 mod by_branch;
 mod held_key;
+mod kept_key;
 mod lock_err;
 mod lock_key;
 mod locks;

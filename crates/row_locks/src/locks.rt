@@ -3,6 +3,7 @@ ghost use Rattle.std.specs.Prelude.{◌≡◌, ◌-◌, [], ◌&&◌, take, leng
 ghost use Rattle.std.specs.List.{list_any};
 ghost use Rattle.std.specs.Str.{bytes_eq};
 ghost use Rattle.row_locks.specs.declared.lock_err.LockErr.TheVariants.{NoMemory};
+ghost use Rattle.row_locks.specs.Back.{gone_back, kept_if, with_kept};
 ghost use Rattle.row_locks.specs.Locks.{AreOnDistinctKeys, holder_of, other_holder, named_holder, taken, keys_held, in_doubt_from_now, without_reads, without};
 ghost use Rattle.row_locks.specs.Numbered.{without_numbers, without_read_numbers, doubtful, changed_at};
 
@@ -10,7 +11,8 @@ use crate::LockErr;
 use crate::by_branch::ByBranch;
 use crate::held_key::HeldKey;
 use crate::numbered_locks::NumberedLocks;
-use dtx_values::{Duplicate, Listing, Name, Value};
+use dtx_values::{Change, Duplicate, Listing, Name, Value};
+use savepoints::Note;
 use std::alloc::{AllocError, Global};
 use std::marker::Model;
 use tran_ids::BranchId;
@@ -174,6 +176,25 @@ impl Locks {
         }
     }
 
+    /// A branch goes back to a savepoint, with these notes and changes left to it: it gives back the keys that no remaining
+    /// statement wrote and at which no change is left. A key at which no change is left is only read from now on.
+    pub fn go_back(&mut self, branch: &BranchId, notes: &[Note], changes: &[Change])
+        ensures { self.new ≡ gone_back self.old branch.now notes.now changes.now }
+    {
+        // First each key that stays counts as written, so that the others go as keys that are only read.
+        self.write_if_kept(branch, notes, changes);
+        self.drop_reads(branch);
+        self.write_if_kept(branch, &[], changes);
+    }
+
+    // The keys of a branch count as written where one of these notes has them, or one of these changes is at them.
+    fn write_if_kept(&mut self, branch: &BranchId, notes: &[Note], changes: &[Change])
+        ensures { self.new ≡ with_kept self.old branch.now notes.now changes.now }
+    {
+        let numbers = self.by_branch.numbers(branch);
+        write_all_kept(&mut self.locks, numbers, notes, changes);
+    }
+
     /// Gives back the keys that were taken last, but for the first so many.
     pub fn keep_first(&mut self, many: usize)
         ensures { self.new ≡ take many self.old }
@@ -238,6 +259,15 @@ fn remove_reads(locks: &mut NumberedLocks, numbers: &[u64])
 {
     for number in numbers {
         locks.remove_read(*number);
+    }
+}
+
+// The keys of the locks with these numbers count as written where they stay.
+fn write_all_kept(locks: &mut NumberedLocks, numbers: &[u64], notes: &[Note], changes: &[Change])
+    ensures { locks.new ≡ changed_at (kept_if notes.now changes.now) numbers.now locks.old }
+{
+    for number in numbers {
+        locks.write_if_kept(*number, notes, changes);
     }
 }
 

@@ -5,13 +5,16 @@ ghost use Rattle.std.specs.Map.{lookup};
 ghost use Rattle.std.specs.Option.{option_map};
 ghost use Rattle.std.specs.Str.{bytes_eq};
 ghost use Rattle.dtx_values.specs.declared.value.Value.{Value as AnyValue};
+ghost use Rattle.row_locks.specs.Back.{kept_if};
 ghost use Rattle.row_locks.specs.Locks.{is_lock_on};
 ghost use Rattle.row_locks.specs.Numbered.{lock_of, is_on, is_number, number_at, holder_in, holder_on, is_live_one, is_read_one, without_numbers, without_read_numbers, written, doubtful, changed_at, AreApart};
 
 use crate::held_key::{HeldKey, Holder};
+use crate::kept_key::write_if;
 use crate::lock_key::{LockKey, owned_key};
-use dtx_values::{Duplicate, Listing, Name, Value};
+use dtx_values::{Change, Duplicate, Listing, Name, Value};
 use indexmap::IndexMap;
+use savepoints::Note;
 use std::alloc::{AllocError, Global};
 use std::borrow::Cow;
 use std::collections::BTreeMap;
@@ -176,6 +179,13 @@ impl NumberedLocks {
         write(&mut self.locks, number);
     }
 
+    /// The key of the lock with a number counts as written where one of these notes has it, or one of these changes is at it.
+    pub(crate) fn write_if_kept(&mut self, number: u64, notes: &[Note], changes: &[Change])
+        ensures { self.new ≡ changed_at (kept_if notes.now changes.now) (number ∷ []) self.old }
+    {
+        write_kept(&mut self.locks, number, notes, changes);
+    }
+
     /// The lock with a number is in doubt from now on.
     pub(crate) fn mark_in_doubt(&mut self, number: u64)
         ensures { self.new ≡ changed_at doubtful (number ∷ []) self.old }
@@ -243,6 +253,15 @@ fn write(locks: &mut BTreeMap<u64, HeldKey>, number: u64)
 {
     if let Some(lock) = locks.get_mut(&number) {
         lock.writes = true;
+    }
+}
+
+// The key of a lock counts as written where it stays.
+fn write_kept(locks: &mut BTreeMap<u64, HeldKey>, number: u64, notes: &[Note], changes: &[Change])
+    ensures { locks.new.entries ≡ changed_at (kept_if notes.now changes.now) (number ∷ []) locks.old.entries }
+{
+    if let Some(lock) = locks.get_mut(&number) {
+        write_if(lock, notes, changes);
     }
 }
 

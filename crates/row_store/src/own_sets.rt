@@ -85,6 +85,13 @@ impl OwnSets {
         self.made.last_at(table, key)
     }
 
+    /// All changes, where they stand.
+    pub(crate) fn as_slice(&self) -> &[Change]
+        ensures { result.now ≡ self.now.changes }
+    {
+        self.made.as_slice()
+    }
+
     /// A copy of all changes.
     pub(crate) fn changes(&self, alloc: Global) -> Result<Changes, AllocError>
         ensures { IfOk result (λ changes. changes ≡ self.now.changes) }

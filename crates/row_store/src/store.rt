@@ -148,6 +148,16 @@ impl Store {
         }
     }
 
+    /// What a branch has changed.
+    pub fn changes(&self, branch: &BranchId) -> &[Change]
+        ensures { result.now ≡ own_changes self.now branch.now }
+    {
+        match self.pending.sets(branch) {
+            Some(sets) => sets.as_slice(),
+            None => &[],
+        }
+    }
+
     /// A copy of what a branch has changed, of tables that are there.
     pub fn own(&self, alloc: Global, branch: &BranchId) -> Result<Changes, AllocError>
         ensures changes { IfOk result (λ changes. changes ≡ own_changes self.now branch.now) }

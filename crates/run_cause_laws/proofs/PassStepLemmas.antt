@@ -1,6 +1,6 @@
 -- A step sends an Exec where a statement goes on over a link that is open, or where the child that it waits for is opened. No other step
 -- sends one, and a branch waits for a child after it only where it did before, unless its statement goes through a new link.
-use Rattle.std.proofs.Common.{◌≡◌, ◌⊎◌, if◌then◌else◌, ℕ, ◌+◌, ◌-◌, not, Bool, true, false, List, map, length, Option, Some, None, inl, inr, refl, sym, ap, subst, ◌∙◌}
+use Rattle.std.proofs.Common.{◌≡◌, ◌⊎◌, if◌then◌else◌, ℕ, ◌+◌, not, Bool, true, false, List, map, length, Option, Some, None, inl, inr, refl, sym, ap, subst, ◌∙◌}
 use Rattle.std.proofs.lemmas.Bool.{cond_both}
 use Rattle.tran_ids.proofs.BranchLemmas.{equal_from_same}
 use Rattle.tran_ids.proofs.ListedLemmas.{put_or_before, drop_gone, drop_leaves}
@@ -27,7 +27,7 @@ use Rattle.node_rules.specs.Calls.{branch_ran, less_room, reply_edge, reply_goin
 use Rattle.node_rules.specs.Client.{begun_by, counted, marked}
 use Rattle.node_rules.specs.Names.{Over, Through, way_of, passed_on}
 use Rattle.node_rules.specs.Sessions.{session_at}
-use Rattle.node_rules.specs.Statement.{ran, after_run}
+use Rattle.node_rules.specs.Statement.{ran}
 use Rattle.node_rules.specs.Prepare.{path_of, site_neighbors, act_turn}
 use Rattle.node_rules.specs.Commit.{beyond, is_neighbor}
 use Rattle.node_rules.specs.Recovery.{told_by, told_kind}
@@ -35,7 +35,7 @@ use Rattle.node_rules.proofs.Steps as steps
 use Rattle.node_rules.proofs.LiveLemmas.{branch_parts, work_is}
 use Rattle.node_rules.proofs.StandLemmas.{live_so}
 use Rattle.node_rules.specs.Data.dones
-use Rattle.node_rules.specs.Marks.{branch_back, node_back}
+use Rattle.node_rules.specs.Marks.{branch_back}
 use Rattle.node_rules.specs.declared.work.Errand.TheVariants as errands
 use Rattle.node_rules.proofs.Steps.{Step, Says, Asked, BeginsBy, IsCounted, Goes_to, Calls_back, Collects, IsOfRows, Is_opened}
 use Rattle.run_rules.specs.Trail.{is_exec}

@@ -1,7 +1,7 @@
 -- What the answers of runs say: a query's rows are its meaning over the rows that the book's committed transactions leave
--- at its node, with the asker's own changes; and no key that it examines is in doubt; a change counts the rows that it means.
--- (SQL Language Reference.)
-use Rattle.std.specs.Prelude.{◌≡◌, ℕ, List, slice_get, None, Some, true}
+-- at its node, those up to its SCN where its transaction is READ ONLY, with the asker's own changes; and no key that it examines
+-- is in doubt; a change counts the rows that it means. (SQL Language Reference.)
+use Rattle.std.specs.Prelude.{◌≡◌, ℕ, List, slice_get, Some, true}
 use Rattle.std.specs.List.{list_any}
 use Rattle.node_rules.specs.Data.{Value, Change, RowSet, Answer, Place}
 use Rattle.node_rules.specs.Data.answers
@@ -35,10 +35,9 @@ AnswerIsMeant f tr r (answers.Found rows) = QueryIsMeant f tr r rows
 AnswerIsMeant f tr r (answers.Did d n) = (cs : List Change) × (meaning f.book (read_at_at tr r.branch) (own_at tr r.branch) r ≡ Changes d n cs)
 AnswerIsMeant f tr r (answers.Refused why) = Unit {0}
 
--- the answer of a run in a turn, but for those of READ ONLY transactions
+-- the answer of a run in a turn
 abbrev pub RunIsMeant : List Place → Facts → Trail → Happening → Type 0
-RunIsMeant places f tr (happenings.Turn u) = (r : Run) (a : Answer) → run_in f (with_begun f tr u) u ≡ Some r → answered_by (outcome_at places f u) ≡ Some a
-    → read_at_at tr r.branch ≡ None → AnswerIsMeant f tr r a
+RunIsMeant places f tr (happenings.Turn u) = (r : Run) (a : Answer) → run_in f (with_begun f tr u) u ≡ Some r → answered_by (outcome_at places f u) ≡ Some a → AnswerIsMeant f tr r a
 RunIsMeant places f tr _ = Unit {0}
 
 -- each answer of a run of a statement is meant

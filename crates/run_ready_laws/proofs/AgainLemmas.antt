@@ -1,5 +1,6 @@
 -- Messages of a turn that changes nothing leave it so: a gone branch tells of one branch, and the last Reply once more tells the same.
 use Rattle.std.proofs.Common.{◌≡◌, ℕ, ◌+◌, ◌≤◌, Bool, true, false, List, ◌++◌, Option, Some, None, inl, inr, refl, sym, ap, subst, ◌∙◌, arith}
+use Rattle.dtx_values.specs.Limits.{branch_limit}
 use Rattle.tran_ids.proofs.BranchLemmas.{equal_from_same}
 use Rattle.tran_ids.proofs.ListedLemmas.{item_is}
 use Rattle.session_tree.specs.Tree.{count}
@@ -94,7 +95,7 @@ module _ (E : BranchId → Option ℕ) (A : BranchId → Option BranchId) (G Her
           let one : 1 ≤ 1 + counts x.live.edges = omega arith in (
             (
               subst (λ n. 1 ≤ n) (sym is_count) one,
-              subst (λ n. n ≤ 64) (sym is_count) (fewer (count x.live) (spare x.live.parent (count x.live) x.work.going) 64 was.1.few),
+              subst (λ n. n ≤ branch_limit) (sym is_count) (fewer (count x.live) (spare x.live.parent (count x.live) x.work.going) branch_limit was.1.few),
               (it.0, it.1, (λ v base. subst (λ n. n ≤ v + it.0) (sym is_count) (fewer (count x.live) (spare x.live.parent (count x.live) x.work.going) (v + it.0) (it.2 v base)))),
             ),
             tt,

@@ -2,6 +2,7 @@
 use Rattle.std.proofs.Common.{◌≡◌, ◌≢◌, ℕ, zero, suc, ◌+◌, ◌-◌, ◌≤◌, ◌⊎◌, if◌then◌else◌, List, [], ◌∷◌, ◌++◌, map, is_none, Option, Some, None, inl, inr, refl, sym, ap, subst, arith}
 use Rattle.std.specs.Prelude.{sum_by}
 use Rattle.std.proofs.lemmas.List.Sums.{sum_by-cons, sum_by_push}
+use Rattle.dtx_values.specs.Limits.{branch_limit}
 use Rattle.link_session.specs.declared.calls.Calls.{Calls}
 use Rattle.node_rules.specs.Data.{BranchId, Edge, Marks, Post, ReplyFields}
 use Rattle.node_rules.specs.declared.work.Errand.{Errand}
@@ -70,7 +71,7 @@ last_counts es e = sum_by_push (λ (z : Edge). z.count) es e
 
 -- the room of a root is what its tree may still get, that of another branch what it was given
 abbrev pub room_by : Option BranchId → ℕ → ℕ → ℕ
-room_by parent n given = if is_none parent then 64 - n else given
+room_by parent n given = if is_none parent then branch_limit - n else given
 
 -- and for what is under way: a branch that goes back opens no child
 abbrev pub room_left : Option BranchId → ℕ → Errand → ℕ
@@ -82,7 +83,7 @@ abbrev pub spare : Option BranchId → ℕ → Option Going → ℕ
 spare parent n None = 0
 spare parent n (Some g) = room_left parent n g.errand
 
-pub root_few : (parent : Option BranchId) (n given : ℕ) → parent ≡ None → n ≤ 64 → n + room_by parent n given ≤ 64
+pub root_few : (parent : Option BranchId) (n given : ℕ) → parent ≡ None → n ≤ branch_limit → n + room_by parent n given ≤ branch_limit
 root_few None n given none few = omega (arith, few)
 root_few (Some q) n given none few = absurd cc
 
@@ -122,7 +123,7 @@ pub record ParentFits (said : List Post) (goes_on : Type 0) (me : BranchId) (n s
   pub held : goes_on → (i : ℕ) (e : Edge) → numbered edges i ≡ Some e → WaitsFor i w.going ⊎ Told said e.peer me (call_at w i) e.count
   pub waits : (i : ℕ) (e : Edge) → numbered edges i ≡ Some e → WaitsFor i w.going → Awaits said me e.peer (call_at w i) e.count sp
   pub called : (i : ℕ) (e : Edge) → numbered edges i ≡ Some e → 1 ≤ call_at w i
-  pub few : n + sp ≤ 64
+  pub few : n + sp ≤ branch_limit
   pub opens : (g : Going) (link : List ℕ) → w.going ≡ Some g → g.waits ≡ waiting.ForOpened link → 1 ≤ sp
 
 -- before a call there is one branch at least
@@ -198,7 +199,7 @@ pub record Under (said : List Post) (me : BranchId) (parent : Option BranchId) (
   pub unanswered : came.reply ≡ None
   pub owes : parent ≢ None → newest_reply said me + 1 ≤ came.last_call
   pub given : (q : BranchId) → parent ≡ Some q → (x : ℕ) × Gave said q me came.last_call x × ((v : ℕ) → Base said me q came.last_call v → n + r ≤ v + x)
-  pub few : n + r ≤ 64
+  pub few : n + r ≤ branch_limit
 
 -- one that waits
 pub waits_child : (said says : List Post) (me : BranchId) (parent : Option BranchId) (n r : ℕ) (came : Calls) (g : Going) → newest_reply says me ≡ 0 → Under said me parent n r came → ChildFits (said ++ says) me parent n r came (Some g)
@@ -243,7 +244,7 @@ abbrev pub Called : List Edge → Work → Type 0
 Called es w = (i : ℕ) (e : Edge) → numbered es i ≡ Some e → 1 ≤ call_at w i
 
 -- one that waits for nothing
-pub free_parent : (said says : List Post) (G : Type 0) (me : BranchId) (n r : ℕ) (es : List Edge) (w : Work) → n + r ≤ 64 → Knows said G me es w → Called es w → w.going ≡ None → ParentFits (said ++ says) G me n 0 es w
+pub free_parent : (said says : List Post) (G : Type 0) (me : BranchId) (n r : ℕ) (es : List Edge) (w : Work) → n + r ≤ branch_limit → Knows said G me es w → Called es w → w.going ≡ None → ParentFits (said ++ says) G me n 0 es w
 free_parent said says G me n r es w few knows called free = record {
   held = λ goes i e at. inr (sent_more (TellsCount (call_at w i) e.count) said says e.peer me (knows goes i e at));
   waits = λ i e at waits. absurd (no_wait i w.going free waits);
@@ -257,7 +258,7 @@ free_parent said says G me n r es w few knows called free = record {
     no_wait i (Some g) is waits = absurd cc
 
 -- one that waits for a child to be opened
-pub opens_parent : (said says : List Post) (G : Type 0) (me : BranchId) (n r : ℕ) (es : List Edge) (w : Work) (g : Going) (link : List ℕ) → w.going ≡ Some g → g.waits ≡ waiting.ForOpened link → 1 ≤ r → n + r ≤ 64
+pub opens_parent : (said says : List Post) (G : Type 0) (me : BranchId) (n r : ℕ) (es : List Edge) (w : Work) (g : Going) (link : List ℕ) → w.going ≡ Some g → g.waits ≡ waiting.ForOpened link → 1 ≤ r → n + r ≤ branch_limit
     → Knows said G me es w → Called es w → ParentFits (said ++ says) G me n r es w
 opens_parent said says G me n r es w g link going waits some few knows called = record {
   held = λ goes i e at. inr (sent_more (TellsCount (call_at w i) e.count) said says e.peer me (knows goes i e at));

@@ -2,6 +2,7 @@
 use Rattle.std.proofs.Common.{◌≡◌, ◌≢◌, ℕ, ◌≤◌, Bool, true, false, List, [], ◌∷◌, ◌++◌, map, Option, Some, None, inl, inr, refl, sym, ap, subst, ◌∙◌, arith, append-nil}
 use Rattle.std.specs.Prelude.{IfSome}
 use Rattle.std.specs.List.{AllByRecursion}
+use Rattle.dtx_values.specs.Limits.{branch_limit}
 use Rattle.tran_ids.proofs.ListedLemmas.{item_is}
 use Rattle.tran_ids.proofs.NumberedLemmas.{set_or_before}
 use Rattle.session_tree.specs.Tree.{count}
@@ -84,7 +85,7 @@ tree_sent said clock [] all = tt
 tree_sent said clock (m ∷ ms) all = (tree_kind said m.from m.to m.kind all.0, tree_sent said clock ms all.1)
 
 pub few_kind : (kind : Kind) → TellsOfTree kind → TellsFew kind
-few_kind (kinds.Reply call weight count a) low = (let few : count ≤ 64 = low in let it : count ≤ 256 = omega (arith, few) in it)
+few_kind (kinds.Reply call weight count a) low = (let few : count ≤ branch_limit = low in let it : count ≤ 256 = omega (arith, few) in it)
 few_kind _ low = tt
 
 few_happen : (places : List Place) (f : Facts) (h : Happening) → RepliesTellOfTree places f h → RepliesTellFew places f h

@@ -2,6 +2,7 @@
 -- its Replies tell of no more.
 use Rattle.std.proofs.Common.{◌≡◌, ◌≢◌, ℕ, zero, suc, ◌+◌, ◌≤◌, Bool, false, List, [], ◌∷◌, ◌++◌, map, length, is_none, option_map, unwrap_or, Option, Some, None, inl, inr, refl, sym, ap, subst, ◌∙◌, arith}
 use Rattle.std.proofs.lemmas.Bool.{cond_both}
+use Rattle.dtx_values.specs.Limits.{branch_limit}
 use Rattle.tran_ids.proofs.ListedLemmas.{item_is}
 use Rattle.tran_ids.proofs.NumberedLemmas.{set_found, set_leaves}
 use Rattle.session_tree.specs.Live.{children_of, peer_of, fresh_live}
@@ -123,7 +124,7 @@ rolled l = each_says IsQuiet l.me kinds.Rollback (children_of l) ((refl, refl), 
 
 -- What is known of the message that came.
 pub record CameFits (input : Input) (said : List Post) : Type 0 where
-  pub exec : (from to : BranchId) (call : ℕ) (task : Task) → Came input from to (kinds.Exec call task) → Gave said from to call (room_of task) × ((v : ℕ) × Base said to from call v × (v + room_of task ≤ 64))
+  pub exec : (from to : BranchId) (call : ℕ) (task : Task) → Came input from to (kinds.Exec call task) → Gave said from to call (room_of task) × ((v : ℕ) × Base said to from call v × (v + room_of task ≤ branch_limit))
   pub reply : (from to : BranchId) (call : ℕ) (weight : Option ℕ) (count : ℕ) (a : Answer) → Came input from to (kinds.Reply call weight count a) → Told said from to call count
 
 module _ (E : BranchId → Option ℕ) (A : BranchId → Option BranchId) (G Here : BranchId → Type 0) (input : Input) (said : List Post) (received : turns.Received E A G Here input said) (all : AllFit said said) (came_fits : CameFits input said) where
@@ -166,7 +167,7 @@ module _ (E : BranchId → Option ℕ) (A : BranchId → Option BranchId) (G Her
       held = λ goes i e at. absurd (none_here i e at);
       waits = λ i e at. absurd (none_here i e at);
       called = λ i e at. absurd (none_here i e at);
-      few = (let it : 1 + 0 ≤ 64 = omega arith in it);
+      few = (let it : 1 + 0 ≤ branch_limit = omega arith in it);
       opens = λ g link is. absurd cc;
     },
   )
@@ -225,7 +226,7 @@ module _ (E : BranchId → Option ℕ) (A : BranchId → Option BranchId) (G Her
     answer_new x a r (Some parent) under =
         let it = under.given parent refl in
         let one : 1 ≤ 1 + counts x.live.edges = omega arith in
-        ((one, fewer (count x.live) r 64 under.few, (it.0, it.1, (λ v base. fewer (count x.live) r (v + it.0) (it.2 v base)))), tt)
+        ((one, fewer (count x.live) r branch_limit under.few, (it.0, it.1, (λ v base. fewer (count x.live) r (v + it.0) (it.2 v base)))), tt)
 
     pub answers_fit : (x : Branch) (a : Answer) (r : ℕ) → x.work.branch ≡ x.live.me → Under said x.live.me x.live.parent (count x.live) r x.work.came → Knows said (Goes x.live) x.live.me x.live.edges x.work → Called x.live.edges x.work
         → EachLive (Then (answer_says x a x.live.parent)) (put_item live_id k.lives x.live) (put_item work_id k.works (with_answer x a).work) × AllNew said (answer_says x a x.live.parent)
@@ -293,7 +294,7 @@ module _ (E : BranchId → Option ℕ) (A : BranchId → Option BranchId) (G Her
       calls_by (Some e) at =
           let known : Base said e.peer x.live.me (next_call x.work i) e.count = base e at in
           calls_so (exec_to ss x i errand (Some e.peer)) (exec_mute ss x i errand (Some e.peer) x.live.me) (exec_silent ss x i errand (Some e.peer))
-          ((e.count, known, subst (λ n. e.count + n ≤ 64) (sym (task_room ss x i errand)) (edge_few e.count (counts x.live.edges) r 64 (edge_counts x.live.edges i e at) under.few)), tt)
+          ((e.count, known, subst (λ n. e.count + n ≤ branch_limit) (sym (task_room ss x i errand)) (edge_few e.count (counts x.live.edges) r branch_limit (edge_counts x.live.edges i e at) under.few)), tt)
           (λ y there. (let it : Some e ≡ Some y = sym at ∙ there in let here : e ≡ y = cc in
           subst (λ z. Awaits (said ++ exec_to ss x i errand (Some e.peer)) x.live.me z.peer (call_at u i) z.count r) here
           (subst (λ n. Awaits (said ++ exec_to ss x i errand (Some e.peer)) x.live.me e.peer n e.count r) (sym (one_more e at))

@@ -1,5 +1,6 @@
 -- Each step of a node, case by case: its live branches have no more branches below them than their parents knew and gave room for.
 use Rattle.std.proofs.Common.{◌≡◌, ◌≢◌, ℕ, suc, ◌+◌, ◌<◌, ◌≤◌, List, [], ◌∷◌, ◌++◌, map, length, option_map, unwrap_or, Option, Some, None, inl, inr, refl, sym, ap, subst, ◌∙◌, arith}
+use Rattle.dtx_values.specs.Limits.{branch_limit}
 use Rattle.tran_ids.proofs.ListedLemmas.{put_found}
 use Rattle.tran_ids.proofs.NumberedLemmas.{set_found, set_leaves}
 use Rattle.link_session.specs.Calls.{taken}
@@ -113,7 +114,7 @@ module _ (E : BranchId → Option ℕ) (A : BranchId → Option BranchId) (G Her
 
       -- a root whose session calls
       called_fits : (n : ℕ) (x : Branch) (s : Stmt) (r : ℕ) → IsCall input n s → (session_at k.sessions n).root ≡ Some x.live.me → branch_at k x.live.me ≡ Some x
-          → (x.live.parent ≡ None → count x.live ≤ 64 → count x.live + r ≤ 64) → CallFits x r
+          → (x.live.parent ≡ None → count x.live ≤ branch_limit → count x.live + r ≤ branch_limit) → CallFits x r
       called_fits n x s r call has live few =
           let was : Begun x.live x.work = branch_begun x live in
           let fit : Old x.live x.work = found_old x live in
@@ -123,7 +124,7 @@ module _ (E : BranchId → Option ℕ) (A : BranchId → Option BranchId) (G Her
               unanswered = was.turn.alone none;
               owes = λ below. absurd (below none);
               given = λ q above. absurd (cc (none, above));
-              few = few none (fewer (count x.live) (spare x.live.parent (count x.live) x.work.going) 64 fit.1.few);
+              few = few none (fewer (count x.live) (spare x.live.parent (count x.live) x.work.going) branch_limit fit.1.few);
             },
             knows_free x live free,
             fit.1.called,
@@ -155,7 +156,7 @@ module _ (E : BranchId → Option ℕ) (A : BranchId → Option BranchId) (G Her
               given = λ q above. (let same_parent : Some from ≡ Some q = sym parent ∙ above in let here : from ≡ q = cc in
                   subst (λ z. (g : ℕ) × Gave said z x.live.me call g × ((v : ℕ) → Base said x.live.me z call v → count x.live + r ≤ v + g)) here
                   (room_of task, it.0, (λ v base. same_room (count x.live) v (room_of task) r (v + room_of task) (known v base) room_is (omega arith))));
-              few = same_room (count x.live) it.1.0 (room_of task) r 64 (known it.1.0 it.1.1) room_is it.1.2;
+              few = same_room (count x.live) it.1.0 (room_of task) r branch_limit (known it.1.0 it.1.1) room_is it.1.2;
             },
             knows_free x live free,
             fit.1.called,
@@ -229,7 +230,7 @@ module _ (E : BranchId → Option ℕ) (A : BranchId → Option BranchId) (G Her
           given = λ q above. (let called_once : newest_reply said x.live.me + 1 ≤ x.work.came.last_call = opened_owes (λ none. absurd (cc (above, none))) in
               let it = opened_fit.0.given q above (omega (arith, called_once)) in
               (it.0, it.1, (λ v base. opened_fewer (v + it.0) (it.2 v base))));
-          few = opened_fewer 64 opened_fit.1.few;
+          few = opened_fewer branch_limit opened_fit.1.few;
         }
 
         none_yet : call_at opened_branch.work opened_at ≡ 0
@@ -308,7 +309,7 @@ module _ (E : BranchId → Option ℕ) (A : BranchId → Option BranchId) (G Her
               given = λ q above. (let called_once : newest_reply said x.live.me + 1 ≤ x.work.came.last_call = owes (λ none. absurd (cc (above, none))) in
                   let it = heard_fit.0.given q above (omega (arith, called_once)) in
                   (it.0, it.1, (λ v base. heard_fewer (v + it.0) (it.2 v base))));
-              few = heard_fewer 64 heard_fit.1.few;
+              few = heard_fewer branch_limit heard_fit.1.few;
             }
 
         heard_knows : Knows said (Goes x.live) x.live.me heard_branch.live.edges x.work
@@ -347,7 +348,7 @@ module _ (E : BranchId → Option ℕ) (A : BranchId → Option BranchId) (G Her
               held = λ goes. absurd (refused (goes none));
               waits = λ i e at for. absurd for;
               called = fit.1.called;
-              few = no_more (count x.live) (spare x.live.parent (count x.live) x.work.going) 64 fit.1.few;
+              few = no_more (count x.live) (spare x.live.parent (count x.live) x.work.going) branch_limit fit.1.few;
               opens = λ g link is. absurd cc;
             },
           )

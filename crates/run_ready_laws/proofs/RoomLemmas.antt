@@ -2,7 +2,7 @@
 use Rattle.std.proofs.Common.{◌≡◌, ◌≢◌, ℕ, ◌+◌, ◌≤◌, ◌==◌, ◌||◌, Bool, true, false, if◌then◌else◌, List, [], ◌++◌, length, Option, Some, None, inl, inr, refl, sym, ap, subst, ◌∙◌, arith}
 use Rattle.std.specs.Prelude.{nat_le}
 use Rattle.std.proofs.lemmas.Bool.Decides.{nat_tests}
-use Rattle.dtx_values.specs.Limits.{depth_limit}
+use Rattle.dtx_values.specs.Limits.{branch_limit, depth_limit}
 use Rattle.session_tree.specs.Live.{edge_by_link}
 use Rattle.session_tree.specs.Tree.{room}
 use Rattle.node_rules.specs.Data.{Stmt, Refusal, Task, BranchId, Edge, Live, Place, Durable, Post}
@@ -72,7 +72,7 @@ new_awaits said all me c call v task next base = record {
     no_reply x (inr never) = never
 
 -- a branch that calls over an edge
-pub calls_parent : (said says : List Post) (G : Type 0) (me : BranchId) (n r : ℕ) (es : List Edge) (w u : Work) (i : ℕ) (g : Going) → u.going ≡ Some g → g.waits ≡ waiting.ForReply i → n + r ≤ 64
+pub calls_parent : (said says : List Post) (G : Type 0) (me : BranchId) (n r : ℕ) (es : List Edge) (w u : Work) (i : ℕ) (g : Going) → u.going ≡ Some g → g.waits ≡ waiting.ForReply i → n + r ≤ branch_limit
     → ((e : Edge) → numbered es i ≡ Some e → Awaits (said ++ says) me e.peer (call_at u i) e.count r) → ((e : Edge) → numbered es i ≡ Some e → 1 ≤ call_at u i) → ((j : ℕ) → i ≢ j → call_at u j ≡ call_at w j)
     → (G → (j : ℕ) (e : Edge) → i ≢ j → numbered es j ≡ Some e → Told said e.peer me (call_at w j) e.count) → ((j : ℕ) (e : Edge) → i ≢ j → numbered es j ≡ Some e → 1 ≤ call_at w j)
     → ParentFits (said ++ says) G me n r es u

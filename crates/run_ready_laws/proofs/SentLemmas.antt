@@ -1,6 +1,7 @@
 -- Which calls and Replies were sent: their numbers, the room that a call gave and the branches that a Reply told of.
 use Rattle.std.proofs.Common.{◌≡◌, ℕ, ◌+◌, ◌≤◌, ◌&&◌, ◌⊎◌, Bool, true, false, if◌then◌else◌, List, [], ◌∷◌, ◌++◌, max, inl, inr, ap, subst, ◌∙◌, arith}
 use Rattle.std.specs.List.{AllByRecursion}
+use Rattle.dtx_values.specs.Limits.{branch_limit}
 use Rattle.tran_ids.proofs.BranchLemmas.{same_from_equal}
 use Rattle.node_rules.specs.Data.{BranchId, Kind, Task, Post}
 use Rattle.node_rules.specs.Data.kinds
@@ -106,8 +107,8 @@ module _ (said says : List Post) where
 -- A call has room for no more branches than a tree may have beside those that are known. A Reply tells of one branch at least, and of no more than
 -- a tree may have, and answers a call.
 abbrev pub FitsSo : List Post → BranchId → BranchId → Kind → Type 0
-FitsSo said from to (kinds.Exec call task) = (v : ℕ) × Base said to from call v × (v + room_of task ≤ 64)
-FitsSo said from to (kinds.Reply call weight count a) = (1 ≤ count) × (count ≤ 64) × ((r : ℕ) × Gave said to from call r)
+FitsSo said from to (kinds.Exec call task) = (v : ℕ) × Base said to from call v × (v + room_of task ≤ branch_limit)
+FitsSo said from to (kinds.Reply call weight count a) = (1 ≤ count) × (count ≤ branch_limit) × ((r : ℕ) × Gave said to from call r)
 FitsSo said from to _ = Unit {0}
 
 -- of a message
@@ -119,8 +120,8 @@ AllFit said ms = AllByRecursion (PostFits said) ms
 
 -- And a new Reply tells of no more than were known before its call and that had room for.
 abbrev pub NewSo : List Post → BranchId → BranchId → Kind → Type 0
-NewSo said from to (kinds.Exec call task) = (v : ℕ) × Base said to from call v × (v + room_of task ≤ 64)
-NewSo said from to (kinds.Reply call weight count a) = (1 ≤ count) × (count ≤ 64) × ((r : ℕ) × Gave said to from call r × ((v : ℕ) → Base said from to call v → count ≤ v + r))
+NewSo said from to (kinds.Exec call task) = (v : ℕ) × Base said to from call v × (v + room_of task ≤ branch_limit)
+NewSo said from to (kinds.Reply call weight count a) = (1 ≤ count) × (count ≤ branch_limit) × ((r : ℕ) × Gave said to from call r × ((v : ℕ) → Base said from to call v → count ≤ v + r))
 NewSo said from to _ = Unit {0}
 
 abbrev pub AllNew : List Post → List Post → Type 0

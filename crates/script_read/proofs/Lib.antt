@@ -1,5 +1,6 @@
 mod PieceLemmas
 mod CleanLemmas
+mod LineLemmas
 mod HexLemmas
 mod FormLaws
 mod SpellLaws

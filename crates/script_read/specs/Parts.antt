@@ -28,6 +28,12 @@ part_behind Plain b bs = if is_quote b then Quoted else (if begins_comment (b �
 part_behind Quoted b bs = if is_quote b then Plain else Quoted
 part_behind Comment b bs = if is_line_feed b then Plain else Comment
 
+-- a byte that may end a command that goes on in this part, or the part
+abbrev pub may_end : Part → ℕ → Bool
+may_end Plain b = is_quote b || b == 45 || is_semicolon b
+may_end Quoted b = is_quote b
+may_end Comment b = is_line_feed b
+
 -- outside quotes and comments
 abbrev pub is_plain : Part → Bool
 is_plain Plain = true

@@ -61,6 +61,8 @@ kind_of w = meaning w
     ∷ (codes "FORGOTTEN", kinds.Forgotten)
     ∷ (codes "ROLLBACK", kinds.Rollback)
     ∷ (codes "ASK", kinds.Ask)
+    ∷ (codes "BACK", kinds.Back)
+    ∷ (codes "OPENAT", kinds.OpenAt)
     ∷ [])
 
 -- the greatest number of a message, of a write or of a call: 2 ^ 32 - 1

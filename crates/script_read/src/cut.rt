@@ -1,14 +1,16 @@
 //! How a script is cut into commands: where each ends, what it says outside its comments, and on which line it begins.
-ghost use Rattle.std.specs.Prelude.{◌≡◌, ◌+◌, ◌-◌, ◌<◌, ◌≤◌, ◌^◌, ◌&&◌, [], ◌∷◌, length, drop, take_while, IfNone, IfSome, IfOk};
+ghost use Rattle.std.specs.Prelude.{◌≡◌, ◌+◌, ◌-◌, ◌<◌, ◌≤◌, ◌^◌, ◌&&◌, not, [], ◌∷◌, length, drop, take_while, IfNone, IfSome, IfOk};
 ghost use Rattle.std.specs.List.{list_all, prefix_len};
 ghost use Rattle.std.specs.Str.{is_utf8};
 ghost use Rattle.std.specs.Str.Lossy.{utf8_valid_len};
+ghost use Rattle.memchr.specs.Find.{IsFirstByte};
 ghost use Rattle.token_grammar.specs.Bytes.{is_blank as blank};
 ghost use Rattle.script_read.specs.declared.part.Part.TheVariants.{Plain, Comment};
 ghost use Rattle.script_read.specs.Parts as spec;
 ghost use Rattle.script_read.specs.Parts.{pieces_of};
 
 use crate::part::Part;
+use memchr::{memchr, memchr_iter, memchr3};
 use std::alloc::{AllocError, Global};
 use token_grammar::is_blank;
 
@@ -52,20 +54,33 @@ fn behind(bytes: &[u8], place: usize) -> &[u8]
     &bytes[place + 1..]
 }
 
+/// Where the first byte stands that may end the command or the part that these bytes go on in.
+fn next_end(part: Part, bytes: &[u8]) -> Option<usize>
+    ensures { IsFirstByte (spec.may_end part) bytes.now result }
+{
+    match part {
+        Part::Plain => memchr3(b'\'', b'-', b';', bytes),
+        Part::Quoted => memchr(b'\'', bytes),
+        Part::Comment => memchr(b'\n', bytes),
+    }
+}
+
 /// The bytes of the first command up to its `;`, and what stands after that; nothing where no command ends.
-#[tactic(auto, using(crate::proofs::PieceLemmas::step_on, crate::proofs::PieceLemmas::step_off))]
 pub(crate) fn cut(bytes: &[u8]) -> Option<(&[u8], &[u8])>
     ensures whole { IfNone result (pieces_of bytes.now ≡ ([], bytes.now)) }
     ensures cut { IfSome result (λ x. pieces_of bytes.now ≡ (x.0.now ∷ (pieces_of x.1.now).0, (pieces_of x.1.now).1)) }
     ensures lengths { IfSome result (λ x. length x.0.now + 1 + length x.1.now ≡ length bytes.now) }
 {
     let mut part = Part::Plain;
-    for (place, byte) in bytes.iter().enumerate() {
-        let after = behind(bytes, place);
-        if ends_command(part, *byte) {
-            return Some((&bytes[..place], after));
+    let mut place = 0;
+    while let Some(further) = next_end(part, &bytes[place..]) {
+        let end = place + further;
+        let after = behind(bytes, end);
+        if ends_command(part, bytes[end]) {
+            return Some((&bytes[..end], after));
         }
-        part = part_behind(part, *byte, after);
+        part = part_behind(part, bytes[end], after);
+        place = end + 1;
     }
     None
 }
@@ -76,6 +91,10 @@ pub(crate) fn said(alloc: Global, piece: &[u8]) -> Result<Vec<u8>, AllocError>
     ensures no_longer { IfOk result (λ kept. length kept.items ≤ length piece.now) }
 {
     let mut kept = Vec::with_capacity(alloc, piece.len())?;
+    if memchr(b'-', piece).is_none() {
+        kept.extend_from_slice(piece)?;
+        return Ok(kept);
+    }
     let mut rest = piece;
     let mut part = Part::Plain;
     while let [byte, after @ ..] = rest {
@@ -100,9 +119,26 @@ fn may_stand(part: Part, byte: u8) -> bool
     !is_control(byte) || (is_blank(byte) && !is_quoted(part))
 }
 
+/// How many blanks stand at the front.
+fn blank_len(bytes: &[u8]) -> usize
+    ensures value { result ≡ prefix_len blank bytes.now }
+    ensures bound { result ≤ length bytes.now }
+{
+    bytes.iter().take_while(|byte| is_blank(**byte)).count()
+}
+
+fn has_no_control(bytes: &[u8]) -> bool
+    ensures { result ≡ list_all (λ b. not (spec.is_control b)) bytes.now }
+{
+    bytes.iter().all(|byte| !is_control(*byte))
+}
+
 fn all_may_stand(piece: &[u8]) -> bool
     ensures { result ≡ spec.all_may_stand Plain piece.now }
 {
+    if has_no_control(&piece[blank_len(piece)..]) {
+        return true;
+    }
     let mut rest = piece;
     let mut part = Part::Plain;
     while let [byte, after @ ..] = rest {
@@ -136,19 +172,12 @@ pub(crate) fn is_blank_text(said: &[u8]) -> bool
 }
 
 /// How many lines end in these bytes.
+#[tactic(auto, using(crate::proofs::LineLemmas::count_places))]
 pub(crate) fn line_ends(bytes: &[u8]) -> usize
     ensures value { result ≡ spec.line_ends bytes.now }
     ensures bound { result ≤ length bytes.now }
 {
-    bytes.iter().filter(|byte| **byte == b'\n').count()
-}
-
-/// How many blanks stand at the front.
-fn blank_len(bytes: &[u8]) -> usize
-    ensures value { result ≡ prefix_len blank bytes.now }
-    ensures bound { result ≤ length bytes.now }
-{
-    bytes.iter().take_while(|byte| is_blank(**byte)).count()
+    memchr_iter(b'\n', bytes).count()
 }
 
 /// The line on which a command begins that stands on this line and those after it, and says this.

@@ -29,7 +29,7 @@ const VERBS: [(&[u8], Verb); 15] = [
 ];
 
 /// The kinds of messages, as they are spelled.
-const KINDS: [(&[u8], KindName); 17] = [
+const KINDS: [(&[u8], KindName); 19] = [
     (b"OPEN", KindName::Open),
     (b"OPENED", KindName::Opened),
     (b"EXEC", KindName::Exec),
@@ -47,6 +47,8 @@ const KINDS: [(&[u8], KindName); 17] = [
     (b"FORGOTTEN", KindName::Forgotten),
     (b"ROLLBACK", KindName::Rollback),
     (b"ASK", KindName::Ask),
+    (b"BACK", KindName::Back),
+    (b"OPENAT", KindName::OpenAt),
 ];
 
 /// What a CRASH may leave.

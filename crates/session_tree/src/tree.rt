@@ -1,7 +1,7 @@
 //! What a branch weighs, one step of the walk to the commit point site, and the room in a session tree.
 //! (Database Administrator's Guide, "Distributed Transactions Concepts": session trees and the commit point site.)
 ghost use Rattle.std.specs.Prelude.{◌≡◌, ◌+◌, ◌≤◌, ◌<◌, ℕ, ◌∷◌, [], map, length, None, OnOk, OnErr};
-ghost use Rattle.dtx_values.specs.Limits.{branch_limit};
+ghost use Rattle.dtx_values.specs.Limits.{link_limit};
 ghost use Rattle.session_tree.specs.Live.{add_edge as add_edge_of};
 ghost use Rattle.session_tree.specs.Tree.{place_of_greatest, best_child as best_child_of, weight as weight_of, step as step_of, count as count_of, room as room_of};
 
@@ -23,7 +23,7 @@ fn better(best: Option<(u8, u8)>, weight: Option<u8>, number: u8) -> Option<(u8,
 
 // The greatest weight of the children, and the number of the first that has it.
 fn best_child(live: &Live) -> Option<(u8, u8)>
-    requires { length live.now.edges ≤ branch_limit }
+    requires { length live.now.edges ≤ link_limit }
     ensures { result ≡ best_child_of live.now }
 {
     let edges = live.edges.as_slice();
@@ -40,7 +40,7 @@ fn best_child(live: &Live) -> Option<(u8, u8)>
 /// children, and nothing where no branch below it has changes.
 #[tactic(auto, unfolding(crate::specs::Tree::weight))]
 pub fn weight(live: &Live) -> Option<u8>
-    requires { length live.now.edges ≤ branch_limit }
+    requires { length live.now.edges ≤ link_limit }
     ensures { result ≡ weight_of live.now }
 {
     if live.changed {
@@ -56,7 +56,7 @@ pub fn weight(live: &Live) -> Option<u8>
 /// strength; else the walk goes to the first child of the greatest weight.
 #[tactic(auto, unfolding(crate::specs::Tree::step))]
 pub fn step(live: &Live) -> Walk
-    requires { length live.now.edges ≤ branch_limit }
+    requires { length live.now.edges ≤ link_limit }
     ensures { result ≡ step_of live.now }
 {
     match best_child(live) {
@@ -69,7 +69,7 @@ pub fn step(live: &Live) -> Walk
 
 /// The branches of the subtree, as far as Replies have told.
 pub fn count(live: &Live) -> usize
-    requires { length live.now.edges ≤ branch_limit }
+    requires { length live.now.edges ≤ link_limit }
     ensures { result ≡ count_of live.now }
 {
     let edges = live.edges.as_slice();
@@ -83,7 +83,7 @@ pub fn count(live: &Live) -> usize
 /// How many branches the tree may still get, as far as this branch knows: at a root by its own count, elsewhere `given`,
 /// which is what the Exec carried, less a child that was opened for that call.
 pub fn room(live: &Live, given: u16) -> u16
-    requires { length live.now.edges ≤ branch_limit }
+    requires { length live.now.edges ≤ link_limit }
     ensures { result ≡ room_of live.now given }
 {
     if live.parent.is_none() {
@@ -95,7 +95,7 @@ pub fn room(live: &Live, given: u16) -> u16
 
 /// Adds a child behind the others. Fails where memory runs out, and then nothing has changed.
 pub fn add_edge(live: &mut Live, edge: Edge) -> Result<(), AllocError>
-    requires { length live.old.edges < branch_limit }
+    requires { length live.old.edges < link_limit }
     ensures ok { OnOk result (live.new ≡ add_edge_of live.old edge) }
     ensures err { OnErr result (live.new ≡ live.old) }
 {

@@ -34,7 +34,7 @@ fn is_refused(alloc: Global, text: &[u8]) -> bool {
 }
 
 /// Texts that are statements.
-const STATEMENTS: [&[u8]; 25] = [
+const STATEMENTS: [&[u8]; 38] = [
     b"create table stock (item varchar2(2000) primary key not null, n number)",
     b"CREATE DATABASE LINK hq.acme.com USING 'hq'",
     b"CREATE PUBLIC DATABASE LINK L CONNECT TO scott IDENTIFIED BY tiger USING 'a.b'",
@@ -55,9 +55,22 @@ const STATEMENTS: [&[u8]; 25] = [
     b"COMMIT FORCE ''",
     b"ROLLBACK",
     b"ROLLBACK WORK FORCE 'HQ.00000001.1.65.1'",
+    b"set transaction\tread only",
+    b"SAVEPOINT a",
+    b"savepoint SAVEPOINT",
+    b"SAVEPOINT TO",
+    b"ROLLBACK TO a",
+    b"ROLLBACK WORK TO SAVEPOINT a",
+    b"rollback to savepoint",
+    b"ROLLBACK TO SAVEPOINT SAVEPOINT",
+    b"ROLLBACK TO TO",
+    b"ROLLBACK TO FORCE",
     b"ALTER SESSION ADVISE NOTHING",
     b"alter session advise commit",
     b"ALTER SYSTEM DISABLE DISTRIBUTED RECOVERY",
+    b"ALTER SYSTEM SET COMMIT_POINT_STRENGTH = 0",
+    b"alter system set commit_point_strength=255",
+    b"ALTER SYSTEM SET COMMIT_POINT_STRENGTH = 007",
     b"exec dbms_transaction.purge_mixed('1.65.1')",
     b"EXECUTE DBMS_TRANSACTION.PURGE_LOST_DB_ENTRY ( '' )",
 ];
@@ -70,7 +83,7 @@ fn statements_are_read(rt: HostRuntime) {
 }
 
 /// Texts that are no statement.
-const NO_STATEMENTS: [&[u8]; 36] = [
+const NO_STATEMENTS: [&[u8]; 55] = [
     b"",
     b"SELECT COUNT(*) FROM T FOR UPDATE",
     b"SELECT SUM(N) FROM T FOR UPDATE",
@@ -103,8 +116,27 @@ const NO_STATEMENTS: [&[u8]; 36] = [
     b"COMMIT FORCE '1', 281474976710656",
     b"COMMIT WORK WORK",
     b"ROLLBACK FORCE",
+    b"SET TRANSACTION",
+    b"SET TRANSACTION READ",
+    b"SET TRANSACTION READ WRITE",
+    b"SET TRANSACTION READ ONLY NAME 'A'",
+    b"SAVEPOINT",
+    b"SAVEPOINT SET",
+    b"SAVEPOINT a.b",
+    b"SAVEPOINT 'A'",
+    b"ROLLBACK TO",
+    b"ROLLBACK TO A B",
+    b"ROLLBACK TO SAVEPOINT SELECT",
+    b"ROLLBACK SAVEPOINT A",
+    b"ROLLBACK TO WORK A",
     b"ALTER SESSION ADVISE ABORT",
     b"ALTER SYSTEM ENABLE RECOVERY",
+    b"ALTER SYSTEM SET COMMIT_POINT_STRENGTH = 256",
+    b"ALTER SYSTEM SET COMMIT_POINT_STRENGTH = -1",
+    b"ALTER SYSTEM SET COMMIT_POINT_STRENGTH = '5'",
+    b"ALTER SYSTEM SET COMMIT_POINT_STRENGTH 5",
+    b"ALTER SYSTEM COMMIT_POINT_STRENGTH = 5",
+    b"ALTER SESSION SET COMMIT_POINT_STRENGTH = 5",
     b"EXEC DBMS_TRANSACTION .PURGE_MIXED('1')",
     b"EXEC DBMS_TRANSACTION.PURGE_MIXED '1'",
 ];
@@ -117,7 +149,7 @@ fn other_texts_are_refused(rt: HostRuntime) {
 }
 
 /// Statements, each with the text that it is printed as.
-const PRINTED: [(&[u8], &[u8]); 9] = [
+const PRINTED: [(&[u8], &[u8]); 14] = [
     (
         b"update stock set n=n-10 where item='BOLT'",
         b"UPDATE STOCK SET N = N - 10 WHERE ITEM = 'BOLT'",
@@ -146,6 +178,14 @@ const PRINTED: [(&[u8], &[u8]); 9] = [
     (
         b"commit work force '1.65.1',007",
         b"COMMIT FORCE '1.65.1', 7",
+    ),
+    (b"Set Transaction Read Only", b"SET TRANSACTION READ ONLY"),
+    (b"savepoint a", b"SAVEPOINT A"),
+    (b"rollback work to savepoint a1", b"ROLLBACK TO A1"),
+    (b"rollback to savepoint", b"ROLLBACK TO SAVEPOINT"),
+    (
+        b"alter system set commit_point_strength=007",
+        b"ALTER SYSTEM SET COMMIT_POINT_STRENGTH = 7",
     ),
     (
         b"exec dbms_transaction.purge_mixed ( '' )",

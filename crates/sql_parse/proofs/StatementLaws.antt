@@ -10,12 +10,12 @@ use Rattle.sql_statement.specs.declared.statement.Stmt.{Stmt}
 use Rattle.sql_parse.specs.Parts.{is_word_of}
 use Rattle.sql_parse.specs.Changes.{insert, update, delete, select}
 use Rattle.sql_parse.specs.Catalog.{create}
-use Rattle.sql_parse.specs.Transactions.{commit, rollback, alter, execute}
+use Rattle.sql_parse.specs.Transactions.{commit, rollback, savepoint, set_transaction, alter, execute}
 use Rattle.sql_parse.specs.Statement.{led_by, statement_grammar}
 use Rattle.sql_parse.proofs.PartLaws.{led_exact, leads_or_else, word_is_one, later_word, apart_word_of}
 use Rattle.sql_parse.proofs.ChangeLaws.{insert_exact, update_exact, delete_exact, select_exact}
 use Rattle.sql_parse.proofs.CatalogLaws.{create_exact}
-use Rattle.sql_parse.proofs.TransactionLaws.{commit_exact, rollback_exact, alter_exact, execute_exact}
+use Rattle.sql_parse.proofs.TransactionLaws.{commit_exact, rollback_exact, savepoint_exact, set_transaction_exact, alter_exact, execute_exact}
 
 -- ---- Each form begins with its word.
 
@@ -45,7 +45,15 @@ leads_commit v ts s = rw (s.4, s.2) refl
 
 leads_rollback : Leads rollback (is_word (codes "ROLLBACK"))
 unfolding rollback
-leads_rollback v ts s = rw (s.1.4, s.1.2) refl
+leads_rollback v ts s = rw (s.4, s.2) refl
+
+leads_savepoint : Leads savepoint (is_word (codes "SAVEPOINT"))
+unfolding savepoint
+leads_savepoint v ts s = rw (s.1.4, s.1.2) refl
+
+leads_set_transaction : Leads set_transaction (is_word (codes "SET"))
+unfolding set_transaction
+leads_set_transaction v ts s = rw (s.1.4, s.1.2) refl
 
 leads_alter : Leads alter (is_word (codes "ALTER"))
 unfolding alter
@@ -70,8 +78,14 @@ module _ (w : List ℕ) (ws : List (List ℕ)) (form others : Grammar Stmt) (fir
   exact_led none x y = led_exact form others _ _ anything x y first second (apart_word_of w ws none)
 
 -- the words from the last on
+abbrev words_10 : List (List ℕ)
+words_10 = codes "SET" ∷ execute_words
+
+abbrev words_9 : List (List ℕ)
+words_9 = codes "SAVEPOINT" ∷ words_10
+
 abbrev words_8 : List (List ℕ)
-words_8 = codes "ALTER" ∷ execute_words
+words_8 = codes "ALTER" ∷ words_9
 
 abbrev words_7 : List (List ℕ)
 words_7 = codes "ROLLBACK" ∷ words_8
@@ -93,9 +107,17 @@ words_2 = codes "INSERT" ∷ words_3
 
 -- ---- The forms by their words, from the last on.
 
--- ALTER, or EXECUTE
+-- SET TRANSACTION, or EXECUTE
+abbrev pub forms_10 : Grammar Stmt
+forms_10 = led_by (codes "SET") set_transaction execute
+
+-- from SAVEPOINT on
+abbrev pub forms_9 : Grammar Stmt
+forms_9 = led_by (codes "SAVEPOINT") savepoint forms_10
+
+-- from ALTER on
 abbrev pub forms_8 : Grammar Stmt
-forms_8 = led_by (codes "ALTER") alter execute
+forms_8 = led_by (codes "ALTER") alter forms_9
 
 -- from ROLLBACK on
 abbrev pub forms_7 : Grammar Stmt
@@ -121,8 +143,14 @@ forms_3 = led_by (codes "UPDATE") update forms_4
 abbrev pub forms_2 : Grammar Stmt
 forms_2 = led_by (codes "INSERT") insert forms_3
 
+lead_10 : Leads forms_10 (is_word_of words_10)
+lead_10 = leads_led (codes "SET") execute_words set_transaction execute leads_set_transaction leads_execute refl
+
+lead_9 : Leads forms_9 (is_word_of words_9)
+lead_9 = leads_led (codes "SAVEPOINT") words_10 savepoint forms_10 leads_savepoint lead_10 refl
+
 lead_8 : Leads forms_8 (is_word_of words_8)
-lead_8 = leads_led (codes "ALTER") execute_words alter execute leads_alter leads_execute refl
+lead_8 = leads_led (codes "ALTER") words_9 alter forms_9 leads_alter lead_9 refl
 
 lead_7 : Leads forms_7 (is_word_of words_7)
 lead_7 = leads_led (codes "ROLLBACK") words_8 rollback forms_8 leads_rollback lead_8 refl
@@ -142,8 +170,14 @@ lead_3 = leads_led (codes "UPDATE") words_4 update forms_4 leads_update lead_4 r
 lead_2 : Leads forms_2 (is_word_of words_2)
 lead_2 = leads_led (codes "INSERT") words_3 insert forms_3 leads_insert lead_3 refl
 
+exact_10 : IsExact forms_10 anything
+exact_10 = exact_led (codes "SET") execute_words set_transaction execute leads_set_transaction leads_execute refl refl set_transaction_exact execute_exact
+
+exact_9 : IsExact forms_9 anything
+exact_9 = exact_led (codes "SAVEPOINT") words_10 savepoint forms_10 leads_savepoint lead_10 refl refl savepoint_exact exact_10
+
 exact_8 : IsExact forms_8 anything
-exact_8 = exact_led (codes "ALTER") execute_words alter execute leads_alter leads_execute refl refl alter_exact execute_exact
+exact_8 = exact_led (codes "ALTER") words_9 alter forms_9 leads_alter lead_9 refl refl alter_exact exact_9
 
 exact_7 : IsExact forms_7 anything
 exact_7 = exact_led (codes "ROLLBACK") words_8 rollback forms_8 leads_rollback lead_8 refl refl rollback_exact exact_8

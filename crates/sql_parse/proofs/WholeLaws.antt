@@ -18,7 +18,7 @@ use Rattle.token_grammar.specs.declared.token.Token.TheVariants as token
 use Rattle.token_grammar.specs.Steps.{begins}
 use Rattle.token_grammar.specs.Grammar.{Grammar, is_word, is_mark, word, mark, meant, identifier, number_to, ◌▹◌, commas}
 use Rattle.dtx_values.specs.Widths.{is_width, HasWidth}
-use Rattle.dtx_values.specs.Limits.{text_limit, comment_limit, id_limit, scn_limit}
+use Rattle.dtx_values.specs.Limits.{text_limit, comment_limit, id_limit, scn_limit, strength_limit}
 use Rattle.sql_statement.specs.declared.sum.Term.TheVariants as terms
 use Rattle.sql_statement.specs.declared.condition.Cond.TheVariants as conds
 use Rattle.sql_statement.specs.declared.statement.Stmt.{Stmt}
@@ -28,10 +28,10 @@ use Rattle.sql_parse.specs.Literals.{text_value, largest, smallest, constant_in,
 use Rattle.sql_parse.specs.Conditions.{condition, conditions}
 use Rattle.sql_parse.specs.Changes.{insert, assignment, update, delete, select}
 use Rattle.sql_parse.specs.Catalog.{width, column_type, column_of, column, are_of_a_table, create_table, target_in, create_link, create_synonym, create}
-use Rattle.sql_parse.specs.Transactions.{plain_commit, forced_commit, commit, rollback_of, rollback, advise, recovery, alter, argument, purge, execute}
+use Rattle.sql_parse.specs.Transactions.{plain_commit, forced_commit, commit, rollback_of, plain_rollback, rollback_to, rollback, savepoint, set_transaction, advise, recovery, set_strength, alter_system, alter, argument, purge, execute}
 use Rattle.sql_parse.specs.Statement.{led_by, statement_grammar, IsStatement}
 use Rattle.sql_statement.specs.Whole.{IsName, IsTextTo, IsWholeTable, IsWholeValue, IsWholeTerm, IsWholeSum, IsWholeCond, IsWhole}
-use Rattle.sql_parse.proofs.StatementLaws.{forms_3, forms_4, forms_5, forms_6, forms_7, forms_8}
+use Rattle.sql_parse.proofs.StatementLaws.{forms_3, forms_4, forms_5, forms_6, forms_7, forms_8, forms_9, forms_10}
 use Rattle.sql_parse.proofs.SpellLaws.{Spells, name_is, spells_after, spells_brackets, spells_built, spells_commas, spells_each, spells_identifier, spells_name, spells_number, spells_optional, spells_or_else, spells_separated}
 
 -- ---- Tables.
@@ -215,16 +215,36 @@ whole_rollback : (id : Option (List ℕ)) → IfSome id (IsTextTo id_limit) → 
 whole_rollback None text = tt
 whole_rollback (Some id) text = text
 
+spells_plain_rollback : Spells plain_rollback IsWhole
+spells_plain_rollback v ts s =
+    subst IsWhole (some_is (rollback_of s.0) v s.2)
+    (whole_rollback s.0 (spells_optional (is_word (codes "FORCE")) (word (codes "FORCE") ▹ text_to id_limit) (IsTextTo id_limit) (λ id us r. spells_text id_limit id r.1 r.3) s.0 ts s.1))
+
 spells_rollback : Spells rollback IsWhole
 unfolding rollback
-spells_rollback v ts s =
-    let forced = s.1.3 in
-    subst IsWhole (some_is (rollback_of s.0) v s.2)
-    (whole_rollback s.0 (spells_optional (is_word (codes "FORCE")) (word (codes "FORCE") ▹ text_to id_limit) (IsTextTo id_limit) (λ id us r. spells_text id_limit id r.1 r.3) s.0 forced.1 forced.3))
+spells_rollback v ts s = spells_or_else (begins (is_word (codes "TO"))) rollback_to plain_rollback IsWhole (λ x us r. subst IsWhole (some_is (statements.RollbackTo r.0) x r.2) tt) spells_plain_rollback v s.3.1 s.3.3
+
+spells_savepoint : Spells savepoint IsWhole
+unfolding savepoint
+spells_savepoint v ts s = subst IsWhole (some_is (statements.Savepoint s.0) v s.2) tt
+
+spells_set_transaction : Spells set_transaction IsWhole
+unfolding set_transaction
+spells_set_transaction v ts s = subst IsWhole (some_is statements.SetReadOnly v s.2) tt
+
+spells_set_strength : Spells set_strength IsWhole
+spells_set_strength v ts s =
+    let digits = s.1.3.3.3 in
+    subst IsWhole (some_is (statements.SetStrength s.0) v s.2) (leb-true _ _ (spells_number strength_limit s.0 s.1.3.3.1 digits))
+
+spells_alter_system : Spells alter_system IsWhole
+spells_alter_system = spells_after (word (codes "SYSTEM")) (or_else (begins (is_word (codes "SET"))) set_strength recovery) IsWhole
+    (spells_or_else (begins (is_word (codes "SET"))) set_strength recovery IsWhole spells_set_strength (λ x us r. subst IsWhole (some_is (statements.Recovery r.0.0) x r.2) tt))
 
 spells_alter : Spells alter IsWhole
 unfolding alter
-spells_alter v ts s = spells_or_else (begins (is_word (codes "SESSION"))) advise recovery IsWhole (λ x us r. subst IsWhole (some_is (statements.Advise r.0) x r.2) tt) (λ x us r. subst IsWhole (some_is (statements.Recovery r.0.0) x r.2) tt) v s.1 s.3
+spells_alter = spells_after (word (codes "ALTER")) (or_else (begins (is_word (codes "SESSION"))) advise alter_system) IsWhole
+    (spells_or_else (begins (is_word (codes "SESSION"))) advise alter_system IsWhole (λ x us r. subst IsWhole (some_is (statements.Advise r.0) x r.2) tt) spells_alter_system)
 
 spells_argument : Spells argument (IsTextTo id_limit)
 spells_argument = spells_brackets (text_to id_limit) (IsTextTo id_limit) (spells_text id_limit)
@@ -252,7 +272,9 @@ spells_statement =
     (spells_led (codes "CREATE") create forms_6 spells_create
     (spells_led (codes "COMMIT") commit forms_7 spells_commit
     (spells_led (codes "ROLLBACK") rollback forms_8 spells_rollback
-    (spells_led (codes "ALTER") alter execute spells_alter spells_execute)))))))
+    (spells_led (codes "ALTER") alter forms_9 spells_alter
+    (spells_led (codes "SAVEPOINT") savepoint forms_10 spells_savepoint
+    (spells_led (codes "SET") set_transaction execute spells_set_transaction spells_execute)))))))))
 
 -- a statement that a text spells is whole
 pub statements_are_whole : (s : Stmt) (text : List ℕ) → IsStatement s text → IsWhole s

@@ -7,7 +7,7 @@ use Rattle.sql_statement.specs.declared.statement.Stmt.{Stmt}
 use Rattle.sql_parse.specs.Parts.{or_else}
 use Rattle.sql_parse.specs.Changes.{insert, update, delete, select}
 use Rattle.sql_parse.specs.Catalog.{create}
-use Rattle.sql_parse.specs.Transactions.{commit, rollback, alter, execute}
+use Rattle.sql_parse.specs.Transactions.{commit, rollback, savepoint, set_transaction, alter, execute}
 
 -- a statement that begins with this word, or another one
 abbrev pub led_by : List ℕ → Grammar Stmt → Grammar Stmt → Grammar Stmt
@@ -23,7 +23,9 @@ statement_grammar =
     (led_by (codes "CREATE") create
     (led_by (codes "COMMIT") commit
     (led_by (codes "ROLLBACK") rollback
-    (led_by (codes "ALTER") alter execute)))))))
+    (led_by (codes "ALTER") alter
+    (led_by (codes "SAVEPOINT") savepoint
+    (led_by (codes "SET") set_transaction execute)))))))))
 
 -- the tokens of the text, all of them, spell the statement
 unfoldable pub IsStatement : Stmt → List ℕ → Type 0

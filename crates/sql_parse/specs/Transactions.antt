@@ -1,5 +1,5 @@
--- COMMIT, ROLLBACK, ALTER and EXECUTE (SQL Language Reference, "COMMIT", "ROLLBACK", "ALTER SESSION", "ALTER SYSTEM"; PL/SQL
--- Packages and Types Reference, "DBMS_TRANSACTION").
+-- COMMIT, ROLLBACK, SAVEPOINT, SET TRANSACTION, ALTER and EXECUTE (SQL Language Reference, "COMMIT", "ROLLBACK", "SAVEPOINT",
+-- "SET TRANSACTION", "ALTER SESSION", "ALTER SYSTEM"; PL/SQL Packages and Types Reference, "DBMS_TRANSACTION").
 use Rattle.std.specs.Prelude.{ℕ, Bool, true, false, List, ◌∷◌, [], Option, Some, None, codes, if◌then◌else◌}
 use Rattle.std.specs.Str.{bytes_eq}
 use Rattle.dtx_values.specs.declared.advice.Advice.{Advice}
@@ -8,13 +8,13 @@ use Rattle.token_grammar.specs.declared.mark.Mark.TheVariants as marks
 use Rattle.token_grammar.specs.declared.token.Token.{Token}
 use Rattle.token_grammar.specs.declared.token.Token.TheVariants as token
 use Rattle.token_grammar.specs.Steps.{begins}
-use Rattle.token_grammar.specs.Grammar.{Grammar, is_word, is_mark, passed, word, mark, meant, number_to, ◌·◌, ◌▹◌, maybe, optional}
-use Rattle.dtx_values.specs.Limits.{comment_limit, id_limit, scn_limit}
+use Rattle.token_grammar.specs.Grammar.{Grammar, is_word, is_mark, anything, begins_two, passed, word, mark, meant, identifier, number_to, ◌·◌, ◌▹◌, maybe, optional}
+use Rattle.dtx_values.specs.Limits.{comment_limit, id_limit, scn_limit, strength_limit}
 use Rattle.sql_statement.specs.declared.statement.Stmt.{Stmt}
 use Rattle.sql_statement.specs.declared.statement.Stmt.TheVariants as statements
 use Rattle.sql_parse.specs.Parts.{or_else, built, is_word_of, in_brackets, text_to}
 
--- ---- COMMIT and ROLLBACK
+-- ---- COMMIT, ROLLBACK and SAVEPOINT
 
 -- [COMMENT 'text']
 abbrev pub plain_commit : Grammar Stmt
@@ -34,10 +34,31 @@ abbrev pub rollback_of : Option (List ℕ) → Stmt
 rollback_of None = statements.Rollback
 rollback_of (Some id) = statements.RollbackForce id
 
--- ROLLBACK [WORK] [FORCE 'text']
+-- [FORCE 'text']
+abbrev pub plain_rollback : Grammar Stmt
+plain_rollback = built rollback_of (optional (is_word (codes "FORCE")) (word (codes "FORCE") ▹ text_to id_limit))
+
+-- [SAVEPOINT] id; where nothing follows the word SAVEPOINT, it is the name
+abbrev pub savepoint_name : Grammar (List ℕ)
+savepoint_name = or_else (begins_two (is_word (codes "SAVEPOINT")) anything) (word (codes "SAVEPOINT") ▹ identifier) identifier
+
+-- TO [SAVEPOINT] id
+abbrev pub rollback_to : Grammar Stmt
+rollback_to = built statements.RollbackTo (word (codes "TO") ▹ savepoint_name)
+
+-- ROLLBACK [WORK] (TO [SAVEPOINT] id | [FORCE 'text'])
 unfoldable pub rollback : Grammar Stmt
-rollback = built rollback_of
-    (word (codes "ROLLBACK") ▹ maybe (codes "WORK") ▹ optional (is_word (codes "FORCE")) (word (codes "FORCE") ▹ text_to id_limit))
+rollback = word (codes "ROLLBACK") ▹ maybe (codes "WORK") ▹ or_else (begins (is_word (codes "TO"))) rollback_to plain_rollback
+
+-- SAVEPOINT id
+unfoldable pub savepoint : Grammar Stmt
+savepoint = built statements.Savepoint (word (codes "SAVEPOINT") ▹ identifier)
+
+-- ---- SET TRANSACTION
+
+-- SET TRANSACTION READ ONLY
+unfoldable pub set_transaction : Grammar Stmt
+set_transaction = built (λ x. statements.SetReadOnly) (word (codes "SET") ▹ word (codes "TRANSACTION") ▹ word (codes "READ") ▹ word (codes "ONLY"))
 
 -- ---- ALTER
 
@@ -65,14 +86,21 @@ abbrev pub switch_in : Token → Option Bool
 switch_in (token.Word w) = switch_of w
 switch_in _ = None
 
--- SYSTEM (ENABLE | DISABLE) DISTRIBUTED RECOVERY
+-- (ENABLE | DISABLE) DISTRIBUTED RECOVERY
 abbrev pub recovery : Grammar Stmt
-recovery = built (λ x. statements.Recovery x.0)
-    (word (codes "SYSTEM") ▹ (meant switch_in · (word (codes "DISTRIBUTED") ▹ word (codes "RECOVERY"))))
+recovery = built (λ x. statements.Recovery x.0) (meant switch_in · (word (codes "DISTRIBUTED") ▹ word (codes "RECOVERY")))
+
+-- SET COMMIT_POINT_STRENGTH = digits
+abbrev pub set_strength : Grammar Stmt
+set_strength = built statements.SetStrength (word (codes "SET") ▹ word (codes "COMMIT_POINT_STRENGTH") ▹ mark marks.Equal ▹ number_to strength_limit)
+
+-- SYSTEM (SET COMMIT_POINT_STRENGTH .. | (ENABLE | DISABLE) DISTRIBUTED RECOVERY)
+abbrev pub alter_system : Grammar Stmt
+alter_system = word (codes "SYSTEM") ▹ or_else (begins (is_word (codes "SET"))) set_strength recovery
 
 -- ALTER SESSION .. | ALTER SYSTEM ..
 unfoldable pub alter : Grammar Stmt
-alter = word (codes "ALTER") ▹ or_else (begins (is_word (codes "SESSION"))) advise recovery
+alter = word (codes "ALTER") ▹ or_else (begins (is_word (codes "SESSION"))) advise alter_system
 
 -- ---- EXECUTE
 

@@ -9,7 +9,9 @@ use crate::catalog::take_create;
 use crate::changes::{take_delete, take_insert, take_update};
 use crate::parse_err::ParseErr;
 use crate::queries::take_select;
-use crate::transactions::{take_alter, take_commit, take_execute, take_rollback};
+use crate::transactions::{
+    take_alter, take_commit, take_execute, take_rollback, take_savepoint, take_set_transaction,
+};
 use sql_statement::Stmt;
 use std::alloc::Global;
 use token_grammar::{Part, ReadErr, Token, begins_word, read_text};
@@ -41,6 +43,12 @@ fn take_statement(alloc: Global, tokens: &[Token]) -> Result<(Stmt, &[Token]), R
     }
     if begins_word(tokens, b"ALTER") {
         return take_alter(tokens);
+    }
+    if begins_word(tokens, b"SAVEPOINT") {
+        return take_savepoint(alloc, tokens);
+    }
+    if begins_word(tokens, b"SET") {
+        return take_set_transaction(tokens);
     }
     take_execute(alloc, tokens)
 }

@@ -9,16 +9,16 @@ use Rattle.token_grammar.specs.Grammar.{Grammar, is_word}
 use Rattle.sql_statement.specs.declared.statement.Stmt.{Stmt}
 use Rattle.sql_parse.specs.Changes.{insert, update, delete, select}
 use Rattle.sql_parse.specs.Catalog.{create}
-use Rattle.sql_parse.specs.Transactions.{commit, rollback, alter, execute}
+use Rattle.sql_parse.specs.Transactions.{commit, rollback, savepoint, set_transaction, alter, execute}
 use Rattle.sql_parse.specs.Statement.{led_by, statement_grammar, IsStatement, statement_of}
-use Rattle.sql_parse.proofs.StatementLaws.{forms_2, forms_3, forms_4, forms_5, forms_6, forms_7, forms_8}
+use Rattle.sql_parse.proofs.StatementLaws.{forms_2, forms_3, forms_4, forms_5, forms_6, forms_7, forms_8, forms_9, forms_10}
 use Rattle.sql_parse.proofs.ParseLaws.{found_is_spelled, spelled_is_found, one_reading}
 use Rattle.sql_print.specs.Printing.{IsPrintable, printed}
 use Rattle.sql_print.proofs.WriteLaws.{goes_on, Writes, are_made}
 use Rattle.sql_print.proofs.PrintLaws.{Prints, prints_or_else}
 use Rattle.sql_print.proofs.ChangeForms.{prints_insert, prints_update, prints_delete, prints_select}
 use Rattle.sql_print.proofs.CatalogForms.{prints_create}
-use Rattle.sql_print.proofs.TransactionForms.{prints_commit, prints_rollback, prints_alter, prints_execute}
+use Rattle.sql_print.proofs.TransactionForms.{prints_commit, prints_rollback, prints_savepoint, prints_set_transaction, prints_alter, prints_execute}
 
 prints_led : (w : List ℕ) (form others : Grammar Stmt) → Prints form printed → Prints others printed → Prints (led_by w form others) printed
 prints_led w form others p q = prints_or_else (begins (is_word w)) form others printed p q
@@ -34,7 +34,9 @@ prints_statement =
     (prints_led (codes "CREATE") create forms_6 prints_create
     (prints_led (codes "COMMIT") commit forms_7 prints_commit
     (prints_led (codes "ROLLBACK") rollback forms_8 prints_rollback
-    (prints_led (codes "ALTER") alter execute prints_alter prints_execute)))))))
+    (prints_led (codes "ALTER") alter forms_9 prints_alter
+    (prints_led (codes "SAVEPOINT") savepoint forms_10 prints_savepoint
+    (prints_led (codes "SET") set_transaction execute prints_set_transaction prints_execute)))))))))
 
 -- what is printed is the whole text
 whole : (us : List Token) (x : List ℕ) → Writes goes_on us x → Tokens us x

@@ -1,5 +1,5 @@
--- The printed texts of COMMIT, ROLLBACK, ALTER and EXECUTE are tokens that spell them again.
-use Rattle.std.proofs.Common.{◌≡◌, ℕ, Bool, true, false, List, [], ◌∷◌, ◌++◌, Option, Some, None, refl, inl}
+-- The printed texts of COMMIT, ROLLBACK, SAVEPOINT, SET TRANSACTION, ALTER and EXECUTE are tokens that spell them again.
+use Rattle.std.proofs.Common.{◌≡◌, ℕ, Bool, true, false, List, [], ◌∷◌, ◌++◌, Option, Some, None, refl, inl, inr}
 use Rattle.std.specs.Prelude.{codes, decimal}
 use Rattle.dtx_values.specs.declared.advice.Advice.{Advice}
 use Rattle.dtx_values.specs.declared.advice.Advice.TheVariants as advices
@@ -7,17 +7,17 @@ use Rattle.token_grammar.specs.declared.mark.Mark.TheVariants as marks
 use Rattle.token_grammar.specs.declared.token.Token.TheVariants as token
 use Rattle.token_grammar.specs.Steps.{begins}
 use Rattle.token_grammar.specs.Tokens.{TokenText}
-use Rattle.token_grammar.specs.Grammar.{Grammar, is_word, is_mark, passed, word, mark, meant, number_to, ◌·◌, ◌▹◌, maybe, optional}
-use Rattle.dtx_values.specs.Limits.{comment_limit, id_limit, scn_limit}
+use Rattle.token_grammar.specs.Grammar.{Grammar, is_word, is_mark, passed, word, mark, meant, identifier, number_to, ◌·◌, ◌▹◌, maybe, optional}
+use Rattle.dtx_values.specs.Limits.{comment_limit, id_limit, scn_limit, strength_limit}
 use Rattle.sql_statement.specs.declared.statement.Stmt.TheVariants as statements
-use Rattle.sql_parse.specs.Parts.{built, text_to}
-use Rattle.sql_parse.specs.Transactions.{plain_commit, forced_commit, commit, rollback_of, rollback, advice_in, advise, switch_in, recovery, alter, argument, is_execute, execute}
+use Rattle.sql_parse.specs.Parts.{built, text_to, itself}
+use Rattle.sql_parse.specs.Transactions.{plain_commit, forced_commit, commit, rollback_of, plain_rollback, savepoint_name, rollback_to, rollback, savepoint, set_transaction, advice_in, advise, switch_in, recovery, set_strength, alter_system, alter, argument, is_execute, execute}
 use Rattle.sql_print.specs.Printing.{argument_text, printed, quoted_text, scn_text}
-use Rattle.sql_print.proofs.WriteLaws.{no_byte, word_written, comma_written, nothing_written}
-use Rattle.sql_print.proofs.PrintLaws.{Prints, Quiet, prints_pair, prints_after, prints_built, prints_optional, keyword_written, prints_keyword, prints_inner, two_words_written, mark_written, prints_word, prints_brackets, prints_after_or, prints_after_built, prints_after_two_or, prints_after_two_built}
-use Rattle.sql_print.proofs.PartForms.{prints_number, prints_text}
+use Rattle.sql_print.proofs.WriteLaws.{no_byte, word_written, comma_written, nothing_written, rest_made}
+use Rattle.sql_print.proofs.PrintLaws.{Prints, Quiet, prints_pair, prints_after, prints_built, prints_optional, keyword_written, prints_keyword, prints_inner, two_words_written, mark_written, prints_word, prints_word_alone, prints_brackets, prints_after_or, prints_after_built, prints_after_two_or, prints_after_two_built}
+use Rattle.sql_print.proofs.PartForms.{sign_written, prints_identifier, prints_number, prints_text}
 
--- ---- COMMIT and ROLLBACK
+-- ---- COMMIT, ROLLBACK and SAVEPOINT
 
 -- a word and the part after it, without WORK
 prints_no_work : {V : Type 0} (w : List ℕ) (g : Grammar V) (h : V → List ℕ) → TokenText (token.Word w) w → Prints g h → Quiet h
@@ -96,13 +96,56 @@ unfolding printed
 same_rollback None = refl
 same_rollback (Some id) = refl
 
--- ROLLBACK and ROLLBACK FORCE
+prints_force : Prints force_part force_text
+prints_force = prints_optional (is_word (codes "FORCE")) (word (codes "FORCE") ▹ text_to id_limit) force_text refl
+    (prints_inner (codes "FORCE") (text_to id_limit) quoted_text (refl, refl, refl) (prints_text id_limit))
+
+-- the name of a savepoint is printed without the word SAVEPOINT
+prints_savepoint_name : Prints savepoint_name itself
+prints_savepoint_name v ts m (inl s) = let x = prints_identifier v s.1 (rest_made ts s.0 s.1 s.4 m) s.3 in (x.0, inr x.1, x.2)
+prints_savepoint_name v ts m (inr s) = let x = prints_identifier v ts m s in (x.0, inr x.1, x.2)
+
+abbrev to_part : Grammar (List ℕ)
+to_part = word (codes "TO") ▹ savepoint_name
+
+-- as it is printed
+abbrev to_text : List ℕ → List ℕ
+to_text name = codes " TO " ++ name
+
+same_rollback_to : (name : List ℕ) → codes "ROLLBACK" ++ to_text name ≡ printed (statements.RollbackTo name)
+unfolding printed
+same_rollback_to name = refl
+
+-- ROLLBACK, ROLLBACK TO and ROLLBACK FORCE
 pub prints_rollback : Prints rollback printed
 unfolding rollback
-prints_rollback = prints_built rollback_of (word (codes "ROLLBACK") ▹ maybe (codes "WORK") ▹ force_part) (λ x. codes "ROLLBACK" ++ force_text x) printed same_rollback
-    (prints_no_work (codes "ROLLBACK") force_part force_text (refl, refl, refl)
-    (prints_optional (is_word (codes "FORCE")) (word (codes "FORCE") ▹ text_to id_limit) force_text refl
-    (prints_inner (codes "FORCE") (text_to id_limit) quoted_text (refl, refl, refl) (prints_text id_limit))) force_quiet)
+prints_rollback = prints_after_two_or (word (codes "ROLLBACK")) (maybe (codes "WORK")) (begins (is_word (codes "TO"))) rollback_to plain_rollback printed
+    (prints_after_two_built (word (codes "ROLLBACK")) (maybe (codes "WORK")) statements.RollbackTo to_part _ printed same_rollback_to
+    (prints_no_work (codes "ROLLBACK") to_part to_text (refl, refl, refl) (prints_inner (codes "TO") savepoint_name itself (refl, refl, refl) prints_savepoint_name) (λ name rest h. refl)))
+    (prints_after_two_built (word (codes "ROLLBACK")) (maybe (codes "WORK")) rollback_of force_part _ printed same_rollback
+    (prints_no_work (codes "ROLLBACK") force_part force_text (refl, refl, refl) prints_force force_quiet))
+
+-- SAVEPOINT
+pub prints_savepoint : Prints savepoint printed
+unfolding savepoint printed
+prints_savepoint = prints_built statements.Savepoint (word (codes "SAVEPOINT") ▹ identifier) (λ name. codes "SAVEPOINT " ++ name) printed (λ name. refl)
+    (prints_keyword (codes "SAVEPOINT") identifier itself (refl, refl, refl) prints_identifier)
+
+-- ---- SET TRANSACTION
+
+abbrev only_part : Grammar (Unit {0})
+only_part = word (codes "READ") ▹ word (codes "ONLY")
+
+prints_only : Prints only_part (λ x. codes "READ " ++ codes "ONLY")
+prints_only = prints_keyword (codes "READ") (word (codes "ONLY")) (λ x. codes "ONLY") (refl, refl, refl) (prints_word_alone (codes "ONLY") (refl, refl, refl))
+
+-- SET TRANSACTION READ ONLY
+pub prints_set_transaction : Prints set_transaction printed
+unfolding set_transaction printed
+prints_set_transaction = prints_built (λ x. statements.SetReadOnly) (word (codes "SET") ▹ word (codes "TRANSACTION") ▹ only_part)
+    (λ x. codes "SET " ++ (codes "TRANSACTION " ++ (codes "READ " ++ codes "ONLY"))) printed (λ x. refl)
+    (prints_keyword (codes "SET") (word (codes "TRANSACTION") ▹ only_part) (λ x. codes "TRANSACTION " ++ (codes "READ " ++ codes "ONLY")) (refl, refl, refl)
+    (prints_keyword (codes "TRANSACTION") only_part (λ x. codes "READ " ++ codes "ONLY") (refl, refl, refl) prints_only))
 
 -- ---- ALTER
 
@@ -155,23 +198,56 @@ prints_advise = prints_after_built (word (codes "ALTER")) statements.Advise advi
     (prints_keyword (codes "SESSION") (word (codes "ADVISE") ▹ meant advice_in) (λ x. codes "ADVISE " ++ advice_text x) (refl, refl, refl)
     (prints_keyword (codes "ADVISE") (meant advice_in) advice_text (refl, refl, refl) prints_advice)))
 
+-- ALTER SYSTEM before a part
+prints_altered_system : {V : Type 0} (g : Grammar V) (f : V → List ℕ) → Prints g f → Prints (word (codes "ALTER") ▹ word (codes "SYSTEM") ▹ g) (λ v. codes "ALTER " ++ (codes "SYSTEM " ++ f v))
+prints_altered_system g f pg = prints_altered (word (codes "SYSTEM") ▹ g) (λ v. codes "SYSTEM " ++ f v) (prints_keyword (codes "SYSTEM") g f (refl, refl, refl) pg)
+
 abbrev recovery_part : Grammar (Bool × Unit {0})
-recovery_part = word (codes "SYSTEM") ▹ (meant switch_in · (word (codes "DISTRIBUTED") ▹ word (codes "RECOVERY")))
+recovery_part = meant switch_in · (word (codes "DISTRIBUTED") ▹ word (codes "RECOVERY"))
 
 -- as it is printed
 abbrev recovery_part_text : Bool × Unit {0} → List ℕ
-recovery_part_text x = codes "SYSTEM " ++ (switch_text x.0 ++ codes " DISTRIBUTED RECOVERY")
+recovery_part_text x = switch_text x.0 ++ codes " DISTRIBUTED RECOVERY"
 
-prints_recovery : Prints (word (codes "ALTER") ▹ recovery) printed
-prints_recovery = prints_after_built (word (codes "ALTER")) (λ x. statements.Recovery x.0) recovery_part (λ x. codes "ALTER " ++ recovery_part_text x) printed (λ x. same_recovery x.0)
-    (prints_altered recovery_part recovery_part_text
-    (prints_keyword (codes "SYSTEM") (meant switch_in · (word (codes "DISTRIBUTED") ▹ word (codes "RECOVERY"))) (λ x. switch_text x.0 ++ codes " DISTRIBUTED RECOVERY") (refl, refl, refl)
-    (prints_pair (meant switch_in) (word (codes "DISTRIBUTED") ▹ word (codes "RECOVERY")) switch_text (λ x. codes " DISTRIBUTED RECOVERY") prints_switch prints_recovery_words (λ x rest h. refl))))
+prints_recovery : Prints (word (codes "ALTER") ▹ word (codes "SYSTEM") ▹ recovery) printed
+prints_recovery = prints_after_two_built (word (codes "ALTER")) (word (codes "SYSTEM")) (λ x. statements.Recovery x.0) recovery_part
+    (λ x. codes "ALTER " ++ (codes "SYSTEM " ++ recovery_part_text x)) printed (λ x. same_recovery x.0)
+    (prints_altered_system recovery_part recovery_part_text
+    (prints_pair (meant switch_in) (word (codes "DISTRIBUTED") ▹ word (codes "RECOVERY")) switch_text (λ x. codes " DISTRIBUTED RECOVERY") prints_switch prints_recovery_words (λ x rest h. refl)))
 
--- ALTER SESSION ADVISE, and ALTER SYSTEM ENABLE or DISABLE DISTRIBUTED RECOVERY
+-- the sign and the number
+abbrev digits_part : Grammar ℕ
+digits_part = mark marks.Equal ▹ number_to strength_limit
+
+prints_digits : Prints digits_part (λ n. codes " = " ++ decimal n)
+prints_digits = prints_after (mark marks.Equal) (number_to strength_limit) (token.Mark marks.Equal ∷ []) (codes " = ") decimal refl
+    (sign_written (token.Mark marks.Equal) (codes "=") refl (λ rest. refl)) (prints_number strength_limit)
+
+abbrev strength_part : Grammar ℕ
+strength_part = word (codes "SET") ▹ word (codes "COMMIT_POINT_STRENGTH") ▹ digits_part
+
+-- as it is printed
+abbrev strength_part_text : ℕ → List ℕ
+strength_part_text n = codes "SET " ++ (codes "COMMIT_POINT_STRENGTH" ++ (codes " = " ++ decimal n))
+
+same_strength : (n : ℕ) → codes "ALTER " ++ (codes "SYSTEM " ++ strength_part_text n) ≡ printed (statements.SetStrength n)
+unfolding printed
+same_strength n = refl
+
+prints_set_strength : Prints (word (codes "ALTER") ▹ word (codes "SYSTEM") ▹ set_strength) printed
+prints_set_strength = prints_after_two_built (word (codes "ALTER")) (word (codes "SYSTEM")) statements.SetStrength strength_part
+    (λ n. codes "ALTER " ++ (codes "SYSTEM " ++ strength_part_text n)) printed same_strength
+    (prints_altered_system strength_part strength_part_text
+    (prints_keyword (codes "SET") (word (codes "COMMIT_POINT_STRENGTH") ▹ digits_part) (λ n. codes "COMMIT_POINT_STRENGTH" ++ (codes " = " ++ decimal n)) (refl, refl, refl)
+    (prints_word (codes "COMMIT_POINT_STRENGTH") digits_part (λ n. codes " = " ++ decimal n) (refl, refl, refl) prints_digits (λ n rest h. refl))))
+
+prints_alter_system : Prints (word (codes "ALTER") ▹ alter_system) printed
+prints_alter_system = prints_after_two_or (word (codes "ALTER")) (word (codes "SYSTEM")) (begins (is_word (codes "SET"))) set_strength recovery printed prints_set_strength prints_recovery
+
+-- ALTER SESSION ADVISE, and ALTER SYSTEM SET COMMIT_POINT_STRENGTH and ENABLE or DISABLE DISTRIBUTED RECOVERY
 pub prints_alter : Prints alter printed
 unfolding alter
-prints_alter = prints_after_or (word (codes "ALTER")) (begins (is_word (codes "SESSION"))) advise recovery printed prints_advise prints_recovery
+prints_alter = prints_after_or (word (codes "ALTER")) (begins (is_word (codes "SESSION"))) advise alter_system printed prints_advise prints_alter_system
 
 -- ---- EXECUTE
 

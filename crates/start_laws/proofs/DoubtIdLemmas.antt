@@ -1,8 +1,6 @@
 -- The branches in doubt of a disk are those in doubt by its entries, each put at the place of its id when it was sealed.
-use Rattle.std.proofs.Common.{◌≡◌, ℕ, ◌==◌, ◌||◌, ◌&&◌, not, Bool, true, false, true≢false, if◌then◌else◌, List, [], ◌∷◌, ◌++◌, filter, flat_map, map, refl, sym, ap, subst, ◌∙◌, append-nil, append_assoc}
+use Rattle.std.proofs.Common.{◌≡◌, ℕ, ◌&&◌, not, Bool, true, false, if◌then◌else◌, List, [], ◌∷◌, ◌++◌, filter, flat_map, map, refl, sym, ap, subst, ◌∙◌, append-nil, append_assoc}
 use Rattle.std.proofs.lemmas.Bool.{eq-eqb}
-use Rattle.tran_ids.proofs.BranchLemmas.{equal_from_same, same_from_equal}
-use Rattle.agreement.proofs.BookTests.{not_true}
 use Rattle.node_rules.specs.Data.{Change, BranchId, RedoRecord, Doubt}
 use Rattle.node_rules.specs.Data.records
 use Rattle.node_rules.specs.NodeState.{Stored, doubt_id}
@@ -12,61 +10,17 @@ use Rattle.run_rules.specs.Data.{Entry}
 use Rattle.run_rules.specs.Data.entries
 use Rattle.run_rules.specs.Book.{is_end_of, stands, EachAgainst, doubt_in, in_doubt}
 use Rattle.run_rules.specs.Entries.{entry_of}
-use Rattle.book_laws.proofs.FlatLemmas.{same_flat, filter_flat, flat_last, any_same, any_more}
+use Rattle.book_laws.proofs.FlatLemmas.{any_same}
 use Rattle.book_laws.proofs.NodeBookLemmas.{ComesHere}
-use Rattle.book_laws.proofs.NodeDoubtLemmas.{RecordComes}
+use Rattle.book_laws.proofs.NodeDoubtLemmas.{RecordComes, doubts_more, doubts_less}
 use Rattle.start_laws.specs.StartLaws.{by_id, doubters}
 use Rattle.start_laws.proofs.IdOrderLemmas.{put, by_id_filter, by_id_last, ids_put}
 
 -- ---- one entry more
 
-module _ (n : ℕ) (es : List Entry) (e : Entry) where
-  abbrev more : List Entry
-  more = es ++ e ∷ []
-
-  -- an entry that ends nobody
-  doubt_same : ((b : BranchId) → is_end_of b e ≡ false) → (x : Entry) → doubt_in more n x ≡ doubt_in es n x
-  doubt_same endless (entries.Sealed b g cs scn) = ap (λ q. if (b.node == n) && not q then b ∷ [] else []) (any_same (is_end_of b) es e (endless b))
-  doubt_same endless (entries.Made m x) = refl
-  doubt_same endless (entries.Decided b g cs scn) = refl
-  doubt_same endless (entries.Ended b d) = refl
-  doubt_same endless (entries.Forced b d) = refl
-  doubt_same endless (entries.Met b d mixed) = refl
-
-  doubts_more : ((b : BranchId) → is_end_of b e ≡ false) → in_doubt more n ≡ in_doubt es n ++ doubt_in more n e
-  unfolding in_doubt
-  doubts_more endless = flat_last (doubt_in more n) es e ∙ ap (λ bs. bs ++ doubt_in more n e) (same_flat (doubt_in more n) (doubt_in es n) es (λ x there. doubt_same endless x))
-
-  -- one that seals nobody, too
-  doubts_same : ((b : BranchId) → is_end_of b e ≡ false) → doubt_in more n e ≡ [] → in_doubt more n ≡ in_doubt es n
-  doubts_same endless none = doubts_more endless ∙ (ap (λ bs. in_doubt es n ++ bs) none ∙ append-nil (in_doubt es n))
-
-  -- one that ends this branch
-  module _ (c : BranchId) (ends : (b : BranchId) → is_end_of b e ≡ same c b) (seals_none : doubt_in more n e ≡ []) where
-    abbrev others : BranchId → Bool
-    others b = not (same b c)
-
-    doubt_less : (x : Entry) → doubt_in more n x ≡ filter others (doubt_in es n x)
-    doubt_less (entries.Sealed b g cs scn) = ap (λ q. if (b.node == n) && not q then b ∷ [] else []) (any_more (is_end_of b) es e ∙ ap (λ q. stands (is_end_of b) es || q) (ends b)) ∙ by (b.node == n) (stands (is_end_of b) es) (same c b) refl
-      where
-        by : (here ended q : Bool) → same c b ≡ q → (if here && not (ended || q) then b ∷ [] else []) ≡ filter others (if here && not ended then b ∷ [] else [])
-        by false ended q is = refl
-        by true true q is = refl
-        by true false true is = ap (λ k. if not k then b ∷ [] else []) (sym (same_from_equal b c (sym (equal_from_same c b is))))
-        by true false false is = ap (λ k. if not k then b ∷ [] else []) (sym (not_true (same b c) (λ at. true≢false (sym (same_from_equal c b (sym (equal_from_same b c at))) ∙ is))))
-    doubt_less (entries.Made m x) = refl
-    doubt_less (entries.Decided b g cs scn) = refl
-    doubt_less (entries.Ended b d) = refl
-    doubt_less (entries.Forced b d) = refl
-    doubt_less (entries.Met b d mixed) = refl
-
-    doubts_less : in_doubt more n ≡ filter others (in_doubt es n)
-    unfolding in_doubt
-    doubts_less =
-        flat_last (doubt_in more n) es e
-        ∙ (ap (λ bs. flat_map (doubt_in more n) es ++ bs) seals_none
-        ∙ (append-nil (flat_map (doubt_in more n) es)
-        ∙ (same_flat (doubt_in more n) (λ x. filter others (doubt_in es n x)) es (λ x there. doubt_less x) ∙ sym (filter_flat others (doubt_in es n) es))))
+-- that ends nobody, and seals nobody
+doubts_same : (n : ℕ) (es : List Entry) (e : Entry) → ((b : BranchId) → is_end_of b e ≡ false) → doubt_in (es ++ e ∷ []) n e ≡ [] → in_doubt (es ++ e ∷ []) n ≡ in_doubt es n
+doubts_same n es e endless none = doubts_more n es e endless ∙ (ap (λ bs. in_doubt es n ++ bs) none ∙ append-nil (in_doubt es n))
 
 -- ---- one record more
 

@@ -92,6 +92,13 @@ owes_behind lack k b h ob v ts s =
     let second = ob v s.1 s.3 in
     omega (arith, size, second)
 
+-- a part that lacks what is printed before it
+pub owes_text : {B : Type 0} (lack : ℕ) (x : List ℕ) (b : Grammar B) (h : B → List ℕ) → 3 * length x ≤ lack → Fits 0 b h → Owes lack b (λ v. x ++ h v)
+owes_text lack x b h enough fb v ts s =
+    let text = length-append x (h v) in
+    let one = fb v ts s in
+    omega (arith, enough, text, one)
+
 -- a word that has to spare what the part after it lacks
 pub fits_paid : {B : Type 0} (w : List ℕ) (b : Grammar B) (h : B → List ℕ) → Owes (7 * length w) b h → Fits 0 (word w ▹ b) h
 fits_paid w b h ob v ts s =
@@ -128,6 +135,9 @@ fits_second spare a b h fb v ts s =
 
 pub fits_built : {A V : Type 0} (spare : ℕ) (to : A → V) (g : Grammar A) (f : A → List ℕ) (text : V → List ℕ) → ((a : A) → f a ≡ text (to a)) → Fits spare g f → Fits spare (built to g) text
 fits_built spare to g f text same fg v ts s = subst (λ (x : List ℕ). Within spare x ts) (same s.0 ∙ ap text (some_is (to s.0) v s.2)) (fg s.0 ts s.1)
+
+pub owes_built : {A V : Type 0} (lack : ℕ) (to : A → V) (g : Grammar A) (f : A → List ℕ) (text : V → List ℕ) → ((a : A) → f a ≡ text (to a)) → Owes lack g f → Owes lack (built to g) text
+owes_built lack to g f text same og v ts s = subst (λ (x : List ℕ). 3 * length x ≤ 7 * tokens_length ts + lack) (same s.0 ∙ ap text (some_is (to s.0) v s.2)) (og s.0 ts s.1)
 
 -- a value that is printed in no more bytes than what it is built of
 pub fits_shorter : {A V : Type 0} (spare : ℕ) (to : A → V) (g : Grammar A) (f : A → List ℕ) (text : V → List ℕ) → ((a : A) → length (text (to a)) ≤ length (f a)) → Fits spare g f → Fits spare (built to g) text

@@ -6,7 +6,7 @@ use Rattle.std.proofs.lemmas.Bool.{cases_Bool}
 use Rattle.std.proofs.lemmas.List.{length-append}
 use Rattle.std.proofs.lemmas.List.Concat.{flat_map-cons}
 use Rattle.dtx_values.specs.Texts.{quoted_byte}
-use Rattle.dtx_values.specs.Limits.{text_limit, comment_limit, id_limit, scn_limit, name_limit, script_limit}
+use Rattle.dtx_values.specs.Limits.{text_limit, comment_limit, id_limit, scn_limit, strength_limit, name_limit, script_limit}
 use Rattle.dtx_values.specs.declared.advice.Advice.{Advice}
 use Rattle.dtx_values.specs.declared.advice.Advice.TheVariants as advices
 use Rattle.token_grammar.proofs.Options.{some_is}
@@ -16,7 +16,7 @@ use Rattle.token_grammar.specs.declared.token.Token.{Token}
 use Rattle.token_grammar.specs.declared.token.Token.TheVariants as token
 use Rattle.token_grammar.specs.Bytes.{doubled}
 use Rattle.token_grammar.specs.Steps.{begins}
-use Rattle.token_grammar.specs.Grammar.{Grammar, Each, is_word, is_mark, passed, word, mark, meant, identifier, name, number_to, ◌·◌, ◌▹◌, maybe, optional, Optional, many, commas, tested}
+use Rattle.token_grammar.specs.Grammar.{Grammar, Each, is_word, is_mark, anything, begins_two, passed, word, mark, meant, identifier, name, number_to, ◌·◌, ◌▹◌, maybe, optional, Optional, many, commas, tested}
 use Rattle.sql_statement.specs.declared.statement.Stmt.{Stmt}
 use Rattle.sql_statement.specs.declared.statement.Stmt.TheVariants as statements
 use Rattle.sql_parse.specs.declared.rule.Rule.{Rule}
@@ -24,12 +24,12 @@ use Rattle.sql_parse.specs.declared.rule.Rule.TheVariants as rules
 use Rattle.sql_parse.specs.Parts.{or_else, built, in_brackets, text_to, itself}
 use Rattle.sql_parse.specs.Changes.{insert, update, delete, select}
 use Rattle.sql_parse.specs.Catalog.{width, column_type, rule, is_rule, is_not_null, is_key, are_once, column_of, column, are_of_a_table, table_columns, create_table, target_in, account, create_link, create_synonym, create}
-use Rattle.sql_parse.specs.Transactions.{plain_commit, forced_commit, commit, rollback_of, rollback, advice_in, advise, switch_in, recovery, alter, argument, purge, is_execute, execute}
+use Rattle.sql_parse.specs.Transactions.{plain_commit, forced_commit, commit, rollback_of, plain_rollback, savepoint_name, rollback_to, rollback, savepoint, set_transaction, advice_in, advise, switch_in, recovery, set_strength, alter_system, alter, argument, purge, is_execute, execute}
 use Rattle.sql_parse.specs.Statement.{led_by, statement_grammar, IsStatement}
-use Rattle.sql_parse.proofs.StatementLaws.{forms_2, forms_3, forms_4, forms_5, forms_6, forms_7, forms_8}
-use Rattle.sql_print.specs.Printing.{separated_text, quoted_text, type_text, rules_text, column_text, columns_text, scn_text, commit_text, advise_text, recovery_text, argument_text, printed}
+use Rattle.sql_parse.proofs.StatementLaws.{forms_2, forms_3, forms_4, forms_5, forms_6, forms_7, forms_8, forms_9, forms_10}
+use Rattle.sql_print.specs.Printing.{separated_text, quoted_text, type_text, rules_text, column_text, columns_text, scn_text, commit_text, advise_text, recovery_text, strength_text, read_only_text, argument_text, printed}
 use Rattle.stmt_size_laws.proofs.TokenLengths.{tokens_length, tokens_length-append, tokens_fit}
-use Rattle.stmt_size_laws.proofs.FitLaws.{Within, Fits, Owes, no_text, fits_word, fits_mark, fits_nothing, fits_short, fits_less, fits_pair, fits_after, fits_led, owes_behind, fits_paid, fits_behind, fits_second, fits_built, fits_tested, fits_or_else, fits_optional, fits_meant, fits_commas, fits_brackets}
+use Rattle.stmt_size_laws.proofs.FitLaws.{Within, Fits, Owes, no_text, fits_word, fits_mark, fits_nothing, fits_short, fits_less, fits_pair, fits_after, fits_led, owes_behind, owes_text, fits_paid, fits_behind, fits_second, fits_built, owes_built, fits_tested, fits_or_else, fits_optional, fits_meant, fits_commas, fits_brackets}
 use Rattle.stmt_size_laws.proofs.PartLengths.{name_long, fits_name, fits_identifier, fits_id, fits_number, fits_text}
 use Rattle.stmt_size_laws.proofs.ChangeLengths.{fits_insert, fits_update, fits_delete, fits_select}
 
@@ -170,7 +170,7 @@ fits_create = fits_behind 0 (word (codes "CREATE")) (or_else (begins (is_word (c
     (fits_or_else 0 (begins (is_word (codes "TABLE"))) create_table (or_else (begins (is_word (codes "SYNONYM"))) create_synonym create_link) printed fits_create_table
     (fits_or_else 0 (begins (is_word (codes "SYNONYM"))) create_synonym create_link printed fits_create_synonym fits_create_link))
 
--- ---- COMMIT and ROLLBACK
+-- ---- COMMIT, ROLLBACK and SAVEPOINT
 
 fits_forced : Fits 0 forced_commit printed
 unfolding printed
@@ -218,13 +218,52 @@ same_rollback (Some id) = refl
 abbrev force_part : Grammar (Option (List ℕ))
 force_part = optional (is_word (codes "FORCE")) (word (codes "FORCE") ▹ text_to id_limit)
 
+fits_force : Fits 0 force_part force_text
+fits_force = fits_optional (is_word (codes "FORCE")) (word (codes "FORCE") ▹ text_to id_limit) force_text refl
+    (fits_after 35 8 0 (word (codes "FORCE")) (text_to id_limit) (codes " FORCE ") quoted_text (omega arith) (fits_word (codes "FORCE")) (fits_text id_limit))
+
+fits_savepoint_name : Fits 0 savepoint_name itself
+fits_savepoint_name = fits_or_else 0 (begins_two (is_word (codes "SAVEPOINT")) anything) (word (codes "SAVEPOINT") ▹ identifier) identifier itself (fits_behind 0 (word (codes "SAVEPOINT")) identifier itself fits_id) fits_id
+
+abbrev to_part : Grammar (List ℕ)
+to_part = word (codes "TO") ▹ savepoint_name
+
+owes_rollback_to : Owes 56 rollback_to printed
+unfolding printed
+owes_rollback_to = owes_built 56 statements.RollbackTo to_part (λ name. codes "ROLLBACK TO " ++ name) printed (λ a. refl)
+    (owes_text 56 (codes "ROLLBACK TO ") to_part itself (omega arith) (fits_behind 0 (word (codes "TO")) savepoint_name itself fits_savepoint_name))
+
+owes_plain_rollback : Owes 56 plain_rollback printed
+owes_plain_rollback = owes_built 56 rollback_of force_part (λ id. codes "ROLLBACK" ++ force_text id) printed same_rollback (owes_text 56 (codes "ROLLBACK") force_part force_text (omega arith) fits_force)
+
+abbrev rollback_part : Grammar Stmt
+rollback_part = or_else (begins (is_word (codes "TO"))) rollback_to plain_rollback
+
+owes_rollback : Owes 56 rollback_part printed
+owes_rollback v ts (inl s) = owes_rollback_to v ts s
+owes_rollback v ts (inr s) = owes_plain_rollback v ts s
+
 fits_rollback : Fits 0 rollback printed
 unfolding rollback
-fits_rollback = fits_built 0 rollback_of (word (codes "ROLLBACK") ▹ maybe (codes "WORK") ▹ force_part) (λ id. codes "ROLLBACK" ++ force_text id) printed same_rollback
-    (fits_after 56 0 0 (word (codes "ROLLBACK")) (maybe (codes "WORK") ▹ force_part) (codes "ROLLBACK") force_text (omega arith) (fits_word (codes "ROLLBACK"))
-    (fits_behind 0 (maybe (codes "WORK")) force_part force_text
-    (fits_optional (is_word (codes "FORCE")) (word (codes "FORCE") ▹ text_to id_limit) force_text refl
-    (fits_after 35 8 0 (word (codes "FORCE")) (text_to id_limit) (codes " FORCE ") quoted_text (omega arith) (fits_word (codes "FORCE")) (fits_text id_limit)))))
+fits_rollback = fits_paid (codes "ROLLBACK") (maybe (codes "WORK") ▹ rollback_part) printed (owes_behind 56 (maybe (codes "WORK")) rollback_part printed owes_rollback)
+
+fits_savepoint : Fits 0 savepoint printed
+unfolding savepoint printed
+fits_savepoint = fits_built 0 statements.Savepoint (word (codes "SAVEPOINT") ▹ identifier) (λ name. codes "SAVEPOINT " ++ name) printed (λ a. refl)
+    (fits_after 63 0 0 (word (codes "SAVEPOINT")) identifier (codes "SAVEPOINT ") itself (omega arith) (fits_word (codes "SAVEPOINT")) fits_id)
+
+-- ---- SET TRANSACTION
+
+abbrev only_part : Grammar (Unit {0})
+only_part = word (codes "READ") ▹ word (codes "ONLY")
+
+-- the word TRANSACTION alone is enough for the whole text
+fits_set_transaction : Fits 0 set_transaction printed
+unfolding set_transaction printed
+fits_set_transaction = fits_built 0 (λ x. statements.SetReadOnly) (word (codes "SET") ▹ word (codes "TRANSACTION") ▹ only_part) (λ x. read_only_text) printed (λ a. refl)
+    (fits_short 77 0 (word (codes "SET") ▹ word (codes "TRANSACTION") ▹ only_part) (λ x. read_only_text)
+    (fits_behind 77 (word (codes "SET")) (word (codes "TRANSACTION") ▹ only_part) no_text (fits_led (codes "TRANSACTION") 0 77 only_part no_text (omega arith) (fits_nothing only_part)))
+    (λ v. omega arith))
 
 -- ---- ALTER and EXECUTE
 
@@ -240,27 +279,38 @@ fits_advise = fits_built 0 statements.Advise (word (codes "SESSION") ▹ word (c
     (fits_led (codes "SESSION") 42 91 (word (codes "ADVISE") ▹ meant advice_in) no_text (omega arith)
     (fits_led (codes "ADVISE") 0 42 (meant advice_in) no_text (omega arith) (fits_nothing (meant advice_in)))) advise_short)
 
-recovery_short : (on : Bool) → 3 * length (recovery_text on) ≤ 175
+recovery_short : (on : Bool) → 3 * length (recovery_text on) ≤ 133
 recovery_short true = omega arith
 recovery_short false = omega arith
 
--- SYSTEM, the switch, and what is switched
+-- the switch, and what is switched
 abbrev recovery_part : Grammar (Bool × Unit {0})
-recovery_part = word (codes "SYSTEM") ▹ (meant switch_in · (word (codes "DISTRIBUTED") ▹ word (codes "RECOVERY")))
+recovery_part = meant switch_in · (word (codes "DISTRIBUTED") ▹ word (codes "RECOVERY"))
 
 fits_recovery : Fits 0 recovery printed
 unfolding printed
 fits_recovery = fits_built 0 (λ x. statements.Recovery x.0) recovery_part (λ x. recovery_text x.0) printed (λ a. refl)
-    (fits_short 175 0 recovery_part (λ x. recovery_text x.0)
-    (fits_led (codes "SYSTEM") 133 175 (meant switch_in · (word (codes "DISTRIBUTED") ▹ word (codes "RECOVERY"))) no_text (omega arith)
+    (fits_short 133 0 recovery_part (λ x. recovery_text x.0)
     (fits_second 133 (meant switch_in) (word (codes "DISTRIBUTED") ▹ word (codes "RECOVERY")) no_text
-    (fits_led (codes "DISTRIBUTED") 56 133 (word (codes "RECOVERY")) no_text (omega arith) (fits_word (codes "RECOVERY")))))
+    (fits_led (codes "DISTRIBUTED") 56 133 (word (codes "RECOVERY")) no_text (omega arith) (fits_word (codes "RECOVERY"))))
     (λ x. omega (arith, recovery_short x.0)))
+
+-- the name of the parameter alone is enough for all that stands before the number
+fits_set_strength : Fits 0 set_strength printed
+unfolding printed
+fits_set_strength = fits_built 0 statements.SetStrength (word (codes "SET") ▹ word (codes "COMMIT_POINT_STRENGTH") ▹ mark marks.Equal ▹ number_to strength_limit) strength_text printed (λ a. refl)
+    (fits_behind 0 (word (codes "SET")) (word (codes "COMMIT_POINT_STRENGTH") ▹ mark marks.Equal ▹ number_to strength_limit) strength_text
+    (fits_after 147 0 0 (word (codes "COMMIT_POINT_STRENGTH")) (mark marks.Equal ▹ number_to strength_limit) (codes "ALTER SYSTEM SET COMMIT_POINT_STRENGTH = ") decimal (omega arith) (fits_word (codes "COMMIT_POINT_STRENGTH"))
+    (fits_behind 0 (mark marks.Equal) (number_to strength_limit) decimal (fits_number strength_limit))))
+
+fits_alter_system : Fits 0 alter_system printed
+fits_alter_system = fits_behind 0 (word (codes "SYSTEM")) (or_else (begins (is_word (codes "SET"))) set_strength recovery) printed
+    (fits_or_else 0 (begins (is_word (codes "SET"))) set_strength recovery printed fits_set_strength fits_recovery)
 
 fits_alter : Fits 0 alter printed
 unfolding alter
-fits_alter = fits_behind 0 (word (codes "ALTER")) (or_else (begins (is_word (codes "SESSION"))) advise recovery) printed
-    (fits_or_else 0 (begins (is_word (codes "SESSION"))) advise recovery printed fits_advise fits_recovery)
+fits_alter = fits_behind 0 (word (codes "ALTER")) (or_else (begins (is_word (codes "SESSION"))) advise alter_system) printed
+    (fits_or_else 0 (begins (is_word (codes "SESSION"))) advise alter_system printed fits_advise fits_alter_system)
 
 fits_argument : Fits 0 argument argument_text
 fits_argument = fits_brackets (text_to id_limit) (codes "(") quoted_text (omega arith) (fits_less 8 0 (text_to id_limit) quoted_text (omega arith) (fits_text id_limit))
@@ -294,7 +344,9 @@ fits_statement =
     (fits_by (codes "CREATE") create forms_6 fits_create
     (fits_by (codes "COMMIT") commit forms_7 fits_commit
     (fits_by (codes "ROLLBACK") rollback forms_8 fits_rollback
-    (fits_by (codes "ALTER") alter execute fits_alter fits_execute)))))))
+    (fits_by (codes "ALTER") alter forms_9 fits_alter
+    (fits_by (codes "SAVEPOINT") savepoint forms_10 fits_savepoint
+    (fits_by (codes "SET") set_transaction execute fits_set_transaction fits_execute)))))))))
 
 -- three times the printed text is within seven times the text
 pub printed_within : (s : Stmt) (text : List ℕ) → IsStatement s text → 3 * length (printed s) ≤ 7 * length text

@@ -1,7 +1,6 @@
 -- What the changes of a statement come to at a store.
 use Rattle.std.proofs.Common.{◌≡◌, ℕ, ◌≤◌, Bool, true, false, cond, List, [], ◌∷◌, ◌++◌, Option, None, Some, nat_lt, length, refl, sym, ap, subst, ◌∙◌, arith}
 use Rattle.std.specs.List.{AllByRecursion}
-use Rattle.std.specs.Prelude.{OnErr, Result, Ok, Err}
 use Rattle.std.proofs.lemmas.Bool.Decides.{nat_tests}
 use Rattle.std.proofs.lemmas.List.Elements.{recursion_from_All}
 use Rattle.dtx_values.specs.declared.value.Value.{Value}
@@ -18,18 +17,14 @@ use Rattle.sql_eval.specs.declared.meant.Meant.TheVariants as meants
 use Rattle.sql_check.specs.Checks.{checked}
 use Rattle.sql_eval.specs.Meaning.{meant_over}
 use Rattle.sql_eval.specs.Laws.{has_one_key, AreRowsOf, IsChangeOf, AreChangesOf}
-use Rattle.sql_eval.proofs.RowLaws.{changes_are_of_table, rows_are_keyed}
+use Rattle.sql_eval.proofs.RowLaws.{changes_are_of_table}
 use Rattle.row_locks.specs.Locks.{Lock}
-use Rattle.sql_eval.proofs.TableLaws.{tables_have_one_key}
 use Rattle.row_store.specs.declared.store_err.StoreErr.TheVariants.{Full, TooLarge}
 use Rattle.row_store.specs.Own.{changes_length}
-use Rattle.row_store.specs.Store.{Contents, AreOfTables, bytes_with, extents_needed, extents_free, has_table, own_changes, refusal_of, seen_by}
+use Rattle.row_store.specs.Store.{Contents, AreOfTables, bytes_with, extents_needed, extents_free, has_table, own_changes, refusal_of}
 use Rattle.row_store.specs.Tables.{TableRows}
-use Rattle.stmt_run.specs.declared.ran.StmtOutcome.{StmtOutcome}
-use Rattle.stmt_run.specs.Run.{answer_of_run, ran_over, ran_within, space_refusal}
-use Rattle.stmt_run.specs.Keys.{LocksFreeKeys}
+use Rattle.stmt_run.specs.Run.{answer_of_run, ran_within, space_refusal}
 use Rattle.stmt_run.specs.Stored.{AreOfOneTable, ground_in, refusal_told, store_after_run}
-use Rattle.stmt_run.proofs.Free.{run_locks_free}
 use Rattle.stmt_run.proofs.Lengths.{count_bound}
 use Rattle.stmt_run.proofs.StoreLaws.{store_refuses_alike, store_takes_one_set}
 use Rattle.stmt_store.specs.Stores.{ChangesOnly, kept_unless, ran_changing, written_of, written_unless}

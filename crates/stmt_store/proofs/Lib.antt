@@ -1,1 +1,2 @@
 mod ChangeLaws
+pub mod PastLaws

@@ -1,5 +1,5 @@
 -- A statement at a table of a store: what it meets there, and its changes as the store takes them.
-use Rattle.std.specs.Prelude.{◌≡◌, ◌⊎◌, List, Option, None, Some}
+use Rattle.std.specs.Prelude.{List, Option, None, Some}
 use Rattle.dtx_values.specs.declared.row.Change.{Change}
 use Rattle.dtx_values.specs.declared.table.Table.{Table}
 use Rattle.dtx_values.specs.declared.value.Value.{Value}

@@ -1,7 +1,7 @@
 //! What a statement means at a store, before its space is tested.
 ghost use Rattle.std.specs.Prelude.{◌≡◌, true, map, [], None, IfOk};
 ghost use Rattle.std.specs.List.{All};
-ghost use Rattle.row_locks.specs.Held.{doubt_on};
+ghost use Rattle.row_locks.specs.Held.{doubt_on, hold_on};
 ghost use Rattle.row_locks.specs.Locks.{keys_held};
 ghost use Rattle.sql_check.specs.Checks.{checked as checked_of};
 ghost use Rattle.sql_check.specs.Passed.{new_cells};
@@ -16,7 +16,8 @@ ghost use Rattle.stmt_store.specs.Stores.{ground_of, view_of, ChangesOnly};
 
 use crate::sight::Sight;
 use crate::site::StoreSite;
-use dtx_values::{Cells, Listing, Refusal, Value};
+use dtx_values::{Cells, Listing, Name, Refusal, Value};
+use row_locks::Locks;
 use sql_check::{Checked, checked};
 use sql_eval::{Meant, StmtMeaning, fixed_key, outcome_over};
 use sql_statement::Stmt;
@@ -59,7 +60,7 @@ pub(crate) fn outcome_at(
 }
 
 // A refusal: nothing is written.
-fn refused(alloc: Global, refusal: Refusal) -> StmtMeaning
+pub(crate) fn refused(alloc: Global, refusal: Refusal) -> StmtMeaning
     ensures { result ≡ record { keys = []; meant = meants.Refused refusal } }
 {
     StmtMeaning {
@@ -96,8 +97,7 @@ fn outcome_seeing(
     }
 }
 
-// ORA-01591 where a branch in doubt holds an examined key, or else ORA-02049 for the first of the written keys that another
-// live branch holds.
+// The same of the locks and the table of a site.
 fn lock_refusal(
     alloc: Global,
     site: &StoreSite,
@@ -107,9 +107,32 @@ fn lock_refusal(
     ensures { IfOk result (λ refusal.
         refusal ≡ else_refuse (held_refusal 1591 in_doubt) (locked_refusal (ground_of site.now) site.now.table.now written.now)) }
 {
+    lock_refusal_at(
+        alloc,
+        site.locks,
+        site.me,
+        &site.table.name,
+        in_doubt,
+        written,
+    )
+}
+
+/// ORA-01591 where a branch in doubt holds an examined key, or else ORA-02049 for the first of the written keys that another
+/// live branch holds.
+pub(crate) fn lock_refusal_at(
+    alloc: Global,
+    locks: &Locks,
+    me: &BranchId,
+    table: &Name,
+    in_doubt: Option<BranchId>,
+    written: &[Value],
+) -> Result<Option<Refusal>, AllocError>
+    ensures { IfOk result (λ refusal.
+        refusal ≡ else_refuse (held_refusal 1591 in_doubt) (held_refusal 2049 (first_some (map (hold_on locks.now me.now table.now) written.now)))) }
+{
     if let Some(refusal) = held(alloc, 1591, in_doubt)? {
         return Ok(Some(refusal));
     }
-    let holder = first_holder(site.locks, site.me, &site.table.name, written);
+    let holder = first_holder(locks, me, table, written);
     held(alloc, 2049, holder)
 }

@@ -7,10 +7,14 @@
 
 mod deciding;
 mod keeping;
+mod looking_back;
+mod past;
 mod running;
 mod sight;
 mod site;
 mod written;
 
+pub use looking_back::read_past;
+pub use past::change_all;
 pub use running::run;
 pub use written::{Ran, Written};

@@ -80,7 +80,7 @@ fn rows_at<'r>(
 // The branch in doubt that holds the first of the keys that a statement examines which fixes none. No key is looked up where
 // none of the table is in doubt.
 #[tactic(auto, using(stmt_run::proofs::Doubts::none_in_doubt))]
-fn examined_in_doubt(
+pub(crate) fn examined_in_doubt(
     alloc: Global,
     table: &Name,
     locks: &Locks,

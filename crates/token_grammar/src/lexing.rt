@@ -70,10 +70,7 @@ fn skip(bytes: &[u8]) -> &[u8]
 fn upper(alloc: Global, bytes: &[u8]) -> Result<Vec<u8>, AllocError>
     ensures { IfOk result (λ upper. upper.items ≡ map to_ascii_uppercase bytes.now) }
 {
-    bytes
-        .iter()
-        .map(|byte| byte.to_ascii_uppercase())
-        .collect(alloc)
+    bytes.to_ascii_uppercase(alloc)
 }
 
 #[tactic(auto, unfolding(crate::specs::Lexing::word_at))]
@@ -224,7 +221,8 @@ fn lexeme(alloc: Global, bytes: &[u8]) -> Result<(Token, &[u8]), ReadErr>
 fn lexemes(alloc: Global, bytes: &[u8]) -> Result<(Vec<Token>, &[u8]), ReadErr>
     ensures { Gives (λ x. (x.0.items, x.1.now)) result (lexemes_at bytes.now) }
 {
-    let mut tokens = Vec::new(alloc);
+    // Most texts have no more tokens than this.
+    let mut tokens = Vec::with_capacity(alloc, 16)?;
     let mut rest = skip(bytes);
     for _ in 0..bytes.len() {
         if rest.is_empty() {

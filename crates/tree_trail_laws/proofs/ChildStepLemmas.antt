@@ -17,7 +17,7 @@ use Rattle.node_rules.specs.Words.{same, numbered, item_at, put_item, drop_item,
 use Rattle.node_rules.specs.Inputs.{Came, IsCall}
 use Rattle.node_rules.specs.NodeState.{NodeState, Branch, TurnDraft, live_id, branch_at, post, to_one, to_each}
 use Rattle.node_rules.specs.Names.{passed_on}
-use Rattle.node_rules.specs.Statement.{ran, after_run}
+use Rattle.node_rules.specs.Statement.{ran}
 use Rattle.node_rules.specs.Calls.{answer_says, exec_to, next_child, strength_of, with_edge, hears_reply, branch_ran, less_room}
 use Rattle.node_rules.specs.Client.{new_root, fresh_root}
 use Rattle.node_rules.specs.Commit.{beyond}

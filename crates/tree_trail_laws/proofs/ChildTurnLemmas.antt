@@ -22,7 +22,7 @@ use Rattle.run_rules.specs.Data.happenings
 use Rattle.run_rules.specs.Facts.{Facts, node_at, kept_after, place_at, records_at}
 use Rattle.run_rules.specs.Lawful.{MayHappen, IsOwed, History, IsLawfulRun, facts_at}
 use Rattle.run_base_laws.specs.RunEvents.{events_of}
-use Rattle.run_rules.specs.Runs.{is_of_rows, begins_transaction}
+use Rattle.run_rules.specs.Runs.{begins_transaction}
 use Rattle.run_base_laws.specs.InTurnLaws.{post_of, packet_post, said_in}
 use Rattle.run_rules.specs.Trail.{next_root, root_seen, begun_in_turn, roots_begun, children_begun, child_begun, children_after, trail_after, strength_at}
 use Rattle.run_rules.proofs.AtNodeLemmas.{turn_elsewhere, turn_here}

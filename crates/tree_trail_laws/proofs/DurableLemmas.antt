@@ -1,5 +1,5 @@
 -- What a node stores of its settings is what its records make.
-use Rattle.std.proofs.Common.{◌≡◌, List, [], ◌∷◌, fold, Option, refl, ap, ◌∙◌}
+use Rattle.std.proofs.Common.{◌≡◌, List, [], ◌∷◌, fold, refl, ap, ◌∙◌}
 use Rattle.node_rules.specs.Data.{RedoRecord}
 use Rattle.node_rules.specs.NodeState.{NodeState, Stored}
 use Rattle.node_rules.specs.Records.{applied, nothing_stored, stored_by}

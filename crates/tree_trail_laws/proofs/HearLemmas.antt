@@ -6,7 +6,7 @@ use Rattle.std.proofs.lemmas.List.Folds.{list_any-append}
 use Rattle.tran_ids.proofs.BranchLemmas.{equal_from_same, same_from_equal}
 use Rattle.tran_ids.proofs.ListedLemmas.{put_found, drop_gone}
 use Rattle.session_tree.specs.Live.{is_branch, next_edge}
-use Rattle.node_rules.specs.Data.{Answer, Advice, BranchId, Edge, Live, Phase, Vote, Act, Stmt, Admit, Place, Task}
+use Rattle.node_rules.specs.Data.{Answer, BranchId, Edge, Live, Phase, Vote, Act, Stmt, Admit, Place, Task}
 use Rattle.node_rules.specs.Data.acts
 use Rattle.node_rules.specs.Data.admits
 use Rattle.node_rules.specs.Data.kinds

@@ -12,7 +12,7 @@ use Rattle.run_rules.specs.Lawful.{History, IsLawfulRun}
 use Rattle.run_rules.specs.Trail.{has_no_site, trail_after, trail_of}
 use Rattle.tree_laws.proofs.PrefixLemmas.{so_far, f_at}
 use Rattle.tree_laws.proofs.TimeLemmas.{part_of, part_lawful, may_of}
-use Rattle.tree_trail_laws.specs.SeenLaws.{TracesTops, TracesOwns, SeesRoots, Sees}
+use Rattle.tree_trail_laws.specs.SeenLaws.{TracesOwns, Sees}
 use Rattle.tree_trail_laws.proofs.MomentLemmas.{tr_at, trail_join, trail_keeps, at_moment, by_moment}
 use Rattle.tree_trail_laws.proofs.PlanLemmas.{plan_stays}
 use Rattle.tree_trail_laws.proofs.SeenRunLemmas.{all_is_seen}

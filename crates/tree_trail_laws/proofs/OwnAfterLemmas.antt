@@ -1,5 +1,5 @@
 -- After a turn the changes that are told of each live branch of its node are those that the node keeps, and its answer to a run is meant.
-use Rattle.std.proofs.Common.{◌≡◌, ℕ, ◌⊎◌, true, false, List, [], ◌∷◌, ◌++◌, slice_get, zero, suc, Some, None, inl, inr, refl, sym, ap, subst, ◌∙◌, true≢false, Option, Bool, if◌then◌else◌, not, ◌≤◌, is_none, is_some, ◌≢◌, ◌&&◌}
+use Rattle.std.proofs.Common.{◌≡◌, ℕ, ◌⊎◌, true, false, List, [], ◌∷◌, ◌++◌, slice_get, zero, suc, Some, None, inl, inr, refl, sym, ap, subst, ◌∙◌, true≢false, Option, Bool, if◌then◌else◌, not, ◌≤◌, is_none, ◌≢◌, ◌&&◌}
 use Rattle.std.specs.List.{list_any, AllByRecursion}
 use Rattle.tran_ids.proofs.ListedLemmas.{item_is, put_found}
 use Rattle.sql_eval.specs.Meaning.{meant}
@@ -9,15 +9,14 @@ use Rattle.node_rules.specs.Data.stmts
 use Rattle.node_rules.specs.Data.kinds
 use Rattle.node_rules.specs.Rows.{same_value}
 use Rattle.node_rules.specs.Meaning.{examined}
-use Rattle.node_rules.specs.Names.{ref_of, is_write}
+use Rattle.node_rules.specs.Names.{ref_of}
 use Rattle.node_rules.specs.Records.{nothing_stored, stored_by}
 use Rattle.node_rules.specs.NodeState.{NodeState, TurnDraft, live_id, live_at, Branch, sets_at, work_at}
 use Rattle.node_rules.specs.Prepare.{own_changes}
-use Rattle.node_rules.specs.Statement.{StmtOutcome, Refuses, Reads, Writes, ran, after_run, answer_of_run, owns_after, view, reads_at, read_by}
+use Rattle.node_rules.specs.Statement.{StmtOutcome, Refuses, Reads, Writes, ran, after_run, answer_of_run, reads_at, read_by}
 use Rattle.node_rules.specs.Turn.{turn_of, heard, draft_of, output_of}
 use Rattle.node_rules.proofs.StandLemmas.{live_so}
-use Rattle.run_rules.specs.Branches.{Run, Seen, seen_id, seen_at, own_at, own_of, Trail, read_at_at, is_root_of}
-use Rattle.run_key_laws.specs.ChangedLaws.{changes_at}
+use Rattle.run_rules.specs.Branches.{Run, Seen, seen_id, own_at, own_of, Trail, read_at_at, is_root_of}
 use Rattle.run_rules.specs.Data.{Turn, Happening}
 use Rattle.run_rules.specs.Data.happenings
 use Rattle.run_rules.specs.Facts.{node_at, records_at, served, outcome_at}
@@ -28,7 +27,7 @@ use Rattle.run_rules.specs.Runs.{asks, run_in, answered_by, is_accepted, view_by
 use Rattle.run_rules.specs.Trail.{runs_for, runs_with, back_in, taken_after, savepoints_set, step_back, runs_back, savepoints_back}
 use Rattle.run_base_laws.proofs.EventsStandLemmas.{ids_name_their_node}
 use Rattle.run_base_laws.proofs.OwnLemmas.{all_found}
-use Rattle.run_key_laws.proofs.RanLemmas.{runs_at_table, reader_reads}
+use Rattle.run_key_laws.proofs.RanLemmas.{runs_at_table}
 use Rattle.run_base_laws.proofs.StoredLemmas.{StoresOf, records_are_kept}
 use Rattle.tree_laws.proofs.PrefixLemmas.{f_at, one_on}
 use Rattle.tree_trail_laws.specs.OwnLaws.{TracesRoots}
@@ -60,7 +59,7 @@ use Rattle.std.proofs.lemmas.Bool.{and_right}
 use Rattle.tree_trail_laws.proofs.OwnLiveLemmas.{IsOfThese, lives_on}
 use Rattle.tree_trail_laws.proofs.RootCallLemmas.{answered_calls, begins_none, counts_none, same_on}
 use Rattle.tree_trail_laws.proofs.RanCallLemmas.{called_root, uncalled_root}
-use Rattle.tree_trail_laws.proofs.RanWorkLemmas.{asked_stays, asked_saves, asked_me, asked_marks, changes_so, Says, newest_says, reader_says, other_sets, other_work, own_savepoints, own_step, own_runs}
+use Rattle.tree_trail_laws.proofs.RanWorkLemmas.{asked_stays, asked_saves, asked_me, asked_marks, changes_so, Says, meant_says, other_sets, other_work, own_savepoints, own_step, own_runs}
 use Rattle.tran_ids.proofs.BranchLemmas.{equal_from_same}
 use Rattle.node_rules.specs.Words.{same}
 use Rattle.node_rules.specs.declared.work.Work.{Work}
@@ -180,38 +179,39 @@ module _ (t : History) (whole : IsLawfulRun t) where
       of_it : IsOfBook f0.book u.node j
       of_it = from_book p u.input has.from f0.book u.node (heard_book k u.input f0.book u.node (of_book s0 lawful0 u.node k may.1.up))
 
-      -- where it reads the newest rows
-      meant_by : reads_at j b ≡ None → IsMeantBy f0.book u.node has.statement has.table (view_by f0.book b None (own_changes j b) has.table.name) q
-      meant_by newest = run_meant f0.book u.node j of_it p b (own_node y runs_on) has.statement has.table (ref_of has.statement).name (runs_at_table p j.stored.durable x.live has.room has.statement has.table has.way) newest
+      meant_by : IsMeantBy f0.book u.node has.statement has.table (view_by f0.book b (reads_at j b) (own_changes j b) has.table.name) q
+      meant_by = run_meant f0.book u.node j of_it p b (own_node y runs_on) has.statement has.table (ref_of has.statement).name (runs_at_table p j.stored.durable x.live has.room has.statement has.table has.way)
 
       -- what its answer says
       own_told : own_at tr0 run.branch ≡ own_changes j b
       own_told = ap (own_at tr0) asked.2 ∙ (turns.own_before t whole hs u more is roots now uncut y runs_on ∙ from_owns p u.input has.from b)
 
-      -- a branch of which nothing was told before is one that begins, and its statement does not make it READ ONLY
-      reads_newest : read_at_at tr0 run.branch ≡ None → reads_at j b ≡ None
-      reads_newest newest = asked_reads has.asked ∙ (sym (turns.reads_after t whole hs u more is roots now uncut y runs_on) ∙ turns.newest_before t whole hs u more is roots now uncut has.from has.asked y runs_on refl (subst (λ c. read_at_at tr0 c ≡ None) asked.2 newest))
+      -- and where it reads
+      reads_told : read_at_at tr0 run.branch ≡ reads_at j b
+      reads_told =
+          ap (read_at_at tr0) asked.2
+          ∙ (turns.reads_before t whole hs u more is roots now uncut has.from has.asked y runs_on refl ∙ (turns.reads_after t whole hs u more is roots now uncut y runs_on ∙ sym (asked_reads has.asked)))
 
-      pub answer_meant : read_at_at tr0 run.branch ≡ None → AnswerIsMeant f0 tr0 run (answer_of_run q)
-      answer_meant newest = by q (meant_by (reads_newest newest))
+      pub answer_meant : AnswerIsMeant f0 tr0 run (answer_of_run q)
+      answer_meant = by q meant_by
         where
-          meaning_is : meaning f0.book (read_at_at tr0 run.branch) (own_at tr0 run.branch) run ≡ meant has.statement has.table (view_by f0.book b None (own_changes j b) has.table.name)
-          meaning_is = ap (λ o. meaning f0.book o (own_at tr0 run.branch) run) newest
-              ∙ (ap (λ own. meaning f0.book None own run) own_told ∙ ap (λ c. meant has.statement has.table (view_by f0.book c None (own_changes j b) has.table.name)) asked.2)
+          meaning_is : meaning f0.book (read_at_at tr0 run.branch) (own_at tr0 run.branch) run ≡ meant has.statement has.table (view_by f0.book b (reads_at j b) (own_changes j b) has.table.name)
+          meaning_is = ap (λ o. meaning f0.book o (own_at tr0 run.branch) run) reads_told
+              ∙ (ap (λ own. meaning f0.book (reads_at j b) own run) own_told ∙ ap (λ c. meant has.statement has.table (view_by f0.book c (reads_at j b) (own_changes j b) has.table.name)) asked.2)
 
           node_is : run.branch.node ≡ u.node
           node_is = ap (λ (c : BranchId). c.node) asked.2 ∙ own_node y runs_on
 
-          by : (r : StmtOutcome) → IsMeantBy f0.book u.node has.statement has.table (view_by f0.book b None (own_changes j b) has.table.name) r → AnswerIsMeant f0 tr0 run (answer_of_run r)
+          by : (r : StmtOutcome) → IsMeantBy f0.book u.node has.statement has.table (view_by f0.book b (reads_at j b) (own_changes j b) has.table.name) r → AnswerIsMeant f0 tr0 run (answer_of_run r)
           by (Refuses why) so = tt
           by (Reads rows keys) so = record {
             gives = meaning_is ∙ so.0;
             certain = λ i key at doubt. (
-                let keys_are : view_by f0.book run.branch (read_at_at tr0 run.branch) (own_at tr0 run.branch) has.table.name ≡ view_by f0.book b None (own_changes j b) has.table.name
-                = ap (λ o. view_by f0.book run.branch o (own_at tr0 run.branch) has.table.name) newest
-                ∙ (ap (λ own. view_by f0.book run.branch None own has.table.name) own_told ∙ ap (λ c. view_by f0.book c None (own_changes j b) has.table.name) asked.2) in
+                let keys_are : view_by f0.book run.branch (read_at_at tr0 run.branch) (own_at tr0 run.branch) has.table.name ≡ view_by f0.book b (reads_at j b) (own_changes j b) has.table.name
+                = ap (λ o. view_by f0.book run.branch o (own_at tr0 run.branch) has.table.name) reads_told
+                ∙ (ap (λ own. view_by f0.book run.branch (reads_at j b) own has.table.name) own_told ∙ ap (λ c. view_by f0.book c (reads_at j b) (own_changes j b) has.table.name) asked.2) in
                 let others : List Value = locked_at f0.book tr0 run.branch.node has.table.name in
-                let here : slice_get (examined has.statement has.table (view_by f0.book b None (own_changes j b) has.table.name) others) i ≡ Some key = ap (λ v. slice_get (examined has.statement has.table v others) i) (sym keys_are) ∙ at in
+                let here : slice_get (examined has.statement has.table (view_by f0.book b (reads_at j b) (own_changes j b) has.table.name) others) i ≡ Some key = ap (λ v. slice_get (examined has.statement has.table v others) i) (sym keys_are) ∙ at in
                 let free : list_any (same_value key) (keys_in_doubt f0.book u.node has.table.name) ≡ false = all_at (λ c. list_any (same_value c) (keys_in_doubt f0.book u.node has.table.name) ≡ false) _ i key (so.1 others) here in
                 let held : list_any (same_value key) (keys_in_doubt f0.book u.node has.table.name) ≡ true = subst (λ n. list_any (same_value key) (keys_in_doubt f0.book n has.table.name) ≡ true) node_is doubt in
                 true≢false (sym held ∙ free)
@@ -318,24 +318,18 @@ module _ (t : History) (whole : IsLawfulRun t) where
               cc
 
           -- what is told of the run is what it did
-          told_rows : b ≡ l.me → reads_at j b ≡ None → view_by f0.book run.branch it.seen.read_at (own_of (Some it.seen)) has.table.name ≡ view_by f0.book b None (own_changes j b) has.table.name
-          told_rows one newest =
+          told_rows : b ≡ l.me → view_by f0.book run.branch it.seen.read_at (own_of (Some it.seen)) has.table.name ≡ view_by f0.book b (reads_at j b) (own_changes j b) has.table.name
+          told_rows one =
               let l_is = is_ran one in
-              let reads : it.seen.read_at ≡ None = turns.reads_after t whole hs u more is roots now uncut l live ∙ (ap (λ (z : Live). z.read_at) l_is ∙ (sym (asked_reads has.asked) ∙ newest)) in
+              let reads : it.seen.read_at ≡ reads_at j b = turns.reads_after t whole hs u more is roots now uncut l live ∙ (ap (λ (z : Live). z.read_at) l_is ∙ sym (asked_reads has.asked)) in
               let own : own_of (Some it.seen) ≡ own_changes j b = known_own k1 trb l.me it ∙ (from_owns p u.input has.from l.me ∙ ap (own_changes j) (sym one)) in
               ap (λ c. view_by f0.book c it.seen.read_at (own_of (Some it.seen)) has.table.name) run_is
-              ∙ (ap (λ o. view_by f0.book b o (own_of (Some it.seen)) has.table.name) reads ∙ ap (λ own. view_by f0.book b None own has.table.name) own)
+              ∙ (ap (λ o. view_by f0.book b o (own_of (Some it.seen)) has.table.name) reads ∙ ap (λ own. view_by f0.book b (reads_at j b) own has.table.name) own)
 
           says : b ≡ l.me → Says has.statement has.table (view_by f0.book run.branch it.seen.read_at (own_of (Some it.seen)) has.table.name) q
-          says one = by (reads_at j b) refl
-            where
-              by : (o : Option ℕ) → reads_at j b ≡ o → Says has.statement has.table (view_by f0.book run.branch it.seen.read_at (own_of (Some it.seen)) has.table.name) q
-              by None newest =
-                  subst (λ vs. Says has.statement has.table vs q) (sym (told_rows one newest))
-                  (newest_says f0.book u.node has.statement has.table (view_by f0.book b None (own_changes j b) has.table.name) q (meant_by newest) (changes_so p j b has.statement has.table))
-              by (Some scn) reader =
-                  reader_says has.statement has.table (view_by f0.book run.branch it.seen.read_at (own_of (Some it.seen)) has.table.name) q
-                  (subst (λ o. (is_some o && is_write has.statement) ≡ false) reader (reader_reads p has.asked has.way)) (changes_so p j b has.statement has.table)
+          says one =
+              subst (λ vs. Says has.statement has.table vs q) (sym (told_rows one))
+              (meant_says f0.book u.node has.statement has.table (view_by f0.book b (reads_at j b) (own_changes j b) has.table.name) q meant_by (changes_so p j b has.statement has.table))
 
           step_is : b ≡ l.me → step ≡ step_of j.sessions x
           step_is one =
@@ -452,13 +446,13 @@ module _ (t : History) (whole : IsLawfulRun t) where
       ]
 
     -- an answer of a run is meant
-    answer_ran : HasRun p u.input k1 d → (r : Run) (a : Answer) → run_in f0 trb u ≡ Some r → answered_by (outcome_at t.places f0 u) ≡ Some a → read_at_at tr0 r.branch ≡ None → AnswerIsMeant f0 tr0 r a
-    answer_ran has r a some answer newest =
+    answer_ran : HasRun p u.input k1 d → (r : Run) (a : Answer) → run_in f0 trb u ≡ Some r → answered_by (outcome_at t.places f0 u) ≡ Some a → AnswerIsMeant f0 tr0 r a
+    answer_ran has r a some answer =
         let runs_it : Some (run has) ≡ Some r = sym (runs has) ∙ some in
         let answers : Some (answer_of_run (q has)) ≡ Some a = sym (answers_it has) ∙ answer in
         let one : run has ≡ r = cc in
         let two : answer_of_run (q has) ≡ a = cc in
-        subst (λ x. AnswerIsMeant f0 tr0 x a) one (subst (AnswerIsMeant f0 tr0 (run has)) two (answer_meant has (subst (λ (x : Run). read_at_at tr0 x.branch ≡ None) (sym one) newest)))
+        subst (λ x. AnswerIsMeant f0 tr0 x a) one (subst (AnswerIsMeant f0 tr0 (run has)) two (answer_meant has))
 
     -- ---- a call within a transaction, and BACK
 
@@ -466,9 +460,9 @@ module _ (t : History) (whole : IsLawfulRun t) where
       pub work_special_so : (l : Live) (live : live_at d.after l.me ≡ Some l) → IsTracedWork d.after (turned t.places f0 tr0 u (knows_after l live).seen) l
       work_special_so l live = elim (special_turn t whole hs u more is roots now uncut special) [ inl has ↦ work_ran_so has l live | inr traces ↦ traces.0 l live ]
 
-      pub answer_special : (r : Run) (a : Answer) → run_in f0 trb u ≡ Some r → answered_by (outcome_at t.places f0 u) ≡ Some a → read_at_at tr0 r.branch ≡ None → AnswerIsMeant f0 tr0 r a
-      answer_special r a some answer newest = elim (special_turn t whole hs u more is roots now uncut special) [
-        | inl has ↦ answer_ran has r a some answer newest
+      pub answer_special : (r : Run) (a : Answer) → run_in f0 trb u ≡ Some r → answered_by (outcome_at t.places f0 u) ≡ Some a → AnswerIsMeant f0 tr0 r a
+      answer_special r a some answer = elim (special_turn t whole hs u more is roots now uncut special) [
+        | inl has ↦ answer_ran has r a some answer
         | inr traces ↦ elim traces.1 [
           | inl none ↦ absurd (cc (none, some))
           | inr not_so ↦ (let why = refused a (ap is_accepted (sym answer) ∙ not_so) in subst (AnswerIsMeant f0 tr0 r) (sym why.1) tt)
@@ -484,9 +478,9 @@ module _ (t : History) (whole : IsLawfulRun t) where
         by_plain plain (inl has) = work_ran_so has l live
         by_plain plain (inr rests) = work_rest_so plain rests l live
 
-    pub meant_after_turn : (r : Run) (a : Answer) → run_in f0 trb u ≡ Some r → answered_by (outcome_at t.places f0 u) ≡ Some a → read_at_at tr0 r.branch ≡ None → AnswerIsMeant f0 tr0 r a
-    meant_after_turn r a some answer newest = bool_cases (is_plain u.input) _ (λ plain. by_plain plain (turns_on p u.input (turns.step t whole hs u more is roots now) plain)) (λ special. answer_special special r a some answer newest)
+    pub meant_after_turn : (r : Run) (a : Answer) → run_in f0 trb u ≡ Some r → answered_by (outcome_at t.places f0 u) ≡ Some a → AnswerIsMeant f0 tr0 r a
+    meant_after_turn r a some answer = bool_cases (is_plain u.input) _ (λ plain. by_plain plain (turns_on p u.input (turns.step t whole hs u more is roots now) plain)) (λ special. answer_special special r a some answer)
       where
         by_plain : IsPlain u.input → Turns p u.input k1 d → AnswerIsMeant f0 tr0 r a
-        by_plain plain (inl has) = answer_ran has r a some answer newest
+        by_plain plain (inl has) = answer_ran has r a some answer
         by_plain plain (inr rests) = answer_rests plain rests r a some answer

@@ -1,13 +1,13 @@
 -- What runs in a turn by what the happenings tell: nothing where no statement came, or one came once more; else the statement that ran at the node, at
 -- its table, for the branch that it came to.
-use Rattle.std.proofs.Common.{◌≡◌, ℕ, ◌==◌, ◌&&◌, ◌||◌, not, Bool, true, false, if◌then◌else◌, is_none, is_some, List, [], ◌∷◌, find, fold, length, Option, Some, None, refl, sym, ap, subst, ◌∙◌, arith}
+use Rattle.std.proofs.Common.{◌≡◌, ℕ, ◌==◌, ◌&&◌, ◌||◌, not, Bool, true, false, if◌then◌else◌, is_none, is_some, List, find, length, Option, Some, None, refl, sym, ap, subst, ◌∙◌, arith}
 use Rattle.std.specs.Prelude.{nat_lt, nat_le}
 use Rattle.std.proofs.lemmas.Bool.Decides.{nat_tests}
 use Rattle.dtx_values.specs.Limits.{depth_limit}
-use Rattle.redo_record.specs.Durable.{durable_after, durable}
+use Rattle.redo_record.specs.Durable.{durable}
 use Rattle.session_tree.specs.Live.{edge_by_link}
 use Rattle.session_tree.specs.Tree.{room}
-use Rattle.node_rules.specs.Data.{Table, Stmt, Refusal, BranchId, RedoRecord, Durable, Kind, Live, Place, Input}
+use Rattle.node_rules.specs.Data.{Table, Stmt, Refusal, BranchId, Durable, Kind, Live, Place, Input}
 use Rattle.node_rules.specs.Data.admits
 use Rattle.node_rules.specs.Data.inputs
 use Rattle.node_rules.specs.Data.kinds
@@ -16,7 +16,7 @@ use Rattle.node_rules.specs.Inputs.{IsCall}
 use Rattle.node_rules.specs.NodeState.{NodeState, Stored, Branch}
 use Rattle.node_rules.specs.Names.{ref_named, ref_of, target_of, Runs_here, Through, Nowhere_to, way_edge, way_target, way_named, way_of}
 use Rattle.node_rules.specs.Calls.{admit, runs_here, answer_says, answer_ends, branch_ran}
-use Rattle.node_rules.specs.Records.{applied, nothing_stored, stored_by}
+use Rattle.node_rules.specs.Records.{nothing_stored}
 use Rattle.node_rules.specs.Statement.{ran, after_run, answer_of_run}
 use Rattle.node_rules.specs.Turn.{output_of}
 use Rattle.node_rules.proofs.Steps as steps
@@ -25,7 +25,6 @@ use Rattle.run_rules.specs.Branches.{Seen, Trail, seen_at, is_live, root_at}
 use Rattle.run_rules.specs.Data.{Turn}
 use Rattle.run_rules.specs.Facts.{Facts, records_at}
 use Rattle.run_rules.specs.Runs.{Asking, is_of_rows, asks_root, asks_branch, asks_by, asks, bare_name, table_by, run_at_table, run_by, run_in, answered_by}
-use Rattle.run_rules.specs.Trail.{is_exec}
 use Rattle.run_key_laws.proofs.RanLemmas.{runs_at_table}
 use Rattle.run_base_laws.proofs.StoredLemmas.{StoresOf}
 use Rattle.tree_trail_laws.proofs.OwnCallLemmas.{last_of, found_calls}

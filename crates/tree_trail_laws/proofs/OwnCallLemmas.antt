@@ -5,7 +5,7 @@ use Rattle.std.proofs.lemmas.Bool.Decides.{nat_tests}
 use Rattle.tran_ids.proofs.BranchLemmas.{equal_from_same}
 use Rattle.tran_ids.proofs.ListedLemmas.{put_found, put_leaves, drop_gone, drop_leaves}
 use Rattle.commit_forget.specs.declared.next.Next.TheVariants as nexts
-use Rattle.node_rules.specs.Data.{Stmt, Admit, Advice, BranchId, Live, Act, Place, Input, Task}
+use Rattle.node_rules.specs.Data.{Stmt, Admit, BranchId, Live, Act, Place, Input, Task}
 use Rattle.node_rules.specs.declared.work.Work.{Work}
 use Rattle.node_rules.specs.Data.acts
 use Rattle.node_rules.specs.Data.admits

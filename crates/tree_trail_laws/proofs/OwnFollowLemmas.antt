@@ -6,9 +6,8 @@ use Rattle.tran_ids.proofs.NumberedLemmas.{set_or_before}
 use Rattle.node_rules.specs.Data.{Answer, BranchId, Live}
 use Rattle.node_rules.specs.Words.{same, item_at}
 use Rattle.node_rules.specs.NodeState.{NodeState, TurnDraft, live_id, live_at, sets_at, work_at}
-use Rattle.node_rules.specs.Prepare.{own_changes}
 use Rattle.node_rules.specs.Turn.{turn_of, start_of, draft_of}
-use Rattle.run_rules.specs.Branches.{Dropped, Run, Seen, Trail, seen_id, seen_at, own_at, own_of, is_live_at, read_at_at}
+use Rattle.run_rules.specs.Branches.{Dropped, Run, Seen, Trail, seen_id, seen_at, own_of, is_live_at}
 use Rattle.run_rules.specs.Data.{Turn, Happening}
 use Rattle.run_rules.specs.Data.happenings
 use Rattle.run_rules.specs.Each.{AtEach}
@@ -29,10 +28,8 @@ use Rattle.tree_trail_laws.proofs.LowerRunLemmas.{stop_still}
 use Rattle.tree_trail_laws.proofs.MomentLemmas.{tr_at, trail_one_on, at_moment, by_moment}
 use Rattle.tree_trail_laws.proofs.OwnAfterLemmas.{meant_after_turn, work_after_turn}
 use Rattle.tree_trail_laws.proofs.OwnElseLemmas.{IsHere, comes_here, own_elsewhere, taken_elsewhere, back_elsewhere, savepoints_elsewhere}
-use Rattle.tree_trail_laws.proofs.OwnKnowLemmas.{Knows}
-use Rattle.tree_trail_laws.proofs.OwnCallLemmas.{last_of}
 use Rattle.tree_trail_laws.proofs.OwnTurnLemmas as turns
-use Rattle.tree_trail_laws.proofs.OwnTurnLemmas.{taken_of, Owns}
+use Rattle.tree_trail_laws.proofs.OwnTurnLemmas.{Owns}
 use Rattle.tree_trail_laws.proofs.SeenLemmas.{begun, turned, seen_begun, seen_turned, item_mapped}
 use Rattle.tree_trail_laws.proofs.StartLemmas.{started_none, none_made}
 use Rattle.tree_laws.proofs.AtTurn.{at_turn}
@@ -144,13 +141,13 @@ module _ (t : History) (whole : IsLawfulRun t) (roots : AtEach (λ places f tr h
         subst (λ f. Owns f (tr_at t (hs ++ happenings.Turn u ∷ []))) (sym (one_on t hs (happenings.Turn u)))
         (subst (Owns f1) (sym (trail_one_on t hs (happenings.Turn u))) (both f1 tr1 turn_so))
 
-    turn_meant : (r : Run) (a : Answer) → run_in f0 (with_begun f0 tr0 u) u ≡ Some r → answered_by (outcome_at t.places f0 u) ≡ Some a → read_at_at tr0 r.branch ≡ None → AnswerIsMeant f0 tr0 r a
+    turn_meant : (r : Run) (a : Answer) → run_in f0 (with_begun f0 tr0 u) u ≡ Some r → answered_by (outcome_at t.places f0 u) ≡ Some a → AnswerIsMeant f0 tr0 r a
     unfolding run_in
-    turn_meant r a some answer newest = by u.cut refl
+    turn_meant r a some answer = by u.cut refl
       where
         by : (cut : Bool) → u.cut ≡ cut → AnswerIsMeant f0 tr0 r a
         by true cut = (let none : run_in f0 (with_begun f0 tr0 u) u ≡ None = ap (λ c. if c then None else run_by f0 (with_begun f0 tr0 u) u.node (asks (with_begun f0 tr0 u) u.node u.input)) cut in absurd (cc (none, some)))
-        by false cut = meant_after_turn t whole hs u more is r0 now cut r a some answer newest
+        by false cut = meant_after_turn t whole hs u more is r0 now cut r a some answer
 
   -- ---- other happenings
 

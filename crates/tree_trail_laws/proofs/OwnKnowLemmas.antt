@@ -1,24 +1,19 @@
 -- What is told of a live branch, with its changes and the calls that it took, before a statement runs and after it.
-use Rattle.std.proofs.Common.{◌≡◌, ℕ, ◌&&◌, Bool, true, false, List, [], ◌∷◌, ◌++◌, Option, Some, None, refl, sym, ap, subst, ◌∙◌, ◌≢◌, map, Result, Ok, Err}
-use Rattle.tran_ids.proofs.BranchLemmas.{equal_from_same}
-use Rattle.tran_ids.proofs.ListedLemmas.{put_found, put_leaves}
+use Rattle.std.proofs.Common.{◌≡◌, ℕ, ◌&&◌, Bool, true, false, List, [], Option, Some, None, refl, ap, ◌∙◌, ◌≢◌, map, Result, Ok, Err}
 use Rattle.sql_eval.specs.Meaning.{meant, meant_over, picked}
 use Rattle.node_rules.specs.Data.{Answer, Change, Table, Stmt, BranchId, Keyed, Place, Input, Picked, Refusal, Done, RowSet, Live, Row, Value}
 use Rattle.node_rules.specs.Data.inputs
 use Rattle.node_rules.specs.Words.{same}
-use Rattle.node_rules.specs.Rows.{changes_of, set_over, get}
-use Rattle.node_rules.specs.NodeState.{NodeState, own_id, sets_of, sets_at, work_at, live_at}
+use Rattle.node_rules.specs.Rows.{get}
+use Rattle.node_rules.specs.NodeState.{NodeState, sets_at, work_at, live_at}
 use Rattle.node_rules.specs.Prepare.{own_changes}
-use Rattle.node_rules.specs.Statement.{StmtOutcome, Refuses, Reads, Writes, answer_of_run, owns_after, view}
 use Rattle.node_rules.specs.Turn.{heard}
 use Rattle.run_rules.specs.Branches.{Run, Seen, Trail, seen_at, own_of}
-use Rattle.run_key_laws.specs.ChangedLaws.{changes_at}
 use Rattle.run_rules.specs.Data.{Entry}
-use Rattle.run_rules.specs.Runs.{is_accepted, view_by, meaning, changes_in, changes_rows}
+use Rattle.run_rules.specs.Runs.{is_accepted, changes_in, changes_rows}
 use Rattle.run_rules.specs.Trail.{runs_for, runs_with}
-use Rattle.run_key_laws.proofs.ChangedLemmas.{one_more_set, append_none}
 use Rattle.tree_trail_laws.proofs.OwnCallLemmas.{last_of}
-use Rattle.tree_trail_laws.proofs.OwnRunLemmas.{IsOfBook, IsMeantBy}
+use Rattle.tree_trail_laws.proofs.OwnRunLemmas.{IsOfBook}
 use Rattle.tree_trail_laws.proofs.OwnStepLemmas.{From, Itself, Begun, Counted}
 use Rattle.tree_trail_laws.proofs.RunListLemmas.{own_is}
 use Rattle.tree_trail_laws.specs.RunLaws.{RunsAre}
@@ -66,9 +61,9 @@ from_marks p input (Counted n u call counts from) b = from_marks p input from b
 pub from_book : (p : Place) (input : Input) {k j : NodeState} → From p input k j → (book : List Entry) (n : ℕ) → IsOfBook book n k → IsOfBook book n j
 from_book p input (Itself k) book n it = it
 from_book p input (Counted m s call counts from) book n it =
-    from_book p input from book n (record { doubts = it.doubts; rows = it.rows; book_fits = it.book_fits; order = it.order; fits = (it.fits.0, it.fits.1); keys = it.keys })
+    from_book p input from book n (record { doubts = it.doubts; rows = it.rows; views = it.views; book_views = it.book_views; fits = (it.fits.0, it.fits.1); keys = it.keys })
 from_book p input (Begun m s read_at call begins new from) book n it =
-    from_book p input from book n (record { doubts = it.doubts; rows = it.rows; book_fits = it.book_fits; order = it.order; fits = (it.fits.0, it.fits.1); keys = it.keys })
+    from_book p input from book n (record { doubts = it.doubts; rows = it.rows; views = it.views; book_views = it.book_views; fits = (it.fits.0, it.fits.1); keys = it.keys })
 
 pub from_stored : (p : Place) (input : Input) {k j : NodeState} → From p input k j → k.stored ≡ j.stored
 from_stored p input (Itself k) = refl
@@ -91,7 +86,7 @@ module _ (k : NodeState) where
   heard_knows inputs.Checkpoint tr b it = it
 
   pub heard_book : (input : Input) (book : List Entry) (n : ℕ) → IsOfBook book n k → IsOfBook book n (heard k input)
-  heard_book (inputs.Message m) book n it = record { doubts = it.doubts; rows = it.rows; book_fits = it.book_fits; order = it.order; fits = (it.fits.0, it.fits.1); keys = it.keys }
+  heard_book (inputs.Message m) book n it = record { doubts = it.doubts; rows = it.rows; views = it.views; book_views = it.book_views; fits = (it.fits.0, it.fits.1); keys = it.keys }
   heard_book (inputs.Call m s) book n it = it
   heard_book (inputs.GiveUp m) book n it = it
   heard_book inputs.Reco book n it = it
@@ -120,28 +115,6 @@ module _ (book : List Entry) (step : ℕ) (s : Seen) where
   -- and with one of another branch
   pub own_other : (r : Run) (a : Option Answer) → same r.branch s.me ≡ false → runs_with (runs_for s (Some r) a) book step s (Some r) ≡ s.runs
   own_other r a other = ap (λ q. runs_with (q && is_accepted a) book step s (Some r)) other
-
--- what a meaning says of the statement
-picks_none : (list : Picked) (t : Table) (rows : List Keyed) → changes_in (picked list t rows) ≡ []
-picks_none picks.All t rows = refl
-picks_none picks.Count t rows = refl
-picks_none (picks.Sum name) t rows = by (summed (map (λ r. cell t r.row name) rows) (Some values.Null))
-  where
-    by : (o : Option Value) → changes_in (summed_set name o) ≡ []
-    by None = refl
-    by (Some v) = refl
-picks_none (picks.Columns names) t rows = refl
-
-unless_none : (o : Option Refusal) (m : Meant) → changes_in m ≡ [] → changes_in (unless o m) ≡ []
-unless_none None m none = none
-unless_none (Some r) m none = refl
-
--- a query changes nothing, whatever it reads
-pub query_changes_none : (s : Stmt) (t : Table) (rows : List Keyed) → changes_rows s ≡ false → changes_in (meant s t rows) ≡ []
-unfolding meant meant_over
-query_changes_none (stmts.Select list table cs for_update) t rows query =
-    unless_none (checked (stmts.Select list table cs for_update) t) (picked list t (found (stmts.Select list table cs for_update) t rows)) (picks_none list t (found (stmts.Select list table cs for_update) t rows))
-query_changes_none _ t rows query = absurd cc
 
 -- what gives rows is a query
 pub gives_is_query : (s : Stmt) (t : Table) (rows : List Keyed) (found_rows : RowSet) → meant_over s t rows ≡ meants.Gives found_rows → changes_rows s ≡ false

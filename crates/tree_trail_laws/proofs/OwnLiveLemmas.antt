@@ -1,11 +1,11 @@
 -- Which branches are live after a turn: those that were, a root that begins with a statement of its session, and one that is opened below another.
-use Rattle.std.proofs.Common.{◌≡◌, ◌≢◌, ℕ, ◌⊎◌, not, Bool, true, false, List, unwrap_or, Some, None, inl, inr, refl, sym, ap, subst, ◌∙◌, arith, Option, ◌++◌, ◌∷◌, [], if◌then◌else◌, ◌+◌}
+use Rattle.std.proofs.Common.{◌≡◌, ◌≢◌, ℕ, ◌⊎◌, Bool, true, false, List, unwrap_or, Some, None, inl, inr, refl, sym, ap, subst, ◌∙◌, arith, Option, ◌++◌, ◌∷◌, [], if◌then◌else◌, ◌+◌}
 use Rattle.tran_ids.proofs.BranchLemmas.{equal_from_same}
 use Rattle.tran_ids.proofs.ListedLemmas.{item_is, put_or_before, drop_gone, drop_leaves}
 use Rattle.tran_ids.proofs.NumberedLemmas.{set_found}
 use Rattle.commit_forget.specs.declared.next.Next.TheVariants as nexts
 use Rattle.session_tree.specs.Live.{new_edge, fresh_live}
-use Rattle.node_rules.specs.Data.{Stmt, BranchId, Live, Act, Place, Input, Row, Kind}
+use Rattle.node_rules.specs.Data.{Stmt, BranchId, Live, Act, Place, Input, Kind}
 use Rattle.node_rules.specs.Data.acts
 use Rattle.node_rules.specs.Data.inputs
 use Rattle.node_rules.specs.Data.stmts
@@ -21,11 +21,10 @@ use Rattle.node_rules.specs.Sessions.{session_at, fresh_session, with_root}
 use Rattle.node_rules.proofs.StandLemmas.{live_so}
 use Rattle.node_rules.proofs.StepLemmas.{acting_live, gone_back_live, calling_back_live}
 use Rattle.node_rules.proofs.Steps as steps
-use Rattle.node_rules.proofs.Steps.{IsOfRows, Asked, Step, Collects, HasRoot, IsCounted, BeginsBy}
-use Rattle.run_rules.specs.Runs.{is_of_rows}
+use Rattle.node_rules.proofs.Steps.{Asked, Step, Collects, HasRoot, IsCounted, BeginsBy}
 use Rattle.run_rules.proofs.AtNodeLemmas.{item_there}
 use Rattle.run_base_laws.proofs.RootLemmas.{RootsFit, SessionsFit, begun_so, counted_so, counted_session}
-use Rattle.tree_trail_laws.proofs.OwnStepLemmas.{From, Itself, Begun, BringsNone, of_rows, called_none, came_none, collects_none, Counted}
+use Rattle.tree_trail_laws.proofs.OwnStepLemmas.{From, Itself, Begun, Counted}
 use Rattle.node_rules.specs.Marks.{next_back, branch_back, node_back}
 use Rattle.run_base_laws.proofs.BeginLemmas.{MayBegin, may_begin}
 

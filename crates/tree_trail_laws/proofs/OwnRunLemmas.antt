@@ -7,11 +7,10 @@ use Rattle.std.specs.Cmp.Lexicographic.{bytes_decides}
 use Rattle.std.proofs.lemmas.Bool.{and_parts, or_cases, or_left, or_right}
 use Rattle.dtx_values.proofs.ValueOrder.{equal_from_same}
 use Rattle.sql_check.specs.Words.{first_some}
-use Rattle.sql_check.specs.Refusals.{else_refuse}
+use Rattle.sql_check.specs.Refusals.{else_refuse, refuse_if, ora}
 use Rattle.sql_check.specs.Checks.{checked}
 use Rattle.sql_eval.specs.declared.meant.Meant.{Meant}
 use Rattle.sql_eval.specs.declared.meant.Meant.TheVariants as meants
-use Rattle.sql_eval.specs.Laws.{AreRowsOf}
 use Rattle.sql_eval.specs.Meaning.{unless, meant}
 use Rattle.sql_eval.proofs.MadeLemmas.{count_is_length}
 use Rattle.row_locks.specs.Locks.{Lock, is_lock_on, named, keys_held}
@@ -19,13 +18,14 @@ use Rattle.row_locks.specs.Held.{in_doubt_one, doubt_on}
 use Rattle.stmt_run.specs.Run.{StmtContext, held_refusal, in_doubt_refusal, locked_refusal, space_refusal, ran_within, ran_meant, ran_locked, ran_checked, ran_over, too_old_refusal}
 use Rattle.node_rules.specs.Data.{Value, Change, Table, Stmt, Refusal, Done, BranchId, Keyed, Doubt, Place}
 use Rattle.node_rules.specs.Words.{same, same_text}
-use Rattle.node_rules.specs.Rows.{same_value, get, rows_of_table, view_of}
+use Rattle.node_rules.specs.Rows.{same_value, get, rows_of_table}
 use Rattle.node_rules.specs.Meaning.{examined, written, meant_over}
 use Rattle.node_rules.specs.Names.{table_of}
 use Rattle.node_rules.specs.NodeState.{NodeState}
 use Rattle.node_rules.specs.Prepare.{own_changes}
-use Rattle.node_rules.specs.Statement.{StmtOutcome, Refuses, Reads, Writes, ground_of, ran, reads_at, rows_read}
+use Rattle.node_rules.specs.Statement.{StmtOutcome, Refuses, Reads, Writes, ground_of, ran, reads_at, rows_read, reads_too_old}
 use Rattle.run_rules.specs.Book.{commits_at, rows_of, committed_at, rows_by_book}
+use Rattle.run_rules.specs.Book.{rows_read as book_rows}
 use Rattle.run_rules.specs.Data.{Entry}
 use Rattle.run_rules.specs.Facts.{node_at}
 use Rattle.run_key_laws.specs.KeyLaws.{is_doubted_by, passes, is_held, AreHeld, KeysHeld}
@@ -37,7 +37,7 @@ use Rattle.run_key_laws.proofs.BookRunLemmas.{rows_are_told}
 use Rattle.run_key_laws.proofs.KeyRunLemmas.{keys_are_held}
 use Rattle.run_key_laws.proofs.TableLemmas.{table_is, apply_rows}
 use Rattle.run_key_laws.proofs.TableRunLemmas.{changes_are_of_tables}
-use Rattle.run_key_laws.proofs.TableStepLemmas.{Fits, one_key, sees_rows}
+use Rattle.run_key_laws.proofs.TableStepLemmas.{Fits, one_key}
 use Rattle.stmt_view_laws.specs.Views.{AgreeBut, AreInKeyOrder, IsView, SeesAlike}
 use Rattle.stmt_view_laws.proofs.AgreeLemmas.{changes_keep_agreement}
 use Rattle.stmt_view_laws.proofs.MeantLemmas.{means_alike, avoids_alike}
@@ -46,6 +46,8 @@ use Rattle.book_laws.specs.RowLaws.{doubtful_keys}
 use Rattle.book_laws.proofs.NodeDoubtLemmas.{doubts_agree}
 use Rattle.book_laws.proofs.RecordFitLemmas.{book_rows_fit}
 use Rattle.book_laws.proofs.RowLemmas.{rows_agree}
+use Rattle.version_laws.proofs.RowLemmas.{versions_agree, versions_fit, rows_until_fit}
+use Rattle.sql_eval.specs.Rows.{apply}
 
 -- ---- lists
 
@@ -137,14 +139,20 @@ no_second : (a b : Option Refusal) → else_refuse a b ≡ None → b ≡ None
 no_second (Some r) b none = absurd cc
 no_second None b none = none
 
+not_too_old : (q : Bool) → refuse_if q (ora 1555 []) ≡ None → q ≡ false
+not_too_old false none = refl
+not_too_old true none = absurd cc
+
 -- ---- a node and the book
 
--- The rows of a node are those of the book at the keys that are not in doubt, and what it keeps fits.
+-- The rows of a node are those of the book at the keys that are not in doubt, the newest ones and those at an SCN that is not too
+-- old; and what it keeps fits.
 pub record IsOfBook (book : List Entry) (n : ℕ) (k : NodeState) : Type 0 where
   pub doubts : (table : List ℕ) (test : Value → Bool) → list_any test (keys_in_doubt book n table) ≡ list_any test (doubtful_keys k.stored.doubts table)
-  pub rows : (table : List ℕ) (key : Value) → list_any (same_value key) (keys_in_doubt book n table) ≡ false → get (rows_of_table k.stored.rows table) key ≡ get (rows_of book n table) key
-  pub book_fits : (name : List ℕ) (x : Table) → table_in k.stored.durable.tables name ≡ Some x → AreRowsOf x (rows_of book n name)
-  pub order : (table : List ℕ) → AreInKeyOrder (rows_of_table k.stored.rows table)
+  pub rows : (read_at : Option ℕ) → reads_too_old k read_at ≡ false → (table : List ℕ) (key : Value) → list_any (same_value key) (keys_in_doubt book n table) ≡ false
+      → get (rows_of_table (rows_read k read_at) table) key ≡ get (book_rows book n table read_at) key
+  pub views : (read_at : Option ℕ) → reads_too_old k read_at ≡ false → (name : List ℕ) (x : Table) → table_in k.stored.durable.tables name ≡ Some x → IsView x (rows_of_table (rows_read k read_at) name)
+  pub book_views : (read_at : Option ℕ) (name : List ℕ) (x : Table) → table_in k.stored.durable.tables name ≡ Some x → IsView x (book_rows book n name read_at)
   pub fits : Fits k
   pub keys : KeysHeld k.locks k.owns k.stored.doubts
 
@@ -156,15 +164,32 @@ book_in_order : (book : List Entry) (n : ℕ) (table : List ℕ) → AreInKeyOrd
 unfolding rows_of IsStrictlySortedBy
 book_in_order book n table = changes_keep_order table (flat_map (commits_at book n) book) [] tt
 
-pub of_book : (t : History) → IsLawfulRun t → (n : ℕ) (k : NodeState) → node_at (facts_at t) n ≡ Some k → IsOfBook (facts_at t).book n k
-of_book t lawful n k up = record {
-  doubts = doubts_agree t lawful n k up;
-  rows = rows_agree t lawful n k up;
-  book_fits = book_rows_fit t lawful n k up;
-  order = λ table. subst AreInKeyOrder (sym (rows_are_told t lawful n k up table)) (told_in_order (book_of t.trace) n table);
-  fits = changes_are_of_tables t lawful n k up;
-  keys = keys_are_held t lawful n k up;
-}
+module _ (t : History) (lawful : IsLawfulRun t) (n : ℕ) (k : NodeState) (up : node_at (facts_at t) n ≡ Some k) where
+  rows_alike : (read_at : Option ℕ) → reads_too_old k read_at ≡ false → (table : List ℕ) (key : Value) → list_any (same_value key) (keys_in_doubt (facts_at t).book n table) ≡ false
+      → get (rows_of_table (rows_read k read_at) table) key ≡ get (book_rows (facts_at t).book n table read_at) key
+  rows_alike None young table key none = rows_agree t lawful n k up table key none
+  rows_alike (Some scn) young table key none = versions_agree t lawful n k up scn young table key none
+
+  kept_views : (read_at : Option ℕ) → reads_too_old k read_at ≡ false → (name : List ℕ) (x : Table) → table_in k.stored.durable.tables name ≡ Some x → IsView x (rows_of_table (rows_read k read_at) name)
+  kept_views None young name x found = record {
+    order = subst AreInKeyOrder (sym (rows_are_told t lawful n k up name)) (told_in_order (book_of t.trace) n name);
+    fit = (changes_are_of_tables t lawful n k up).0.rows_of name x found;
+  }
+  kept_views (Some scn) young name x found = (let is = versions_fit t lawful n k up scn young name x found in record { order = is.0; fit = is.1 })
+
+  told_views : (read_at : Option ℕ) (name : List ℕ) (x : Table) → table_in k.stored.durable.tables name ≡ Some x → IsView x (book_rows (facts_at t).book n name read_at)
+  told_views None name x found = record { order = book_in_order (facts_at t).book n name; fit = book_rows_fit t lawful n k up name x found }
+  told_views (Some scn) name x found = (let is = rows_until_fit t lawful n k up scn name x found in record { order = is.0; fit = is.1 })
+
+  pub of_book : IsOfBook (facts_at t).book n k
+  of_book = record {
+    doubts = doubts_agree t lawful n k up;
+    rows = rows_alike;
+    views = kept_views;
+    book_views = told_views;
+    fits = changes_are_of_tables t lawful n k up;
+    keys = keys_are_held t lawful n k up;
+  }
 
 -- ---- a run
 
@@ -179,23 +204,20 @@ IsMeantBy book n s t seen (Reads rows keys) = (meant s t seen ≡ meants.Gives r
 IsMeantBy book n s t seen (Writes d cs keys undo) = meant s t seen ≡ meants.Changes d (length cs) cs
 
 module _ (book : List Entry) (n : ℕ) (k : NodeState) (of_it : IsOfBook book n k) (p : Place) (b : BranchId) (here : b.node ≡ n) (s : Stmt) (t : Table) (name : List ℕ)
-    (found : table_of k.stored.durable name ≡ Some t) (newest : reads_at k b ≡ None) where
+    (found : table_of k.stored.durable name ≡ Some t) where
   abbrev g : StmtContext
   g = ground_of p k b t
 
   abbrev doubtful : List Value
   doubtful = doubtful_keys k.stored.doubts t.name
 
+  -- where the branch reads
+  abbrev read_at : Option ℕ
+  read_at = reads_at k b
+
   -- what the branch sees by the book
   abbrev told_view : List Keyed
-  told_view = view_by book b None (own_changes k b) t.name
-
-  -- and by the node, where it reads the newest rows
-  abbrev kept_view : List Keyed
-  kept_view = view_of k.stored.rows (own_changes k b) t.name
-
-  same_view : g.view ≡ kept_view
-  same_view = ap (λ r. view_of (rows_read k r) (own_changes k b) t.name) newest
+  told_view = view_by book b read_at (own_changes k b) t.name
 
   by_name : table_in k.stored.durable.tables t.name ≡ Some t
   by_name = subst (λ m. table_in k.stored.durable.tables m ≡ Some t) (sym (table_is k.stored.durable.tables name t found)) found
@@ -203,36 +225,31 @@ module _ (book : List Entry) (n : ℕ) (k : NodeState) (of_it : IsOfBook book n 
   locked : AllByRecursion (IsLockedInDoubt k.locks t.name) doubtful
   locked = doubts_so k.locks t.name k.stored.doubts of_it.keys.doubts
 
-  agree : AgreeBut doubtful (rows_of_table k.stored.rows t.name) (rows_of book b.node t.name)
-  agree key not_in =
-      subst (λ m. get (rows_of_table k.stored.rows t.name) key ≡ get (rows_of book m t.name) key) (sym here)
-      (of_it.rows t.name key (of_it.doubts t.name (same_value key) ∙ not_in))
+  -- its own changes keep a view one of the table
+  with_own : (rows : List Keyed) → IsView t rows → IsView t (apply t.name rows (own_changes k b))
+  with_own rows is = record { order = changes_keep_order t.name (own_changes k b) rows is.order; fit = apply_rows k.stored.durable.tables (own_changes k b) (of_it.fits.1 b) t rows by_name is.fit }
 
   second : IsView t told_view
   unfolding view_by
-  second = record {
-    order = changes_keep_order t.name (own_changes k b) (rows_of book b.node t.name) (book_in_order book b.node t.name);
-    fit = apply_rows k.stored.durable.tables (own_changes k b) (of_it.fits.1 b) t (rows_of book b.node t.name) by_name (subst (λ m. AreRowsOf t (rows_of book m t.name)) (sym here) (of_it.book_fits t.name t by_name));
-  }
+  second = with_own (book_rows book b.node t.name read_at) (subst (λ m. IsView t (book_rows book m t.name read_at)) (sym here) (of_it.book_views read_at t.name t by_name))
 
-  alike_at : in_doubt_refusal g t (examined s t kept_view (keys_held k.locks t.name)) ≡ None → SeesAlike s t doubtful (keys_held k.locks t.name) kept_view told_view
-  unfolding view_by
-  alike_at none = record {
-    one_key = one_key k b t name found of_it.fits;
-    first = record {
-      order = changes_keep_order t.name (own_changes k b) (rows_of_table k.stored.rows t.name) (of_it.order t.name);
-      fit = sees_rows k b t name found of_it.fits;
-    };
-    second = second;
-    agree = changes_keep_agreement t.name (own_changes k b) doubtful (rows_of_table k.stored.rows t.name) (rows_of book b.node t.name) agree;
-    locks = all_some (IsLockedInDoubt k.locks t.name) _ doubtful (λ key is. is.0) locked;
-    avoids = all_some (λ key. doubt_on k.locks t.name key ≡ None) _ (examined s t kept_view (keys_held k.locks t.name)) (not_doubtful k.locks t.name doubtful locked)
-        (unheld (doubt_on k.locks t.name) (examined s t kept_view (keys_held k.locks t.name)) (nobody 1591 _ none));
-  }
+  module _ (young : reads_too_old k read_at ≡ false) where
+    agree : AgreeBut doubtful (rows_of_table (rows_read k read_at) t.name) (book_rows book b.node t.name read_at)
+    agree key not_in =
+        subst (λ m. get (rows_of_table (rows_read k read_at) t.name) key ≡ get (book_rows book m t.name read_at) key) (sym here)
+        (of_it.rows read_at young t.name key (of_it.doubts t.name (same_value key) ∙ not_in))
 
-  alike : in_doubt_refusal g t (examined s t g.view (keys_held k.locks t.name)) ≡ None → SeesAlike s t doubtful (keys_held k.locks t.name) g.view told_view
-  alike none =
-      subst (λ v. SeesAlike s t doubtful (keys_held k.locks t.name) v told_view) (sym same_view) (alike_at (subst (λ v. in_doubt_refusal g t (examined s t v (keys_held k.locks t.name)) ≡ None) same_view none))
+    alike : in_doubt_refusal g t (examined s t g.view (keys_held k.locks t.name)) ≡ None → SeesAlike s t doubtful (keys_held k.locks t.name) g.view told_view
+    unfolding view_by
+    alike none = record {
+      one_key = one_key k b t name found of_it.fits;
+      first = with_own (rows_of_table (rows_read k read_at) t.name) (of_it.views read_at young t.name t by_name);
+      second = second;
+      agree = changes_keep_agreement t.name (own_changes k b) doubtful (rows_of_table (rows_read k read_at) t.name) (book_rows book b.node t.name read_at) agree;
+      locks = all_some (IsLockedInDoubt k.locks t.name) _ doubtful (λ key is. is.0) locked;
+      avoids = all_some (λ key. doubt_on k.locks t.name key ≡ None) _ (examined s t g.view (keys_held k.locks t.name)) (not_doubtful k.locks t.name doubtful locked)
+          (unheld (doubt_on k.locks t.name) (examined s t g.view (keys_held k.locks t.name)) (nobody 1591 _ none));
+    }
 
   -- the meaning over both
   meant_both : checked s t ≡ None → SeesAlike s t doubtful (keys_held k.locks t.name) g.view told_view → (m : Meant) → meant_over s t g.view ≡ m → meant s t told_view ≡ m
@@ -256,7 +273,7 @@ module _ (book : List Entry) (n : ℕ) (k : NodeState) (of_it : IsOfBook book n 
   by_locks : (o : Option Refusal) → checked s t ≡ None
       → else_refuse (too_old_refusal g) (else_refuse (in_doubt_refusal g t (examined s t g.view (keys_held k.locks t.name))) (locked_refusal g t (written s t g.view))) ≡ o → IsMeantBy book n s t told_view (ran_locked g s t o)
   by_locks (Some r) check is = tt
-  by_locks None check is = by_meaning check (alike (no_first _ _ (no_second _ _ is))) (meant_over s t g.view) refl
+  by_locks None check is = by_meaning check (alike (not_too_old (reads_too_old k read_at) (no_first _ _ is)) (no_first _ _ (no_second _ _ is))) (meant_over s t g.view) refl
 
   by_checks : (o : Option Refusal) → checked s t ≡ o → IsMeantBy book n s t told_view (ran_checked g s t o)
   by_checks (Some r) is = tt

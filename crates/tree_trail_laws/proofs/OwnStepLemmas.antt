@@ -4,7 +4,7 @@ use Rattle.std.proofs.Common.{◌≡◌, ℕ, ◌⊎◌, not, Bool, true, false,
 use Rattle.tran_ids.proofs.BranchLemmas.{equal_from_same}
 use Rattle.tran_ids.proofs.ListedLemmas.{drop_gone, drop_leaves, put_found, put_leaves}
 use Rattle.commit_forget.specs.declared.next.Next.TheVariants as nexts
-use Rattle.node_rules.specs.Data.{Table, Stmt, Done, Advice, BranchId, Decision, Kind, Live, Act, Next, Place, Input, Post, Row, Owned}
+use Rattle.node_rules.specs.Data.{Table, Stmt, Done, Advice, BranchId, Decision, Kind, Live, Act, Next, Place, Input, Post, Owned}
 use Rattle.node_rules.specs.Data.acts
 use Rattle.node_rules.specs.Data.answers
 use Rattle.node_rules.specs.Data.inputs
@@ -15,9 +15,8 @@ use Rattle.session_tree.specs.Live.{peer_of, new_edge}
 use Rattle.node_rules.specs.Words.{same, item_at, drop_item, put_item}
 use Rattle.node_rules.specs.Inputs.{Came, IsCall, Brings, Commit_came, Rollback_came, Rolled_back_came}
 use Rattle.node_rules.specs.Names.{Runs_here, way_of, passed_on}
-use Rattle.node_rules.specs.Rows.{changes_of}
 use Rattle.node_rules.specs.NodeState.{NodeState, Branch, TurnDraft, live_id, own_id, sets_of, live_at, branch_at, nothing, saying, ending, work_at, work_id, sets_at, with_work, work_or}
-use Rattle.node_rules.specs.Prepare.{own_changes, act_turn}
+use Rattle.node_rules.specs.Prepare.{act_turn}
 use Rattle.node_rules.specs.Calls.{runs_here, answered, answer_says, answer_ends, exec_to, calls_over, opens_through, called, with_edge, calls_with, less_room}
 use Rattle.node_rules.specs.Commit.{next_turn}
 use Rattle.node_rules.specs.Client.{begun_by, begun, counted}
@@ -25,7 +24,6 @@ use Rattle.node_rules.specs.Sessions.{session_at}
 use Rattle.node_rules.specs.Turn.{output_of}
 use Rattle.node_rules.proofs.Steps as steps
 use Rattle.node_rules.proofs.Steps.{IsOfRows, Asked, Collects, Acting, Doing, Says, Makes, Completes, Drops, Step, vote_kind, purge_of, BeginsBy, Calls_back, EndsAtOnce, Goes_to, IsCounted}
-use Rattle.run_key_laws.specs.ChangedLaws.{changes_at}
 use Rattle.run_rules.specs.Runs.{is_of_rows, answered_by, is_accepted, begins_transaction, is_counted}
 use Rattle.run_rules.specs.Trail.{is_exec}
 use Rattle.node_rules.specs.Data.tasks

@@ -3,7 +3,7 @@ use Rattle.std.proofs.Common.{◌≡◌, ℕ, ◌==◌, ◌&&◌, ◌⊎◌, Boo
 use Rattle.std.proofs.lemmas.Bool.{eq-eqb, and_left, and_right}
 use Rattle.tran_ids.proofs.BranchLemmas.{equal_from_same, same_from_equal}
 use Rattle.tran_ids.proofs.ListedLemmas.{item_is}
-use Rattle.node_rules.specs.Data.{Stmt, Advice, BranchId, Kind, Live, Msg, Input, Task}
+use Rattle.node_rules.specs.Data.{Stmt, BranchId, Kind, Live, Msg, Input, Task}
 use Rattle.node_rules.specs.Data.inputs
 use Rattle.node_rules.specs.Data.kinds
 use Rattle.node_rules.specs.Words.{same, is_item_of, item_at}
@@ -11,7 +11,7 @@ use Rattle.node_rules.specs.Inputs.{IsSession, Came, IsCall}
 use Rattle.node_rules.specs.NodeState.{NodeState, Branch, live_id, work_or, sets_of, live_at, branch_at, work_at, with_work, kept_row_at, sets_at, no_work}
 use Rattle.node_rules.specs.Rows.{changes_of}
 use Rattle.node_rules.specs.Prepare.{own_changes}
-use Rattle.node_rules.specs.Client.{new_root, begun_by}
+use Rattle.node_rules.specs.Client.{new_root}
 use Rattle.node_rules.specs.Sessions.{session_at}
 use Rattle.node_rules.specs.Turn.{heard, draft_of, kind_turn, Is_live, status_of, live_or}
 use Rattle.node_rules.proofs.Steps.{HasRoot, Step, Asked, IsOfRows}
@@ -44,8 +44,8 @@ use Rattle.tree_trail_laws.proofs.MomentLemmas.{tr_at}
 use Rattle.tree_trail_laws.proofs.OwnAskLemmas.{RootsAre}
 use Rattle.tree_trail_laws.proofs.OwnCallLemmas.{last_of, calls_on, exec_took}
 use Rattle.tree_trail_laws.proofs.OwnKnowLemmas.{Knows, heard_knows, known_own}
-use Rattle.tree_trail_laws.proofs.OwnLiveLemmas.{NewRoot, IsOfThese, lives_on, root_there, new_is, has_at}
-use Rattle.tree_trail_laws.proofs.OwnStepLemmas.{From, Itself, of_rows, Begun, Counted}
+use Rattle.tree_trail_laws.proofs.OwnLiveLemmas.{NewRoot, IsOfThese, lives_on, new_is, has_at}
+use Rattle.tree_trail_laws.proofs.OwnStepLemmas.{From, Itself, Begun, Counted}
 use Rattle.tree_trail_laws.proofs.OwnRecordLemmas.{heard_owns}
 use Rattle.tree_trail_laws.proofs.PlanLemmas.{find_more, find_last}
 use Rattle.tree_laws.proofs.AtTurn.{at_turn}
@@ -464,6 +464,21 @@ module _ (t : History) (whole : IsLawfulRun t) where
           either : (o : Option Live) → live_at k l.me ≡ o → (knows_after l live).seen.read_at ≡ None
           either (Some z) there = newest_old l live z (ap (λ (ls : List Live). item_at live_id ls l.me) (heard_same u.input).2 ∙ there) newest
           either None none = by none (lives_on p u.input l.me step l live)
+
+      -- what was told before of where it reads is told after it
+      pub reads_before : {j : NodeState} {x : Branch} {s : Stmt} {given : ℕ} → From p u.input k1 j → Asked j u.input x s given → (l : Live) (live : live_at d.after l.me ≡ Some l) → l.me ≡ x.live.me
+          → read_at_at tr0 l.me ≡ (knows_after l live).seen.read_at
+      reads_before from asked l live me = by (seen_at tr0 l.me) refl
+        where
+          it : Knows k1 trb l.me
+          it = knows_after l live
+
+          by : (o : Option Seen) → seen_at tr0 l.me ≡ o → read_at_of o ≡ it.seen.read_at
+          by None none = sym (newest_before from asked l live me (ap read_at_of none))
+          by (Some y) at =
+              let both : Some y ≡ Some it.seen = sym (find_more (is_item_of seen_id l.me) tr0.seen _ y at) ∙ it.at in
+              let one : y ≡ it.seen = cc in
+              ap (λ (z : Seen). z.read_at) one
 
       -- it is told to read where its node says that it does
       pub reads_after : (l : Live) (live : live_at d.after l.me ≡ Some l) → (knows_after l live).seen.read_at ≡ l.read_at

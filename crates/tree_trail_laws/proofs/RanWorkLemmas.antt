@@ -9,7 +9,6 @@ use Rattle.node_rules.specs.Data.stmts
 use Rattle.node_rules.specs.declared.work.Work.{Work}
 use Rattle.node_rules.specs.Words.{same, item_at, put_item}
 use Rattle.node_rules.specs.Rows.{set_over}
-use Rattle.node_rules.specs.Names.{is_write}
 use Rattle.node_rules.specs.NodeState.{NodeState, Branch, own_id, sets_of, sets_at, work_id, work_or, work_at}
 use Rattle.node_rules.specs.Statement.{StmtOutcome, Refuses, Reads, Writes, ground_of, ran, after_run, answer_of_run, owns_after, view}
 use Rattle.node_rules.specs.Calls.{answered_sessions, branch_ran, with_answer}
@@ -24,7 +23,7 @@ use Rattle.run_rules.specs.Runs.{is_accepted, changes_in, changes_rows, view_by,
 use Rattle.run_rules.specs.Trail.{runs_with, savepoints_set}
 use Rattle.node_rules.specs.Data.inputs
 use Rattle.tree_trail_laws.specs.RunLaws.{RunsAre}
-use Rattle.tree_trail_laws.proofs.OwnKnowLemmas.{query_changes_none, gives_is_query, changes_is_none}
+use Rattle.tree_trail_laws.proofs.OwnKnowLemmas.{gives_is_query, changes_is_none}
 use Rattle.tree_trail_laws.proofs.OwnRunLemmas.{IsMeantBy}
 use Rattle.tree_trail_laws.proofs.OwnStepLemmas.{found_work}
 use Rattle.tree_trail_laws.proofs.RootCallLemmas.{answered_calls}
@@ -90,21 +89,10 @@ meant_query s t rows found is = by (checked s t) is
     by None is = gives_is_query s t rows found is
     by (Some r) is = absurd cc
 
--- of one that reads the newest rows
-pub newest_says : (book : List Entry) (n : ℕ) (s : Stmt) (t : Table) (rows : List Keyed) (r : StmtOutcome) → IsMeantBy book n s t rows r → ChangesRows s r → Says s t rows r
-newest_says book n s t rows (Refuses e) so changes = tt
-newest_says book n s t rows (Reads found keys) so changes = (meant_query s t rows found so.0, ap changes_in so.0)
-newest_says book n s t rows (Writes d cs keys undo) so changes = (changes, ap changes_in so)
-
-reading_query : (s : Stmt) → is_write s ≡ false → changes_rows s ≡ false
-reading_query (stmts.Select list table cs for_update) reads = refl
-reading_query _ reads = absurd cc
-
--- and of one that reads at an SCN
-pub reader_says : (s : Stmt) (t : Table) (rows : List Keyed) (r : StmtOutcome) → is_write s ≡ false → ChangesRows s r → Says s t rows r
-reader_says s t rows (Refuses e) reads changes = tt
-reader_says s t rows (Reads found keys) reads changes = (reading_query s reads, query_changes_none s t rows (reading_query s reads))
-reader_says s t rows (Writes d cs keys undo) reads changes = (let query = reading_query s reads in absurd (cc (query, changes)))
+pub meant_says : (book : List Entry) (n : ℕ) (s : Stmt) (t : Table) (rows : List Keyed) (r : StmtOutcome) → IsMeantBy book n s t rows r → ChangesRows s r → Says s t rows r
+meant_says book n s t rows (Refuses e) so changes = tt
+meant_says book n s t rows (Reads found keys) so changes = (meant_query s t rows found so.0, ap changes_in so.0)
+meant_says book n s t rows (Writes d cs keys undo) so changes = (changes, ap changes_in so)
 
 -- ---- the node after it
 

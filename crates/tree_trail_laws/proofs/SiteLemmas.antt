@@ -1,6 +1,5 @@
 -- Where the happenings tell of live branches what their nodes keep, a decision is made by the commit point site of its tree and covers it.
-use Rattle.std.proofs.Common.{◌≡◌, Bool, true, if◌then◌else◌, is_some, slice_get, length, List, [], ◌∷◌, ◌++◌, Option, Some, None, refl, sym, ap, subst, ◌∙◌, arith}
-use Rattle.std.proofs.lemmas.Bool.{lt-ltb}
+use Rattle.std.proofs.Common.{◌≡◌, Bool, true, if◌then◌else◌, is_some, slice_get, List, [], ◌∷◌, ◌++◌, Option, Some, None, refl, sym, ap, subst, ◌∙◌}
 use Rattle.std.proofs.lemmas.List.{append_assoc}
 use Rattle.std.specs.Prelude.{IfSome}
 use Rattle.std.specs.List.{AllByRecursion}
@@ -9,7 +8,7 @@ use Rattle.tran_ids.proofs.BranchLemmas.{same_from_equal}
 use Rattle.tran_ids.proofs.ListedLemmas.{item_is}
 use Rattle.session_tree.specs.Live.{children_of as kept_children}
 use Rattle.agreement.specs.Events.{Sealed, Decided, first, exit}
-use Rattle.node_rules.specs.Data.{BranchId, Change, Live, RedoRecord, Decided as DecidedRecord}
+use Rattle.node_rules.specs.Data.{BranchId, Live, RedoRecord, Decided as DecidedRecord}
 use Rattle.node_rules.specs.declared.session.PendingCall.TheVariants as pending
 use Rattle.node_rules.specs.Data.phases
 use Rattle.node_rules.specs.Data.records

@@ -14,7 +14,7 @@ use Rattle.node_rules.specs.Prepare.{collecting, with_comment, first_act, withou
 use Rattle.node_rules.specs.Client.{begun, begun_by, statement_by, statement_call, call_turn, commit_by, commit_call, rollback_by, statement_given_up, commit_given_up, give_up_by, give_up_turn, root_by, root_at, back_by, back_call, back_to_savepoint, commit_at, counted, leaves, savepoint_by, savepoint_call, read_only_by, refuses, is_write}
 use Rattle.node_rules.specs.Turn.{output_of}
 use Rattle.node_rules.proofs.StandLemmas.{live_so}
-use Rattle.run_rules.specs.Runs.{is_of_rows, answered_by, is_refused, begins_transaction, is_counted}
+use Rattle.run_rules.specs.Runs.{answered_by, is_refused, begins_transaction, is_counted}
 use Rattle.run_rules.specs.Trail.{begins_collect, input_drops}
 use Rattle.run_rules.specs.Branches.{Seen}
 use Rattle.tree_trail_laws.proofs.HearLemmas.{Alike, IsBusy, kept_alike, goes_alike, act_live, collected_busy, goes_back_alike, same_alike}

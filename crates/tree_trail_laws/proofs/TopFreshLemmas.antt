@@ -20,7 +20,7 @@ use Rattle.node_rules.specs.Calls.{goes, exec_to, nobody_at}
 use Rattle.node_rules.specs.Client.{new_root, fresh_root, begun_by, begun, statement_by, statement_call, call_turn, root_at, allowed_at, counted, read_only_by, savepoint_by, savepoint_call}
 use Rattle.node_rules.proofs.StandLemmas.{RootSo, live_so, root_so, session_set}
 use Rattle.node_rules.proofs.SessionLemmas.{seqs, set_seqs, pends_seqs, answered_seqs, counted_seqs}
-use Rattle.run_rules.specs.Runs.{is_of_rows, begins_transaction}
+use Rattle.run_rules.specs.Runs.{begins_transaction}
 use Rattle.run_rules.proofs.AtNodeLemmas.{item_there}
 use Rattle.run_base_laws.proofs.RootLemmas.{SessionsFit, counted_session}
 use Rattle.tree_trail_laws.proofs.ChildStepLemmas.{called_by, still_calls}

@@ -20,7 +20,7 @@ use Rattle.node_rules.specs.Calls.{with_edge, hears_reply, heard_sessions, is_op
 use Rattle.node_rules.specs.Prepare.{is_alone}
 use Rattle.node_rules.specs.Client.{new_root, counted}
 use Rattle.node_rules.proofs.Steps as steps
-use Rattle.node_rules.proofs.Steps.{Step, IsOfRows}
+use Rattle.node_rules.proofs.Steps.{Step}
 use Rattle.node_rules.proofs.StandLemmas.{session_set}
 use Rattle.node_rules.proofs.SessionLemmas.{seqs, set_seqs, still_seqs, call_seqs, needs_seqs, ended_seqs, pends_seqs, answered_seqs, heard_seqs, decided_seqs, abandoned_seqs, ended_if_seqs, counted_seqs}
 use Rattle.run_rules.specs.Births.{Born, roots_by, births_by_call, births_by_open, births_by_kind, births_by, births_at, births_after, births_from, births_of, read_at_by}
@@ -28,7 +28,7 @@ use Rattle.run_rules.specs.Data.{Happening, Command}
 use Rattle.run_rules.specs.Data.happenings
 use Rattle.run_rules.specs.Facts.{Facts, first_facts, place_at, node_at, facts_after}
 use Rattle.run_rules.specs.Lawful.{History}
-use Rattle.run_rules.specs.Runs.{is_of_rows, begins_transaction}
+use Rattle.run_rules.specs.Runs.{begins_transaction}
 use Rattle.run_rules.proofs.AtNodeLemmas.{item_there}
 use Rattle.run_rules.proofs.ListLemmas.{all_append}
 use Rattle.run_base_laws.proofs.RootLemmas.{SessionsFit, pends_so, begun_so, counted_session, counted_so, back_so}

@@ -2,7 +2,7 @@
 -- of the runs that changed rows, the notes of the branch count a set for each of these at its step, and the savepoints are alike. A
 -- branch that goes back to a savepoint loses the runs of later steps, and the node the sets of these. (SQL Language Reference:
 -- SAVEPOINT, ROLLBACK.)
-use Rattle.std.specs.Prelude.{◌≡◌, ℕ, zero, suc, ◌≤◌, Bool, false, List, [], ◌∷◌, flat_map, filter, map, Some}
+use Rattle.std.specs.Prelude.{◌≡◌, ℕ, zero, suc, ◌≤◌, false, List, [], ◌∷◌, flat_map, filter, map, Some}
 use Rattle.std.specs.List.{AllByRecursion}
 use Rattle.node_rules.specs.Data.{ChangeSet, Note, Live}
 use Rattle.node_rules.specs.Marks.{step_of}

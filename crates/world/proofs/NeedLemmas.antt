@@ -1,6 +1,6 @@
 -- What other crates prove of the runs of scripts, as the world needs it: the turn that is due can be taken, what is due is there, and
 -- starts and deliveries are few.
-use Rattle.std.proofs.Common.{◌≡◌, ◌-◌, ℕ, Option, Some, None, IfSome, refl, sym, subst, arith}
+use Rattle.std.proofs.Common.{◌≡◌, ℕ, Option, Some, None, IfSome, refl, sym, subst, arith}
 use Rattle.node_rules.specs.Data.{Input, Stmt}
 use Rattle.node_rules.specs.Data.inputs
 use Rattle.node_rules.specs.NodeState.{NodeState, TurnOutput}

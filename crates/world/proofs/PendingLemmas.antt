@@ -1,10 +1,10 @@
 -- The nodes of the world have as many rows of DBA_2PC_PENDING as those of the facts.
-use Rattle.std.proofs.Common.{◌≡◌, ◌∙◌, ℕ, zero, suc, ◌+◌, List, [], ◌∷◌, length, Option, Some, None, refl, sym, ap, arith}
+use Rattle.std.proofs.Common.{◌≡◌, ◌∙◌, ℕ, suc, ◌+◌, List, [], ◌∷◌, length, Option, Some, refl, sym, ap, arith}
 use Rattle.std.specs.Prelude.{slice_get, sum_by}
 use Rattle.std.proofs.Math.Path.{ap₂}
 use Rattle.std.proofs.lemmas.List.Sums.{sum_by-cons}
 use Rattle.node_rules.specs.NodeState.{NodeState}
-use Rattle.run_rules.specs.Facts.{flat, node_at}
+use Rattle.run_rules.specs.Facts.{flat}
 use Rattle.run_trace.specs.Recorded.{past_of}
 use Rattle.world.specs.declared.slot.NodeSlot.{NodeSlot}
 use Rattle.world.specs.declared.world.World.{World}

@@ -5,4 +5,4 @@ use Rattle.read_only_tx.proofs.the_tried_versions.Goals as goal
 
 pub returns : goal.returns
 unfolding rows_at
-returns c = record { kept = refl; floor = refl; too_old = refl; old_enough = refl; before = refl; behind = refl }
+returns c = record { kept = refl; floor = refl; too_old = refl; old_enough = refl; before = refl; first = refl; behind = refl }

@@ -8,39 +8,44 @@ use Rattle.node_rules.specs.Statement.{makes_changes}
 use Rattle.node_state.specs.Lives.{changed_by}
 use Rattle.node_memory.specs.Parts.{kept_in, stored_in}
 use Rattle.node_calls.proofs.BranchLaws.{few_changed}
-use Rattle.sql_eval.specs.Laws.{AreRowsOf}
-use Rattle.node_calls.proofs.GroundLaws.{at_store, ran_here, seen_newest}
+use Rattle.node_calls.proofs.GroundLaws.{at_store, ran_here, sees_rows}
+use Rattle.node_calls.proofs.PastLaws.{reads_query}
 use Rattle.node_calls.proofs.WayLaws.{depth_there, over_so, refused_so, through_so, way_deep}
 use Rattle.node_calls.proofs.TableLaws.{has_key, rows_kept, rows_seen}
 use Rattle.node_calls.proofs.routing.statement_at.Goals as goal
 
 -- ---- it runs here
 
-pub run_over-requires-clause-one_key : goal.run_over-requires-clause-one_key
-run_over-requires-clause-one_key c =
+pub run_at-requires-clause-one_key : goal.run_at-requires-clause-one_key
+run_at-requires-clause-one_key c =
     let m = c.args.memory.now in
     let way = sym (c.in-RunsHere.ensures (stored_in m).durable refl) in
     has_key m.place (kept_in m) c.in-Some.live.now c.args.given c.args.statement.now c.in-RunsHere.table.now c.requires.rows way c.args.branch.now
 
-pub run_over-requires-clause-table : goal.run_over-requires-clause-table
-run_over-requires-clause-table c =
+pub run_at-requires-clause-table : goal.run_at-requires-clause-table
+run_at-requires-clause-table c =
     let m = c.args.memory.now in
     let way = sym (c.in-RunsHere.ensures (stored_in m).durable refl) in
     rows_kept m.place (kept_in m) c.in-Some.live.now c.args.given c.args.statement.now c.in-RunsHere.table.now c.requires.rows way
 
-pub run_over-requires-clause-rows : goal.run_over-requires-clause-rows
-run_over-requires-clause-rows c =
+pub run_at-requires-clause-rows : goal.run_at-requires-clause-rows
+run_at-requires-clause-rows c =
     let m = c.args.memory.now in
     let way = sym (c.in-RunsHere.ensures (stored_in m).durable refl) in
     let t = c.in-RunsHere.table.now in
-    subst (AreRowsOf t) (sym (seen_newest m c.args.branch.now c.in-Some.live.now t.name (sym c.in-Some.ensures.live) c.in_ok-reads_newest-in-RunsHere.ensures))
-    (rows_seen m.place (kept_in m) c.in-Some.live.now c.args.given c.args.statement.now t c.requires.rows way c.args.branch.now)
+    sees_rows m c.args.branch.now c.in-Some.live.now t (sym c.in-Some.ensures.live) (rows_seen m.place (kept_in m) c.in-Some.live.now c.args.given c.args.statement.now t c.requires.rows way c.args.branch.now)
+
+pub run_at-requires-clause-query : goal.run_at-requires-clause-query
+run_at-requires-clause-query c =
+    let m = c.args.memory.now in
+    let way = sym (c.in-RunsHere.ensures (stored_in m).durable refl) in
+    reads_query m.place (stored_in m).durable c.in-Some.live.now c.args.given c.args.statement.now c.in-RunsHere.table.now way
 
 pub answer-requires : goal.answer-requires
 answer-requires c =
     let m = c.args.memory.now in
     let b = c.args.branch.now in
-    let changes = makes_changes (at_store m b c.args.statement.now c.in-RunsHere.table.now) in
+    let changes = makes_changes (at_store m b c.args.statement.now c.in-RunsHere.table.now c.in-Some.live.now.read_at) in
     subst (λ (ls : List Live). IfSome (item_at live_id ls b) (λ l. count l < 2 ^ 16)) (sym c.in_ok-told-in-RunsHere.ensures.lives) (few_changed (changed_by changes) (λ l. refl) (λ l. refl) m.lives b c.requires.few)
 
 pub returns-in_ok-told-in-RunsHere-clause-gives : goal.returns-in_ok-told-in-RunsHere-clause-gives
@@ -48,7 +53,7 @@ returns-in_ok-told-in-RunsHere-clause-gives c =
     let m = c.args.memory.now in
     let way = sym (c.in-RunsHere.ensures (stored_in m).durable refl) in
     ran_here m m.own_undo c.args.branch.now c.args.statement.now c.in-RunsHere.table.now c.in-Some.live.now c.args.given c.step_of-step.result c.in_ok-told-in-RunsHere.told _ _ _ _ (kept_in c.answer.new.memory) c.answer.result (sym c.in-Some.ensures.live)
-    c.in_ok-reads_newest-in-RunsHere.ensures way c.step_of-step.ensures c.in_ok-told-in-RunsHere.ensures.answer c.in_ok-told-in-RunsHere.ensures.store c.in_ok-told-in-RunsHere.ensures.locks c.in_ok-told-in-RunsHere.ensures.lives
+    way c.step_of-step.ensures c.in_ok-told-in-RunsHere.ensures.answer c.in_ok-told-in-RunsHere.ensures.store c.in_ok-told-in-RunsHere.ensures.locks c.in_ok-told-in-RunsHere.ensures.lives
     c.in_ok-told-in-RunsHere.ensures.works c.answer.ensures.gives
 
 -- ---- it is refused

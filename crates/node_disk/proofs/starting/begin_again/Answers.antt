@@ -8,7 +8,7 @@ use Rattle.block_disk.specs.Images.{AtEachMoment}
 use Rattle.node_rules.specs.Data.{Place}
 use Rattle.node_disk.specs.Starts.{MayBeHad, IsStartable}
 use Rattle.node_disk.specs.OnDisk.{place_of, kept_of, disk_of}
-use Rattle.node_disk.proofs.PlanLaws.{untouched_same}
+use Rattle.redo_log.proofs.PlanLaws.{untouched_same}
 use Rattle.node_disk.proofs.StartLaws.{ready_started, undo_started, stands_started, startable_begun, startable_left}
 use Rattle.node_disk.proofs.starting.begin_again.Goals as goal
 

@@ -17,7 +17,7 @@ no_byte bytes h = rw (nil_from_length bytes (eqb-true _ _ h)) refl
 
 pub returns-in_err-token : goal.returns-in_err-token
 returns-in_err-token c =
-    let p = err_from_is_err_and c.from_residual.result c.from_residual.ensures.1 in
+    let p = err_from_is_err_and c.from_residual-in_err-token.result c.from_residual-in_err-token.ensures.1 in
     rw (p.1, p.2) (ends any_byte lexeme_at c.in_err-token.field-0.0 c.loop.tokens.items (length c.args.bytes.now) c.loop.counter c.loop.rest.now _ c.loop-test.true (some_byte _ (sym c.is_empty.ensures ∙ c.if-is_empty.false)) c.in_err-token.ensures c.loop.invariant)
 
 pub loop-preserved : goal.loop-preserved

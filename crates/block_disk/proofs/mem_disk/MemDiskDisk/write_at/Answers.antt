@@ -1,5 +1,5 @@
 -- The plan after a write.
-use Rattle.std.proofs.Common.{Option, Some, sym, ap, ◌∙◌}
+use Rattle.std.proofs.Common.{Some, sym, ap, ◌∙◌}
 use Rattle.block_disk.specs.Plan.{FaultPlan}
 use Rattle.block_disk.specs.Orders.{plan_of}
 use Rattle.block_disk.specs.declared.faults.DiskFaults.{DiskFaults}

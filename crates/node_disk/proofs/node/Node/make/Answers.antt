@@ -6,7 +6,7 @@ use Rattle.record_log.specs.Log.{disk_of as disk_of_log}
 use Rattle.node_disk.specs.OnDisk.{place_of, kept_of, disk_of}
 use Rattle.node_disk.proofs.MakeLaws.{holds_first, ready_made, undo_made, stands_made, may_be_begun, may_be_made, may_be_empty}
 use Rattle.node_disk.proofs.CutLaws.{starts_if_only}
-use Rattle.node_disk.proofs.PlanLaws.{untouched_same, run_untouched, run_over, fault_over, fault_early}
+use Rattle.redo_log.proofs.PlanLaws.{untouched_same, run_untouched, run_over, fault_over, fault_early}
 use Rattle.node_disk.proofs.node.Node.make.Goals as goal
 
 pub returns-in-Ok-begin-clause-made : goal.returns-in-Ok-begin-clause-made

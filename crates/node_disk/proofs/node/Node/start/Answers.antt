@@ -11,7 +11,7 @@ use Rattle.node_disk.specs.OnDisk.{disk_of}
 use Rattle.node_disk.specs.Calls.{HasRestarted}
 use Rattle.node_disk.proofs.StartLaws.{had_of, startable_loaded, startable_again, left_loading, left_writing}
 use Rattle.node_disk.proofs.CutLaws.{can_start, starts_running}
-use Rattle.node_disk.proofs.PlanLaws.{run_untouched, run_over, fault_over, fault_early}
+use Rattle.redo_log.proofs.PlanLaws.{run_untouched, run_over, fault_over, fault_early}
 use Rattle.node_disk.proofs.node.Node.start.Goals as goal
 
 pub begin_again-requires-clause-had : goal.begin_again-requires-clause-had

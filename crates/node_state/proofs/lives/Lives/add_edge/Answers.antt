@@ -2,7 +2,7 @@ use Rattle.std.proofs.Common.{◌≡◌, ◌<◌, Option, Some, length, sym, ap,
 use Rattle.std.specs.Prelude.{IfSome, OnErr, Result, Ok, Err}
 use Rattle.std.specs.Map.{values_of}
 use Rattle.indexmap.specs.Layout.{set_value_at}
-use Rattle.dtx_values.specs.Limits.{branch_limit}
+use Rattle.dtx_values.specs.Limits.{link_limit}
 use Rattle.tran_ids.specs.Listed.{item_at}
 use Rattle.session_tree.specs.declared.live.Live.{Live}
 use Rattle.session_tree.specs.Live.{add_edge}
@@ -19,8 +19,8 @@ on_err (Ok x) p = tt
 on_err (Err e) p = p
 
 -- what is asked of the branch's item holds of the one that is there
-asked : (o : Option Live) (x : Live) → o ≡ Some x → IfSome o (λ live. length live.edges < branch_limit) → length x.edges < branch_limit
-asked o x is room = subst (λ p. IfSome p (λ (live : Live). length live.edges < branch_limit)) is room
+asked : (o : Option Live) (x : Live) → o ≡ Some x → IfSome o (λ live. length live.edges < link_limit) → length x.edges < link_limit
+asked o x is room = subst (λ p. IfSome p (λ (live : Live). length live.edges < link_limit)) is room
 
 pub add_edge-requires : goal.add_edge-requires
 add_edge-requires c =

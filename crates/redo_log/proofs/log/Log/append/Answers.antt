@@ -3,10 +3,11 @@ use Rattle.std.proofs.Common.{◌∙◌, refl, arith}
 use Rattle.redo_log.proofs.Appended.{at_start, with_room, while_stored, stored, exact, settled_again, left}
 use Rattle.redo_log.specs.Plans.{append_calls}
 use Rattle.redo_log.proofs.Runs.{run_with_room, fault_with_room}
+use Rattle.redo_log.proofs.Settled.{not_both}
 use Rattle.redo_log.proofs.log.Log.append.Goals as goal
 
-pub returns-then-body-gt-MAX_BODY-clause-any_moment : goal.returns-then-body-gt-MAX_BODY-clause-any_moment
-returns-then-body-gt-MAX_BODY-clause-any_moment g c = λ intact. at_start _ _ _ (c.requires.usable intact) _ _ _ (g.met.D.Disk.only_now _)
+pub returns-in_err-check-clause-any_moment : goal.returns-in_err-check-clause-any_moment
+returns-in_err-check-clause-any_moment g c = λ intact. at_start _ _ _ (c.requires.usable intact) _ _ _ (g.met.D.Disk.only_now _)
 
 pub returns-in_default-clause-any_moment : goal.returns-in_default-clause-any_moment
 returns-in_default-clause-any_moment g c = λ intact. at_start _ _ _ (c.requires.usable intact) _ _ _ (g.met.D.Disk.only_now _)
@@ -22,22 +23,22 @@ returns-in_err-behind-clause-any_moment g c =
 pub returns-in-Ok-clause-any_moment : goal.returns-in-Ok-clause-any_moment
 returns-in-Ok-clause-any_moment g c =
     λ intact. while_stored _ _ _ (c.requires.usable intact) _ _ _ (g.met.D.Disk.only_now _) _ _ _ c.room.ensures.images c.room.ensures.time
-    c.room.ensures.content (c.deref.ensures.value ∙ c.in_ok-behind.ensures) (omega arith) c.store.ensures.any_moment
+    c.room.ensures.content (c.deref.ensures.value ∙ c.in_ok-behind.ensures) (omega (arith, c.in_ok-check.ensures.ok.1)) c.store.ensures.any_moment
 
 pub returns-clause-any_moment : goal.returns-clause-any_moment
 returns-clause-any_moment g c =
     λ intact. while_stored _ _ _ (c.requires.usable intact) _ _ _ (g.met.D.Disk.only_now _) _ _ _ c.room.ensures.images c.room.ensures.time
-    c.room.ensures.content (c.deref.ensures.value ∙ c.in_ok-behind.ensures) (omega arith) c.store.ensures.any_moment
+    c.room.ensures.content (c.deref.ensures.value ∙ c.in_ok-behind.ensures) (omega (arith, c.in_ok-check.ensures.ok.1)) c.store.ensures.any_moment
 
 pub returns-in-Ok-clause-acknowledged : goal.returns-in-Ok-clause-acknowledged
 returns-in-Ok-clause-acknowledged g c =
-    let is = c.requires.usable c.if-self.false in
+    let is = c.requires.usable c.in_ok-check.ensures.ok.0 in
     let staged = c.deref.ensures.value ∙ c.in_ok-behind.ensures in
     record {
       grows = record {
-        fits = omega arith;
-        stored = stored _ _ _ is _ _ _ _ c.room.ensures.content staged (omega arith) c.in-Ok.ensures.stored;
-        exact = exact _ _ _ is _ _ _ _ c.room.ensures.content staged (omega arith) c.in-Ok.ensures.stored;
+        fits = c.in_ok-check.ensures.ok.1;
+        stored = stored _ _ _ is _ _ _ _ c.room.ensures.content staged (omega (arith, c.in_ok-check.ensures.ok.1)) c.in-Ok.ensures.stored;
+        exact = exact _ _ _ is _ _ _ _ c.room.ensures.content staged (omega (arith, c.in_ok-check.ensures.ok.1)) c.in-Ok.ensures.stored;
       };
       durable = c.in-Ok.ensures.durable;
       run = run_with_room g.D.Disk _ _ _ append_calls c.room.ensures.faults c.room.ensures.calls c.room.ensures.writes c.room.ensures.plan c.in-Ok.ensures.run;
@@ -47,14 +48,14 @@ pub returns-clause-failed : goal.returns-clause-failed
 returns-clause-failed g c =
     λ failed intact. record {
       run = fault_with_room g.D.Disk _ _ _ append_calls c.room.ensures.faults c.room.ensures.calls c.room.ensures.writes c.room.ensures.plan c.in-Err.ensures.failed;
-      left = left g.D.Disk.content g.D.Disk.images _ (c.requires.usable intact) _ _ _ _ _ _ c.room.ensures.plan c.room.ensures.content (c.deref.ensures.value ∙ c.in_ok-behind.ensures) (omega arith) c.in-Err.ensures.left;
+      left = left g.D.Disk.content g.D.Disk.images _ (c.requires.usable intact) _ _ _ _ _ _ c.room.ensures.plan c.room.ensures.content (c.deref.ensures.value ∙ c.in_ok-behind.ensures) (omega (arith, c.in_ok-check.ensures.ok.1)) c.in-Err.ensures.left;
     }
 
 pub returns-in-Ok-clause-after : goal.returns-in-Ok-clause-after
 returns-in-Ok-clause-after g c = record {
-  usable = λ intact. settled_again _ _ _ (c.requires.usable intact) _ _ _ _ c.room.ensures.content (c.deref.ensures.value ∙ c.in_ok-behind.ensures) (omega arith) c.in-Ok.ensures.stored
-      _ refl (omega (arith, c.in-Some.ensures)) c.in-Ok.ensures.durable;
-  breaks = c.if-self.false;
-  stays_broken = λ is. absurd (cc);
-  untouched = λ is. absurd (cc);
+  usable = λ intact. settled_again _ _ _ (c.requires.usable intact) _ _ _ _ c.room.ensures.content (c.deref.ensures.value ∙ c.in_ok-behind.ensures) (omega (arith, c.in_ok-check.ensures.ok.1)) c.in-Ok.ensures.stored
+      _ refl (omega (arith, c.in-Some.ensures, c.in_ok-check.ensures.ok.1)) c.in-Ok.ensures.durable;
+  breaks = c.in_ok-check.ensures.ok.0;
+  stays_broken = λ is. absurd (not_both _ is c.in_ok-check.ensures.ok.0);
+  untouched = λ is. absurd (not_both _ is c.in_ok-check.ensures.ok.0);
 }

@@ -3,7 +3,7 @@ use Rattle.std.specs.Map.{lookup}
 use Rattle.tran_ids.specs.Branch.{same}
 use Rattle.row_locks.specs.ByBranch.{numbers_at}
 use Rattle.row_locks.specs.Numbered.{is_number}
-use Rattle.row_locks.proofs.MapLaws.{Entry, found_as, numbers_there, updated_by, placed}
+use Rattle.row_locks.proofs.MapLaws.{Entry, numbers_there, updated_by, placed}
 use Rattle.row_locks.proofs.by_branch.ByBranch.keep.Goals as goal
 
 pub returns-in-Some : goal.returns-in-Some

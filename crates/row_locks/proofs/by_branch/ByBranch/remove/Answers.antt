@@ -1,8 +1,7 @@
 use Rattle.std.proofs.Common.{List, [], cond, None, unwrap_or, ap, ◌∙◌}
-use Rattle.std.specs.Map.{lookup}
 use Rattle.tran_ids.specs.Branch.{same}
 use Rattle.row_locks.specs.ByBranch.{numbers_at}
-use Rattle.row_locks.proofs.MapLaws.{Entry, found_as, numbers_are, updated}
+use Rattle.row_locks.proofs.MapLaws.{Entry, numbers_are, updated}
 use Rattle.row_locks.proofs.by_branch.ByBranch.remove.Goals as goal
 
 pub returns-clause-numbers : goal.returns-clause-numbers

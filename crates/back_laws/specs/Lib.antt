@@ -1,0 +1,4 @@
+pub mod Returns
+pub mod BackLaws
+pub mod Floors
+pub mod TriedBack

@@ -1,0 +1,7 @@
+pub mod ChainLemmas
+pub mod CommitLemmas
+pub mod KeptLemmas
+pub mod EntryLemmas
+pub mod StripLemmas
+pub mod SkipLemmas
+pub mod RowLemmas
