@@ -14,6 +14,7 @@ HIGHEST = (
     "answer_laws",
     "answer_once_laws",
     "back_laws",
+    "refusal_laws",
     "commit_answer_laws",
     "commit_course_laws",
     "settle_laws",

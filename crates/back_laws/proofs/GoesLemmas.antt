@@ -41,14 +41,14 @@ use Rattle.back_laws.proofs.StayLemmas.{tops}
 
 module _ (t : History) (whole : IsLawfulRun t) where
   -- what is told of roots, of runs and of savepoints is what their nodes keep
-  roots : AtEach (λ places f tr h. TracesRoots places f tr) t
+  pub roots : AtEach (λ places f tr h. TracesRoots places f tr) t
   roots = by_moment t (λ places f tr h. TracesRoots places f tr) (λ hs h rest is. (let part : Part t whole hs = part_of t whole hs h rest is in let now = tops t whole hs part in record {
     tops = now.tops;
     roots = seen_roots t whole hs part now;
     next = names_next t whole hs part now.counts now.ordered;
   }))
 
-  works : (hs : List Happening) → Part t whole hs → TracesWorks (f_at t hs) (tr_at t hs)
+  pub works : (hs : List Happening) → Part t whole hs → TracesWorks (f_at t hs) (tr_at t hs)
   works hs part = (owns_at t whole roots hs part).works
 
   module _ (hs : List Happening) (u : Turn) (rest : List Happening) (is : hs ++ happenings.Turn u ∷ rest ≡ t.trace) (session : ℕ) (name : List ℕ) (came : u.input ≡ inputs.Call session (Some (stmts.RollbackTo name)))

@@ -67,7 +67,7 @@ filter_with p (m ∷ ns) n passes = by (p m) (filter_with p ns n passes)
     by true rest = ap (λ zs. m ∷ zs) rest
     by false rest = rest
 
-filter_without : (p : Note → Bool) (ns : List Note) (n : Note) → p n ≡ false → filter p (ns ++ n ∷ []) ≡ filter p ns
+pub filter_without : (p : Note → Bool) (ns : List Note) (n : Note) → p n ≡ false → filter p (ns ++ n ∷ []) ≡ filter p ns
 filter_without p [] n not_it = ap (λ q. if q then n ∷ [] else []) not_it
 filter_without p (m ∷ ns) n not_it = by (p m) (filter_without p ns n not_it)
   where
@@ -96,7 +96,7 @@ kept_back : (m : Marks) (step top i : ℕ) → top ≤ step → kept_call (back_
 kept_back m step top i less = ap (λ ns. call_in (calls_in [] ns) i) (filter_twice (is_until top) (is_until step) (λ (n : Note) is. (let low = until_is n.step top is in is_up_to n.step step (omega (arith, low, less)))) m.notes)
 
 -- a call that is taken has a greater number
-admitted_later : (x : Branch) (call : ℕ) → admit x.work.came call ≡ admits.Run → x.work.came.last_call < call
+pub admitted_later : (x : Branch) (call : ℕ) → admit x.work.came call ≡ admits.Run → x.work.came.last_call < call
 unfolding admit
 admitted_later x call runs = by (nat_lt x.work.came.last_call call) refl ((call == x.work.came.last_call) && is_some x.work.came.reply) runs
   where

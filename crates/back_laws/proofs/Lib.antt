@@ -9,4 +9,11 @@ pub mod ReturnLemmas
 pub mod GoesLemmas
 pub mod FloorLemmas
 pub mod AboveLemmas
+pub mod FixedLemmas
+pub mod TreeLemmas
+pub mod HoldLemmas
+pub mod FixedRunLemmas
+pub mod TreeReturnLemmas
+pub mod RootFixedLemmas
+pub mod RootRunLemmas
 mod TriedBackLemmas

@@ -1,7 +1,7 @@
 -- The runs of a branch over time. A run has the step of the call in which it came, which is greater than those of all calls before; so
 -- what a branch has up to a step stays, unless it goes back to a lower one. A savepoint of a live root is of the turn that set it, and
 -- the runs up to its step are those of that turn. (SQL Language Reference: SAVEPOINT, ROLLBACK.)
-use Rattle.std.specs.Prelude.{◌≡◌, ◌≢◌, ℕ, ◌+◌, ◌<◌, ◌≤◌, false, List, filter, nat_le, length, slice_get, unwrap_or, [], Option, Some, None}
+use Rattle.std.specs.Prelude.{◌≡◌, ℕ, ◌+◌, ◌<◌, ◌≤◌, false, List, filter, nat_le, length, slice_get, unwrap_or, [], Option, Some, None}
 use Rattle.node_rules.specs.Data.{BranchId, Savepoint}
 use Rattle.node_rules.specs.Data.inputs
 use Rattle.node_rules.specs.Data.stmts
@@ -17,7 +17,7 @@ use Rattle.back_laws.specs.Returns.{LastSavepoint, HasAgain}
 use Rattle.tree_trail_laws.specs.ChildLaws.{trail_at}
 use Rattle.node_rules.specs.declared.work.Work.{Work}
 use Rattle.node_rules.specs.Words.{numbered}
-use Rattle.node_rules.specs.Marks.{kept_call}
+use Rattle.node_rules.specs.Marks.{kept_call, step_of}
 use Rattle.node_rules.specs.NodeState.{NodeState, Branch, branch_at}
 use Rattle.savepoints.specs.Marks.{calls_in}
 use Rattle.run_base_laws.specs.InTurnLaws.{NeedsNoRollback}
@@ -91,9 +91,9 @@ pub record NotesAreOfCalls (w : Work) : Type 0 where
 abbrev pub CallsAreNoted : Type 0
 CallsAreNoted = OfEachNode (λ p rs k. (b : BranchId) (x : Branch) → branch_at k b ≡ Some x → NotesAreOfCalls x.work)
 
--- In every lawful run a live branch below a root has noted its calls up to the last call that came to it.
+-- In every lawful run a live branch has noted its calls up to its step: the last call that came to it, or at a root the last call of its client.
 abbrev pub StepsAreTaken : Type 0
-StepsAreTaken = OfEachNode (λ p rs k. (b : BranchId) (x : Branch) → branch_at k b ≡ Some x → x.live.parent ≢ None → (i : ℕ) → kept_call x.work.marks x.work.came.last_call i ≡ call_in x.work.calls i)
+StepsAreTaken = OfEachNode (λ p rs k. (b : BranchId) (x : Branch) → branch_at k b ≡ Some x → (i : ℕ) → kept_call x.work.marks (step_of k.sessions x) i ≡ call_in x.work.calls i)
 
 -- In every lawful run, where a live branch waits for nothing, and is no root that can only roll back, each live child waits for nothing,
 -- and has taken the last call that its parent noted.

@@ -2,3 +2,4 @@ pub mod Returns
 pub mod BackLaws
 pub mod Floors
 pub mod TriedBack
+pub mod LiveTree

@@ -2,11 +2,13 @@
 //!
 //! `specs/Returns.antt` says what a session tree has after a ROLLBACK TO. Proved of every lawful run are its parts at one branch:
 //! what a branch had at a moment stays until it goes back to a lower step, a savepoint stands for the moment that set it, and the
-//! root that goes back to a savepoint has again what it had then.
+//! root that goes back to a savepoint has again what it had then. And a savepoint that stands is one of the whole live session tree
+//! (`specs/LiveTree.antt`): each branch of it has still what it had at the SAVEPOINT.
 #![tactic(auto)]
 
 ghost use Rattle.back_laws.specs.BackLaws.{BranchesReturn, CallsAreNoted, RestIsNoted, RollbacksGoBack, RunsStay, SavepointsStand, StepsAreTaken, RootsReturn};
 ghost use Rattle.back_laws.specs.Floors.{BranchesStayAbove, FloorsHold};
+ghost use Rattle.back_laws.specs.LiveTree.{ChildrenNoted, NotesHold, SavepointsHold, TreeBranchesReturn};
 ghost use Rattle.back_laws.specs.TriedBack.{TheTriedBack};
 
 /// The runs that a branch had at a moment are those that it has later up to the step of that moment, unless it went back to a
@@ -43,7 +45,8 @@ pub fn branches_return()
     ensures { BranchesReturn }
 {}
 
-/// What a branch below a root noted of its calls up to the last call that came to it are all the calls that it made.
+/// What a branch noted of its calls up to its step, that of the last call that came to it or at a root of its client's last call, are
+/// all the calls that it made.
 pub fn steps_are_taken()
     ensures { StepsAreTaken }
 {}
@@ -63,6 +66,29 @@ pub fn floors_hold()
 /// So no branch is taken back below its floor, and what it had up to there stays.
 pub fn branches_stay_above()
     ensures { BranchesStayAbove }
+{}
+
+/// A savepoint that stands is one of the whole session tree: each branch of it that was live at the SAVEPOINT, with all those on its
+/// way to the root, has still what it had then.
+pub fn savepoints_hold()
+    ensures { SavepointsHold }
+{}
+
+/// So a branch of this tree that goes back to the step that it had at the SAVEPOINT, while the savepoint stands, has changed, and
+/// holds, what it had changed and held then.
+pub fn tree_branches_return()
+    ensures { TreeBranchesReturn }
+{}
+
+/// And each branch of it has noted still what it had noted of its calls at the SAVEPOINT, and no more up to that step: so it calls
+/// each child to go back to the last call that was made to that child then.
+pub fn notes_hold()
+    ensures { NotesHold }
+{}
+
+/// At a SAVEPOINT each branch of the live tree had noted of each child in it the last call that the child took.
+pub fn children_noted()
+    ensures { ChildrenNoted }
 {}
 
 /// This is about something: in a run of two nodes both branches of a session tree have a row more when it goes back, and neither

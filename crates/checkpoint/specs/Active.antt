@@ -50,6 +50,11 @@ abbrev pub side_of : Bool → Side
 side_of true = Second
 side_of false = First
 
+-- whether this names the second log
+abbrev pub is_second : Side → Bool
+is_second First = false
+is_second Second = true
+
 -- the active log of two lists of which one is not empty
 abbrev pub active_side : Option ℕ → Option ℕ → Option Side
 active_side None None = None

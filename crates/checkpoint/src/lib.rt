@@ -8,10 +8,12 @@
 
 mod active;
 mod err;
+mod laws;
 mod two_logs;
 
 pub use active::{Side, active_of};
 pub use block_disk::Failed;
 pub use err::{PairErr, PairMakeErr};
+pub use laws::the_active_log_is_loaded;
 pub use redo_log::{LoadWhy, LogErr, MakeWhy};
 pub use two_logs::TwoLogs;

@@ -1,17 +1,18 @@
 //! The two logs, and how they change their places.
 ghost use Rattle.std.specs.Prelude.{◌≡◌, ◌<◌, ◌+◌, ◌^◌, ◌↔◌, not, unwrap_or, Some, [], ◌∷◌, length, IfOk, IfErr, OnOk, OnErr, IsErrOf, MatchResult};
-ghost use Rattle.block_disk.specs.Images.{AtEachMoment, IsOnly};
+ghost use Rattle.block_disk.specs.Images.{AddsNone, AtEachMoment, GoesOn, IsOnly};
+ghost use Rattle.block_disk.specs.Orders.{ordered};
 ghost use Rattle.redo_log.specs.Calls.{GrowsByBody, HoldsAsPlanned};
 ghost use Rattle.redo_log.specs.Cells.{body_limit, held};
 ghost use Rattle.redo_log.specs.Log.{disk_of, MayBeBegun, OnRefused};
 ghost use Rattle.redo_log.specs.Restart.{HasRestarted, LeavesOldOrNew};
 ghost use Rattle.redo_log.specs.Runs.{IsUntouched, HasGrown, LeavesByPlan, IsOnlyRead};
-ghost use Rattle.checkpoint.specs.Active.{stated_generation, generation_of, active_list, side_of, picked};
+ghost use Rattle.checkpoint.specs.Active.{stated_generation, generation_of, active_list, side_of, is_second, picked};
 ghost use Rattle.checkpoint.specs.Pair.{disk_at, active_disk, spare_disk, is_fault, IsWhole, IsReady, IsNewPair, MakePairFails, LoadsPair, LoadPairFails, LoadsWithOrWithout, LoadsOldOrNew, IsPairOf, IsEmptyPair, GoesOnAfter};
 
 use crate::active::{Side, generation, leads, named};
 use crate::{PairErr, PairMakeErr};
-use block_disk::Disk;
+use block_disk::{Armable, Disk, DiskFault};
 use redo_log::{Bodies, LoadErr, LoadWhy, Log, LogErr, MakeErr};
 use std::alloc::Global;
 
@@ -204,6 +205,31 @@ impl<D: Disk> TwoLogs<D> {
         ensures { result ≡ (disk_of self.first, disk_of self.second) }
     {
         (self.first.into_disk(), self.second.into_disk())
+    }
+}
+
+impl<D: Armable> TwoLogs<D> {
+    /// Gives the disk of one log an order to stop or to fail. The logs stay as they are, and so does the other disk.
+    pub fn arm(&mut self, side: Side, order: DiskFault)
+        ensures plan { D.plan (disk_at (is_second side) self.new) ≡ ordered (D.plan (disk_at (is_second side) self.old)) order }
+        ensures content { D.content (disk_at (is_second side) self.new) ≡ D.content (disk_at (is_second side) self.old) }
+        ensures images { AddsNone (D.images (disk_at (is_second side) self.old)) (D.images (disk_at (is_second side) self.new)) }
+        ensures all_images { AddsNone (D.images (disk_at (is_second side) self.new)) (D.images (disk_at (is_second side) self.old)) }
+        ensures moment { D.moment (disk_at (is_second side) self.new) ≡ D.moment (disk_at (is_second side) self.old) }
+        ensures time { GoesOn (D.moment (disk_at (is_second side) self.old)) (D.moment (disk_at (is_second side) self.new)) (D.images_since (disk_at (is_second side) self.old)) (D.images_since (disk_at (is_second side) self.new)) (D.images (disk_at (is_second side) self.new)) }
+        ensures spare { D.spare (disk_at (is_second side) self.new) ≡ D.spare (disk_at (is_second side) self.old) }
+        ensures faults { D.faults (disk_at (is_second side) self.new) ≡ D.faults (disk_at (is_second side) self.old) }
+        ensures calls { D.calls (disk_at (is_second side) self.new) ≡ D.calls (disk_at (is_second side) self.old) }
+        ensures writes { D.writes (disk_at (is_second side) self.new) ≡ D.writes (disk_at (is_second side) self.old) }
+        ensures other { disk_at (not (is_second side)) self.new ≡ disk_at (not (is_second side)) self.old }
+        ensures roles { self.new.second_is_active ≡ self.old.second_is_active }
+        ensures broken { self.new.broken ≡ self.old.broken }
+        ensures ready { IsReady D.content D.images self.old → IsReady D.content D.images self.new }
+    {
+        match side {
+            Side::First => self.first.arm(order),
+            Side::Second => self.second.arm(order),
+        }
     }
 }
 

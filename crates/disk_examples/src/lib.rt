@@ -12,6 +12,8 @@ mod durable;
 #[cfg(test)]
 mod fields;
 #[cfg(test)]
+mod images;
+#[cfg(test)]
 mod logs;
 #[cfg(test)]
 mod messages;

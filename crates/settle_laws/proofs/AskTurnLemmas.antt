@@ -31,7 +31,6 @@ use Rattle.run_rules.specs.Trail.{is_prepare}
 use Rattle.run_base_laws.specs.EventRows.{RowIs, IsKnown}
 use Rattle.run_base_laws.specs.RunEvents.{events_of}
 use Rattle.agreement.specs.Events.{Sealed, exit}
-use Rattle.tree_laws.proofs.HeardLemmas.{left_were_asked}
 use Rattle.run_rules.proofs.AtNodeLemmas.{turn_elsewhere}
 use Rattle.run_base_laws.proofs.BirthRunLemmas.{nodes_name_the_born}
 use Rattle.run_base_laws.proofs.EventsStandLemmas.{nodes_are_as_events}
@@ -45,6 +44,7 @@ use Rattle.commit_laws.proofs.ListLemmas.{IsIn}
 use Rattle.settle_laws.specs.OverLaws.{is_rollback}
 use Rattle.settle_laws.specs.Interval.{Flies, is_ask, is_point, is_decision, LivesAt, RowNamesAnother, Sought, Asks, Points, Is_told, In_doubt, Under_live, Watched, Asks_up, Is_rolled, Up_lives, Up_names, Unasked, Obliged}
 use Rattle.settle_laws.proofs.CalmTurn.{calm}
+use Rattle.settle_laws.proofs.UndecidedLemmas.{asked_above}
 use Rattle.settle_laws.proofs.FlyLemmas.{in_map}
 use Rattle.settle_laws.proofs.RecoTurnLemmas.{unasked_on}
 
@@ -300,13 +300,6 @@ module _ (t : History) (s_lawful : IsLawfulRun t) (u : Turn) (k : NodeState) whe
     sought_asked s born me toward x dx (Dropped l at is) =
         Is_told (subst (Flies is_decision g m.to) (sym me) (told_flies is_decision kinds.RolledBack (subst (λ (z : TurnDraft). IsIn (post_one m.to kinds.RolledBack m.from) z.says) (sym (dx ∙ is)) (inl refl)) refl))
 
-    -- its parent asked a branch that is sealed
-    asked_above : (s : KeptRow) → KeptIs B s → (n : ℕ) → exit (events_of t) s.me ≡ Some (Sealed n) → (q : BranchId) → s.parent ≡ Some q → was_asked (said_in f) q s.me ≡ true
-    asked_above s born n sealed q parent =
-        let heard = left_were_asked t s_lawful s.me (Sealed n) sealed (λ no_drop. absurd cc) in
-        let it : heard.0 ≡ born.born = same_born heard.0 born.born heard.1 born.began (heard.2 ∙ sym born.is_me) in
-        heard.3 q (ap (λ (x : Born). x.parent) it ∙ (born.is_parent ∙ parent))
-
     pub sought_on : (s : KeptRow) → KeptIs B s → (n : ℕ) → exit (events_of t) s.me ≡ Some (Sealed n) → (e : BranchId) → s.toward ≡ Some e → Sought f s e → Sought g s e
     sought_on s born n sealed e toward (Asks fly) = elim (flown is_ask s.me e fly) [
       | inl on ↦ Asks on
@@ -318,7 +311,7 @@ module _ (t : History) (s_lawful : IsLawfulRun t) (u : Turn) (k : NodeState) whe
     sought_on s born n sealed e toward (Under_live l parent) = elim (lives_on e l) [
       | inl on ↦ Under_live on parent
       | inr gone ↦ Is_told (subst (λ b. Flies is_decision g b s.me) (sym gone.2)
-          (child_told is_decision refl gone.0 gone.1 gone.3 s.me (subst (λ b. was_asked (said_in f) b s.me ≡ true) gone.2 (asked_above s born n sealed e parent))))
+          (child_told is_decision refl gone.0 gone.1 gone.3 s.me (subst (λ b. was_asked (said_in f) b s.me ≡ true) gone.2 (asked_above t s_lawful s born n sealed e parent))))
     ]
 
     -- ---- all of them

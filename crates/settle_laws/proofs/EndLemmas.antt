@@ -1,12 +1,10 @@
 -- Where it is so of all nodes, nothing flies any more, and each live root works, nothing is in doubt.
-use Rattle.std.proofs.Common.{◌≡◌, ◌≢◌, ℕ, zero, suc, ◌+◌, ◌<◌, ◌≤◌, Bool, true, false, List, [], ◌∷◌, Option, Some, None, inl, inr, refl, sym, ap, subst, ◌∙◌, arith, append-nil}
+use Rattle.std.proofs.Common.{◌≡◌, ◌≢◌, ℕ, zero, suc, ◌+◌, ◌<◌, ◌≤◌, Bool, true, false, List, [], Option, Some, None, inl, inr, refl, sym, ap, subst, ◌∙◌, arith, append-nil}
 use Rattle.std.specs.List.{AllByRecursion}
 use Rattle.tran_ids.proofs.ListedLemmas.{item_is}
-use Rattle.agreement.specs.Events.{Forest, Event, Sealed, Send_rollback, Learn, exit, learned, Has, Knows, Lawful, site_of}
-use Rattle.agreement.proofs.EventLemmas.{learn_by, learned_new}
-use Rattle.agreement.proofs.Invariant.{Inv, allowed_at}
-use Rattle.node_rules.specs.Data.{BranchId, Decision, Kind, Live, KeptRow}
-use Rattle.node_rules.specs.Data.decisions
+use Rattle.agreement.specs.Events.{Sealed, exit}
+use Rattle.agreement.proofs.Invariant.{Inv}
+use Rattle.node_rules.specs.Data.{BranchId, Kind, Live, KeptRow}
 use Rattle.node_rules.specs.Data.phases
 use Rattle.node_rules.specs.NodeState.{NodeState, branch_at, live_at, live_id, kept_row_at, kept_row_id, with_work, work_at}
 use Rattle.run_rules.specs.Births.{Born, born_at, births_of}
@@ -22,29 +20,19 @@ use Rattle.run_base_laws.proofs.EventsStandLemmas.{nodes_are_as_events}
 use Rattle.run_branch_laws.proofs.FreezeRunLemmas.{asked_stand_still}
 use Rattle.run_base_laws.proofs.OwnLemmas.{all_found}
 use Rattle.tree_laws.proofs.ForestRunLemmas.{runs_have_forests}
-use Rattle.tree_laws.proofs.HeardLemmas.{left_were_asked}
 use Rattle.tree_laws.proofs.TimeLemmas.{Part}
 use Rattle.commit_laws.proofs.NetLemmas.{numbered_all}
-use Rattle.tree_laws.proofs.MoreLemmas.{inv_at, lawful_at}
-use Rattle.commit_forget_laws.proofs.EventLemmas.{learn_knows}
+use Rattle.tree_laws.proofs.MoreLemmas.{inv_at}
 use Rattle.tree_laws.proofs.FitRowLemmas.{RowFits, rows_fit}
 use Rattle.settle_laws.specs.RowLaws.{RowHolds, NamesSo}
 use Rattle.settle_laws.specs.Interval.{Flies, LivesAt, RowNamesAnother, Sought, Asks, Points, Is_told, In_doubt, Under_live, Watched, Asks_up, Is_rolled, Up_lives, Up_names, Unasked, Obliged}
 use Rattle.settle_laws.specs.EndLaws.{NothingFlies, EachRootWorks, NothingInDoubt, ObligedAreSettled}
 use Rattle.settle_laws.proofs.RowLemmas.{rows_hold, names_so}
-use Rattle.settle_laws.proofs.OverLemmas.{rollers_left}
+use Rattle.settle_laws.proofs.UndecidedLemmas.{undecided_row, asked_above}
 use Rattle.commit_forget_laws.proofs.FoundRowLemmas.{lives_found}
 use Rattle.commit_forget_laws.proofs.FoundRowLemmas.{rows_found}
 use Rattle.run_rules.proofs.ListLemmas.{all_weaker}
 use Rattle.tree_laws.proofs.AtPart.{at_end}
-
--- who learned a rollback was told it by the neighbour that is toward
-pub learn_rolled : (p : Forest) (t : List Event) → Lawful p t → (b : BranchId) → learned t b ≡ Some decisions.Rollback → Has (Send_rollback (p.toward b) b) t
-learn_rolled p [] lawful b is = absurd cc
-learn_rolled p (s ∷ t) lawful b is = elim (learned_new s t b decisions.Rollback is) [
-  | inl old ↦ inr (learn_rolled p t lawful.1 b old)
-  | inr new ↦ (let by = learn_by s b decisions.Rollback new.1 in inr (allowed_at p s (Learn b decisions.Rollback by.0) t by.1 lawful.0).2)
-]
 
 module _ (t : History) (whole : IsLawfulRun t) (now : Obliged (λ n. Unit {0}) (facts_at t)) (still : NothingFlies (facts_at t)) (work : EachRootWorks (facts_at t)) where
   open at_end t use {f, e, forest as p}
@@ -97,31 +85,6 @@ module _ (t : History) (whole : IsLawfulRun t) (now : Obliged (λ n. Unit {0}) (
         by None root = absurd (not_working (all_found (λ (x : Live). x.parent ≡ None → x.phase ≡ phases.Working) live_id k.lives l.me l (work n k up) found root))
         by (Some q) parent = (q, parent, rules.1 not_working q parent)
 
-  -- a row that names a live branch as toward does not know its decision
-  undecided_row : (n : ℕ) (k : NodeState) (up : node_at f n ≡ Some k) (s : KeptRow) → kept_row_at k s.me ≡ Some s → (z : BranchId) → s.toward ≡ Some z → exit e z ≡ None → s.decision ≡ None
-  undecided_row n k up s row z toward live = by s.decision refl (all_found (RowIs e) kept_row_id k.stored.durable.kept s.me s (nodes_are_as_events t whole n k up).1 row).known
-    where
-      way : RowFits p s.me s.toward
-      way = all_found (λ (y : KeptRow). RowFits p y.me y.toward) kept_row_id k.stored.durable.kept s.me s (rows_fit t whole t.trace part n k up) row
-
-      its : (p.toward s.me ≡ z) × (s.me ≢ site_of p s.me)
-      its = elim way [
-        | inl on ↦ (let both : Some (p.toward s.me) ≡ Some z = sym on.0 ∙ toward in let it : p.toward s.me ≡ z = cc in (it, on.2))
-        | inr site ↦ (let none = site.0 in absurd (cc (none, toward)))
-      ]
-
-      knows_not : {m : ℕ} → Knows e z m → ⊥
-      knows_not (inl decided) = absurd (cc (live, decided))
-      knows_not {m = m} (inr learnt) = (let sealed = (i.learned_sealed z (decisions.Commit m) learnt).1 in absurd (cc (live, sealed)))
-
-      by : (o : Option Decision) → s.decision ≡ o → IsKnown e s o → s.decision ≡ None
-      by None is known = is
-      by (Some (decisions.Commit m)) is (inl decided) = absurd (its.1 (i.decided_at s.me m decided))
-      by (Some (decisions.Commit m)) is (inr learnt) = absurd (knows_not (subst (λ b. Knows e b m) its.0 (learn_knows p e (lawful_at t whole t.trace part) s.me m learnt)))
-      by (Some decisions.Rollback) is known =
-          let teller = rollers_left t whole (p.toward s.me) s.me (learn_rolled p e (lawful_at t whole t.trace part) s.me known) in
-          let left : exit e z ≡ Some teller.0 = subst (λ b. exit e b ≡ Some teller.0) its.0 teller.1 in absurd (cc (live, left))
-
   -- no live branch was asked, where none was that is less deep
   one_unasked : (n : ℕ) (k : NodeState) → node_at f n ≡ Some k → (l : Live) → live_at k l.me ≡ Some l → (q : BranchId) → l.parent ≡ Some q → was_asked (said_in f) q l.me ≡ true
       → ((v : LivesAt f q) → v.live.depth + 1 ≡ l.depth → live_at v.node v.live.me ≡ Some v.live → (c : BranchId) → v.live.parent ≡ Some c → was_asked (said_in f) c v.live.me ≡ true → ⊥) → ⊥
@@ -151,7 +114,7 @@ module _ (t : History) (whole : IsLawfulRun t) (now : Obliged (λ n. Unit {0}) (
             | inl sealed ↦ (let left = sealed.1 in let live = unleft n k up l found in absurd (cc (live, left)))
             | inr on ↦ sought r row me on
                 (all_found (λ (y : KeptRow). y.decision ≡ None → (c : BranchId) → y.toward ≡ Some c → Sought f y c) kept_row_id r.node.stored.durable.kept q r.row (now.rows q.node tt r.node r.up) r.found
-                (undecided_row q.node r.node r.up r.row row l.me on (unleft n k up l found)) l.me on)
+                (undecided_row t whole q.node r.node r.up r.row row l.me on (unleft n k up l found)) l.me on)
           ]
         where
           sought : (r : RowNamesAnother f q l.me) → kept_row_at r.node r.row.me ≡ Some r.row → r.row.me ≡ q → r.row.toward ≡ Some l.me → Sought f r.row l.me → ⊥
@@ -188,12 +151,6 @@ module _ (t : History) (whole : IsLawfulRun t) (now : Obliged (λ n. Unit {0}) (
 
   -- ---- an undecided row
 
-  asked_above : (s : KeptRow) → KeptIs B s → (n : ℕ) → exit e s.me ≡ Some (Sealed n) → (q : BranchId) → s.parent ≡ Some q → was_asked (said_in f) q s.me ≡ true
-  asked_above s its n sealed q parent =
-      let heard = left_were_asked t whole s.me (Sealed n) sealed (λ no_drop. absurd cc) in
-      let at : heard.0 ≡ its.born = same_born heard.0 its.born heard.1 its.began (heard.2 ∙ sym its.is_me) in
-      heard.3 q (ap (λ (x : Born). x.parent) at ∙ (its.is_parent ∙ parent))
-
   -- no row is undecided, where none is that is nearer to the site
   one_decided : (n : ℕ) (k : NodeState) → node_at f n ≡ Some k → (s : KeptRow) → kept_row_at k s.me ≡ Some s → s.decision ≡ None
       → ((c : BranchId) (r : RowNamesAnother f c s.me) → r.row.decision ≡ None → p.far c < p.far s.me → ⊥) → ⊥
@@ -216,7 +173,7 @@ module _ (t : History) (whole : IsLawfulRun t) (now : Obliged (λ n. Unit {0}) (
       sought c near (Under_live v parent) =
           let me : v.live.me ≡ c = item_is live_id v.node.lives c v.live v.found in
           let live : live_at v.node v.live.me ≡ Some v.live = subst (λ b. live_at v.node b ≡ Some v.live) (sym me) v.found in
-          let above = asker c.node v.node v.up v.live live s.me (subst (λ b. was_asked (said_in f) b s.me ≡ true) (sym me) (asked_above s its s.scn sealed c parent)) in
+          let above = asker c.node v.node v.up v.live live s.me (subst (λ b. was_asked (said_in f) b s.me ≡ true) (sym me) (asked_above t whole s its s.scn sealed c parent)) in
           unasked v.live.depth c.node v.node v.up v.live live (omega arith) above.0 above.1 above.2
 
       by : (o : Option BranchId) → s.toward ≡ o → RowFits p s.me s.toward → ⊥

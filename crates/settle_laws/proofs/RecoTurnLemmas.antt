@@ -74,13 +74,13 @@ module _ (places : List Place) (asked : List Command) (f : Facts) (even : length
   unfolding turn_of recovery
   after_is = ap (λ i. (turn_of p k i).after) reco
 
-  here : node_at g u.node ≡ Some k
-  here = (turn_here places asked f even u k may.up).0 ∙ (ap (λ c. kept_after c (Some (turn_of p k u.input))) uncut ∙ ap Some after_is)
+  pub reco_here : node_at g u.node ≡ Some k
+  reco_here = (turn_here places asked f even u k may.up).0 ∙ (ap (λ c. kept_after c (Some (turn_of p k u.input))) uncut ∙ ap Some after_is)
 
   -- each node keeps what it kept
   pub nodes_same : (n : ℕ) → node_at g n ≡ node_at f n
   nodes_same n = elim (cases_nat u.node n) [
-    | inl at ↦ subst (λ i. node_at g i ≡ node_at f i) at (here ∙ sym may.up)
+    | inl at ↦ subst (λ i. node_at g i ≡ node_at f i) at (reco_here ∙ sym may.up)
     | inr other ↦ (turn_elsewhere places asked f even u n other).0
   ]
 
@@ -91,7 +91,7 @@ module _ (places : List Place) (asked : List Command) (f : Facts) (even : length
       by None comes = refl
       by (Some y) comes = absurd comes
 
-  flies_on : (test : Kind → Bool) (from to : BranchId) → Flies test f from to → Flies test g from to
+  pub flies_on : (test : Kind → Bool) (from to : BranchId) → Flies test f from to → Flies test g from to
   flies_on = flies_untaken places asked f u none untaken
 
   said_now : said_in g ≡ said_in f ++ says
@@ -127,11 +127,11 @@ module _ (places : List Place) (asked : List Command) (f : Facts) (even : length
   abbrev all_askings : List Asking
   all_askings = map asks_live k.lives ++ map asks_kept k.stored.durable.kept
 
-  asking_flies : (a : Asking) (x : Post) → IsIn a all_askings → IsIn x a.says → is_ask x.kind ≡ true → Flies is_ask g x.from x.to
-  asking_flies a x at its is =
+  pub asking_flies : (test : Kind → Bool) (a : Asking) (x : Post) → IsIn a all_askings → IsIn x a.says → test x.kind ≡ true → Flies test g x.from x.to
+  asking_flies test a x at its is =
       let said : IsIn x says = in_flat (λ (y : Asking). y.says) a x (askings k) (in_sorted asking_id a all_askings [] (inr at)) its in
       let sent : IsIn (stamped k.clock x) u.sent = subst (IsIn (stamped k.clock x)) (sym sent_is) (in_map (stamped k.clock) x says said) in
-      sent_flies places asked f u none is_ask (stamped k.clock x) sent is
+      sent_flies places asked f u none test (stamped k.clock x) sent is
 
   one_in : (from : BranchId) (kind : Kind) (o : Option BranchId) (to : BranchId) → o ≡ Some to → IsIn (post_one from kind to) (to_one from kind o)
   one_in from kind None to is = absurd cc
@@ -139,12 +139,12 @@ module _ (places : List Place) (asked : List Command) (f : Facts) (even : length
 
   row_asks : (y : KeptRow) → IsIn y k.stored.durable.kept → y.decision ≡ None → (e : BranchId) → y.toward ≡ Some e → Sought g y e
   row_asks y at undecided e toward =
-      Asks (asking_flies (asks_kept y) (post_one y.me kinds.Ask e) (in_behind (asks_kept y) (map asks_live k.lives) (map asks_kept k.stored.durable.kept) (in_map asks_kept y k.stored.durable.kept at))
+      Asks (asking_flies is_ask (asks_kept y) (post_one y.me kinds.Ask e) (in_behind (asks_kept y) (map asks_live k.lives) (map asks_kept k.stored.durable.kept) (in_map asks_kept y k.stored.durable.kept at))
       (subst (λ (d : Option Decision). IsIn (post_one y.me kinds.Ask e) (recovers y d)) (sym undecided) (one_in y.me kinds.Ask y.toward e toward)) refl)
 
   live_asks : (l : Live) → IsIn l k.lives → (q : BranchId) → l.parent ≡ Some q → Watched g l.me q
   live_asks l at q parent =
-      Asks_up (asking_flies (asks_live l) (post_one l.me kinds.Ask q) (in_before (asks_live l) (map asks_live k.lives) (map asks_kept k.stored.durable.kept) (in_map asks_live l k.lives at))
+      Asks_up (asking_flies is_ask (asks_live l) (post_one l.me kinds.Ask q) (in_before (asks_live l) (map asks_live k.lives) (map asks_kept k.stored.durable.kept) (in_map asks_live l k.lives at))
       (one_in l.me kinds.Ask l.parent q parent) refl)
 
   module _ (R : ℕ → Type 0) (now : Obliged R f) where
@@ -164,7 +164,7 @@ module _ (places : List Place) (asked : List Command) (f : Facts) (even : length
     }
       where
         its : (n : ℕ) → u.node ≡ n → (j : NodeState) → node_at g n ≡ Some j → k ≡ j
-        its n at j up = (let both : Some k ≡ Some j = sym here ∙ subst (λ i. node_at g i ≡ Some j) (sym at) up in cc)
+        its n at j up = (let both : Some k ≡ Some j = sym reco_here ∙ subst (λ i. node_at g i ≡ Some j) (sym at) up in cc)
 
 -- before any node of the stretch recovered there is nothing to show
 pub first_obliged : (f : Facts) → Obliged (λ n. ⊥) f

@@ -29,7 +29,6 @@ use Rattle.run_rules.specs.Trail.{is_prepare}
 use Rattle.run_base_laws.specs.EventRows.{RowIs, IsKnown}
 use Rattle.run_base_laws.specs.RunEvents.{events_of}
 use Rattle.agreement.specs.Events.{Sealed, exit}
-use Rattle.tree_laws.proofs.HeardLemmas.{left_were_asked}
 use Rattle.run_rules.proofs.AtNodeLemmas.{turn_elsewhere}
 use Rattle.run_base_laws.proofs.BirthRunLemmas.{nodes_name_the_born}
 use Rattle.run_base_laws.proofs.EventsStandLemmas.{nodes_are_as_events}
@@ -41,6 +40,7 @@ use Rattle.commit_laws.proofs.ListLemmas.{IsIn}
 use Rattle.settle_laws.specs.OverLaws.{is_rollback}
 use Rattle.settle_laws.specs.Interval.{Flies, is_ask, is_point, is_decision, LivesAt, RowNamesAnother, Sought, Asks, Points, Is_told, In_doubt, Under_live, Watched, Asks_up, Is_rolled, Up_lives, Up_names, Unasked, Obliged}
 use Rattle.settle_laws.proofs.CalmTurn.{calm}
+use Rattle.settle_laws.proofs.UndecidedLemmas.{asked_above}
 use Rattle.settle_laws.proofs.FlyLemmas.{in_map}
 use Rattle.settle_laws.proofs.RecoTurnLemmas.{unasked_on}
 use Rattle.settle_laws.proofs.AskTurnLemmas.{asked_child}
@@ -394,12 +394,6 @@ module _ (t : History) (s_lawful : IsLawfulRun t) (u : Turn) (k : NodeState) whe
     same_born : (x z : Born) → B x → B z → x.me ≡ z.me → x ≡ z
     same_born x z one other me = (let both : Some x ≡ Some z = sym one ∙ (ap (born_at (births_of t)) me ∙ other) in cc)
 
-    asked_above : (s : KeptRow) → KeptIs B s → (n : ℕ) → exit (events_of t) s.me ≡ Some (Sealed n) → (q : BranchId) → s.parent ≡ Some q → was_asked (said_in f) q s.me ≡ true
-    asked_above s born n sealed q parent =
-        let heard = left_were_asked t s_lawful s.me (Sealed n) sealed (λ no_drop. absurd cc) in
-        let at : heard.0 ≡ born.born = same_born heard.0 born.born heard.1 born.began (heard.2 ∙ sym born.is_me) in
-        heard.3 q (ap (λ (x : Born). x.parent) at ∙ (born.is_parent ∙ parent))
-
     abbrev forest : Forest
     forest = forest_of t
 
@@ -428,7 +422,7 @@ module _ (t : History) (s_lawful : IsLawfulRun t) (u : Turn) (k : NodeState) whe
     sought_on s born way n sealed e toward not_told (Under_live l parent) = elim (lives_on e l) [
       | inl on ↦ Under_live on parent
       | inr gone ↦ Is_told (subst (λ b. Flies is_decision g b s.me) (sym gone.2)
-          (child_told is_decision refl gone.0 gone.1 gone.3 s.me (subst (λ b. was_asked (said_in f) b s.me ≡ true) gone.2 (asked_above s born n sealed e parent))))
+          (child_told is_decision refl gone.0 gone.1 gone.3 s.me (subst (λ b. was_asked (said_in f) b s.me ≡ true) gone.2 (asked_above t s_lawful s born n sealed e parent))))
     ]
 
     -- ---- all of them

@@ -1,15 +1,17 @@
 -- Where it is so of all nodes, nothing flies any more, and each live root works, nothing is in doubt.
-use Rattle.std.specs.Prelude.{◌≡◌, ◌≢◌, ℕ, false, Some, None}
+use Rattle.std.specs.Prelude.{◌≡◌, ◌≢◌, ℕ, false, List, ◌++◌, Some, None}
 use Rattle.std.specs.List.{AllByRecursion}
 use Rattle.node_rules.specs.Data.{BranchId}
 use Rattle.node_rules.specs.Data.phases
 use Rattle.node_rules.specs.NodeState.{NodeState}
 use Rattle.run_rules.specs.Data.fates
-use Rattle.run_rules.specs.Facts.{Facts, node_at}
+use Rattle.run_rules.specs.Data.{Happening, Turn}
+use Rattle.run_rules.specs.Facts.{Facts, first_facts, facts_of, node_at}
 use Rattle.run_base_laws.specs.FreezeLaws.{was_asked}
 use Rattle.run_base_laws.specs.InTurnLaws.{said_in}
-use Rattle.run_rules.specs.Lawful.{History, IsLawfulRun, facts_at}
-use Rattle.settle_laws.specs.Interval.{Obliged}
+use Rattle.run_rules.specs.Lawful.{MayTurn, History, IsLawfulRun, facts_at}
+use Rattle.settle_laws.specs.Interval.{IsCalm, CalmStretch, Obliged}
+use Rattle.settle_laws.specs.ObligeLaws.{after_turn}
 
 -- nothing flies
 abbrev pub NothingFlies : Facts → Type 0
@@ -27,3 +29,11 @@ NothingInDoubt f = (n : ℕ) (k : NodeState) → node_at f n ≡ Some k
 -- After a lawful run at whose end it is so.
 abbrev pub ObligedAreSettled : Type 0
 ObligedAreSettled = (t : History) → IsLawfulRun t → Obliged (λ n. Unit {0}) (facts_at t) → NothingFlies (facts_at t) → EachRootWorks (facts_at t) → NothingInDoubt (facts_at t)
+
+-- After a calm turn each live root works, where each did before.
+abbrev pub RootsGoOnWorking : Type 0
+RootsGoOnWorking = (t : History) → IsLawfulRun t → (u : Turn) (k : NodeState) → MayTurn t.places (facts_at t) u k → IsCalm (facts_at t) u → EachRootWorks (facts_at t) → EachRootWorks (after_turn t u)
+
+-- So it is at the end of a calm stretch, where it is so at its beginning.
+abbrev pub RootsWorkThrough : Type 0
+RootsWorkThrough = (t : History) → IsLawfulRun t → (hs mid : List Happening) → CalmStretch t hs mid → EachRootWorks (facts_of t.places t.commands (first_facts t.places) hs) → EachRootWorks (facts_of t.places t.commands (first_facts t.places) (hs ++ mid))

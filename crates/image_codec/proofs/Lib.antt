@@ -1,0 +1,2 @@
+pub mod ByLaws
+pub mod ImageLaws

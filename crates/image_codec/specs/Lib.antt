@@ -1,0 +1,5 @@
+pub mod By
+pub mod Kept
+pub mod Order
+pub mod Image
+pub mod Length

@@ -1,0 +1,5 @@
+pub mod StayLemmas
+pub mod BetweenLemmas
+pub mod ReaderLemmas
+pub mod BranchLemmas
+pub mod TriedReadsLemmas
