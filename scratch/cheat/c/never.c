@@ -1,0 +1,1 @@
+void dtx_never(void){}
