@@ -29,6 +29,7 @@ use Rattle.commit_answer_laws.specs.CauseLaws.{CausesEndCommits}
 use Rattle.commit_answer_laws.specs.CommitLines.{CommitsAnswerTruly}
 use Rattle.commit_obey_laws.specs.ObeyLaws.{EveryDecisionIsObeyed}
 use Rattle.node_purge_laws.specs.LeftOutLaws.{EveryPurgeChangesNothing}
+use Rattle.repeat_read_laws.specs.RepeatLaws.{EveryReaderReadsTheSame}
 use Rattle.run_undo_laws.specs.UndoRuns.{EveryRunKeepsUndo}
 use Rattle.start_laws.specs.StartLaws.{EveryStartRestores}
 use Rattle.view_laws.specs.ReportedViews.{ViewsAreReported}
@@ -53,7 +54,7 @@ empty_report : IsReported (history_of nothing_done no_script) [] All_run
 unfolding past due_of
 empty_report = (refl, tt)
 
-module _ (lawful : TheRunIsLawful) (once : EveryCommandIsAnsweredOnce) (views : ViewsAreOfBranches) (reported : ViewsAreReported) (starts : EveryStartRestores) (undoes : EveryRunKeepsUndo) (knows : EveryTurnKnows) (meant : EveryRunIsMeant) (comes : EveryAnswerHasItsPlace) (tells : DoneIsReported) (ended : PendingCallsEnd) (caused : CausesEndCommits) (commits : CommitsAnswerTruly) (completes : QuietCommitsAreComplete) (obeys : EveryDecisionIsObeyed) (purged : EveryPurgeChangesNothing) (sites : EverySiteDecides) (covers : EveryDecisionCovers) (agrees : EveryBookAgrees) (marked : EveryMixedIsMarked) (later : EveryScnIsLater) where
+module _ (lawful : TheRunIsLawful) (once : EveryCommandIsAnsweredOnce) (views : ViewsAreOfBranches) (reported : ViewsAreReported) (starts : EveryStartRestores) (undoes : EveryRunKeepsUndo) (knows : EveryTurnKnows) (meant : EveryRunIsMeant) (reads : EveryReaderReadsTheSame) (comes : EveryAnswerHasItsPlace) (tells : DoneIsReported) (ended : PendingCallsEnd) (caused : CausesEndCommits) (commits : CommitsAnswerTruly) (completes : QuietCommitsAreComplete) (obeys : EveryDecisionIsObeyed) (purged : EveryPurgeChangesNothing) (sites : EverySiteDecides) (covers : EveryDecisionCovers) (agrees : EveryBookAgrees) (marked : EveryMixedIsMarked) (later : EveryScnIsLater) where
   -- by the laws, of what is due and told
   by_laws : (run : Run) (ending : Ending) (script : AreOfAScript (places_of run.commands) run.commands)
       → IsTheRun (places_of run.commands) run.commands (start (places_of run.commands)) run.trace → run.book ≡ book_of run.trace
@@ -73,6 +74,7 @@ module _ (lawful : TheRunIsLawful) (once : EveryCommandIsAnsweredOnce) (views : 
         undo = undoes t may;
         knows = knows t may;
         meant = meant t may;
+        reads = reads t may;
         come = comes t due;
         done = tells t due;
         ends = (ended t due, caused t may);
@@ -120,6 +122,7 @@ stands_too run is = record {
   undo = is.undo;
   knows = is.knows;
   meant = is.meant;
+  reads = is.reads;
   come = is.come;
   done = is.done;
   ends = is.ends;

@@ -17,6 +17,7 @@ use Rattle.commit_answer_laws.specs.CauseLaws.{CauseEnds}
 use Rattle.commit_answer_laws.specs.CommitLines.{CommitAnswersAreTrue}
 use Rattle.commit_obey_laws.specs.ObeyLaws.{Obedience}
 use Rattle.node_purge_laws.specs.LeftOutLaws.{PurgesChangeNothing}
+use Rattle.repeat_read_laws.specs.RepeatLaws.{ReaderReadsTheSame}
 use Rattle.run_undo_laws.specs.UndoRuns.{UndoIsKept}
 use Rattle.start_laws.specs.StartLaws.{StartsRestore}
 use Rattle.view_laws.specs.ReportedViews.{ViewsAreAmong}
@@ -39,11 +40,12 @@ history_of run script = record { places = places_of run.commands; commands = run
 -- doubt are locked, and no others; its catalog and kept rows are those of its records; and nobody is live there. A node keeps the
 -- rows from before its branches' changes within its undo extents, and a start needs no more of them than the node used before.
 -- Each record of a turn, and each Exec, Abort, ReadOnly and Committed, has its cause in what came to its branch and what
--- happened before. Where a node runs a query, it answers the query's meaning over the rows that the book leaves there, with the
--- changes of the asking branch, and examines no key in doubt; a change counts the rows that it means: of the runs of READ ONLY
--- transactions this is not said. What a client is answered is what a run answered, at the table to which the names in its
--- statement lead. What a client is told is created, set, forced or purged is on the disk, and such a record is written for no
--- other call.
+-- happened before. Where a node runs a query, it answers the query's meaning over the rows that the book leaves there, with
+-- the changes of the asking branch, and examines no key in doubt; a change counts the rows that it means. A query of a READ
+-- ONLY transaction answers its meaning over the rows up to its SCN; these stay while its branch lives, at each key that was
+-- not in doubt, unless a branch of that node is forced to commit at an SCN up to it. What a client is answered is what a run
+-- answered, at the table to which the names in its statement lead. What a client is told is created, set, forced or purged is
+-- on the disk, and such a record is written for no other call.
 -- A call is pending from the turn in which it comes until the first thing that can end it: for a statement the Reply to what its
 -- root sent down last, or its being given up, and so for a ROLLBACK TO once all children have gone back; for a COMMIT what its
 -- answer says; for each the stop of its node.
@@ -71,6 +73,7 @@ pub record IsRun (run : Run) (ending : Ending) : Type 0 where
   pub undo : UndoIsKept (history_of run script)
   pub knows : Knowledge (history_of run script)
   pub meant : RunsAreMeant (history_of run script)
+  pub reads : ReaderReadsTheSame (history_of run script)
   pub come : AnswersHavePlaces (history_of run script)
   pub done : ReportsWhatIsDone (history_of run script)
   pub ends : CallsEndFirst (history_of run script) × AtEach CauseEnds (history_of run script)

@@ -13,6 +13,7 @@ ghost use Rattle.commit_obey_laws.specs.ObeyLaws.{EveryDecisionIsObeyed};
 ghost use Rattle.node_purge_laws.specs.LeftOutLaws.{EveryPurgeChangesNothing};
 ghost use Rattle.view_laws.specs.ReportedViews.{ViewsAreReported};
 ghost use Rattle.view_laws.specs.ViewLaws.{ViewsAreOfBranches};
+ghost use Rattle.repeat_read_laws.specs.RepeatLaws.{EveryReaderReadsTheSame};
 ghost use Rattle.run_undo_laws.specs.UndoRuns.{EveryRunKeepsUndo};
 ghost use Rattle.start_laws.specs.StartLaws.{EveryStartRestores};
 ghost use Rattle.answer_once_laws.specs.OnceLaws.{EveryCommandIsAnsweredOnce};
@@ -30,6 +31,7 @@ use commit_course_laws::quiet_commits_are_complete;
 use commit_obey_laws::every_decision_is_obeyed;
 use dtx_values::Listing;
 use node_purge_laws::every_purge_changes_nothing;
+use repeat_read_laws::every_reader_reads_the_same;
 use run_cause_laws::every_turn_knows;
 use run_ready_laws::the_run_is_lawful;
 use run_trace::RunRecord;
@@ -102,6 +104,7 @@ fn laws_of_runs()
     ensures undoes { EveryRunKeepsUndo }
     ensures knows { EveryTurnKnows }
     ensures meant { EveryRunIsMeant }
+    ensures reads { EveryReaderReadsTheSame }
     ensures comes { EveryAnswerHasItsPlace }
     ensures tells { DoneIsReported }
     ensures ended { PendingCallsEnd }
@@ -124,6 +127,7 @@ fn laws_of_runs()
     every_run_keeps_undo();
     every_turn_knows();
     every_run_is_meant();
+    every_reader_reads_the_same();
     every_answer_has_its_place();
     done_is_reported();
     pending_calls_end();
